@@ -1,0 +1,21 @@
+//! The types of path expressions, and what they mean.
+//!
+//! The types here are plain. Beside them stand all definitions of the subject: what a history, a word, a burst and
+//! the behaviour of a path are, what a journal owes to an attempt, and how semaphores keep the meaning of paths
+//! (Campbell and Habermann, 1974). The laws of [`theorems`] say that the semaphores admit exactly what the words allow.
+#![tactic(auto)]
+
+pub mod history;
+pub mod ids;
+pub mod journal;
+pub mod memory;
+pub mod resource;
+pub mod theorems;
+pub mod tree;
+
+pub use history::Event;
+pub use ids::{ActId, OpId, PathId, ResId};
+pub use journal::{Activation, Attempt, Line, Reply, Verb};
+pub use memory::OutOfMemory;
+pub use resource::Law;
+pub use tree::Expr;

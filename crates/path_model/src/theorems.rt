@@ -1,0 +1,89 @@
+//! The laws of the subject. Each function does nothing: what it ensures is the law, and the contracts above cite it.
+
+ghost use Rattle.path_model.specs.OnePath.{EachPathAdmitsItsWords};
+ghost use Rattle.path_model.specs.AmongOthers.{EachPathGuards};
+ghost use Rattle.path_model.specs.BurstCounts.{EachLabellingCounts, CountersTellOpenBraces};
+ghost use Rattle.path_model.specs.Bounds.{EachValueIsBounded};
+ghost use Rattle.path_model.specs.AllPaths.{AllPathsJudge, ProjectionsKeepProgress, EachEventMoves, FirstIsOne, StartsOnlyBlock, EachBlockStays, FinishesUnblock};
+ghost use Rattle.path_model.specs.Trimmed.{EachPathTrims, TrimmingKeepsAnswers, TrimmedAdmitsTheWords};
+ghost use Rattle.path_model.specs.Flat.{OneTableShowsAll};
+
+/// After every history of a path's behaviour the semaphores let an operation begin or end exactly where the behaviour does.
+pub fn each_path_admits_its_words()
+    ensures { EachPathAdmitsItsWords }
+{}
+
+/// While braces are open, the values count the labels of each labelling.
+pub fn each_labelling_counts()
+    ensures { EachLabellingCounts }
+{}
+
+/// The counter of braces is above 0 exactly while they are open.
+pub fn counters_tell_open_braces()
+    ensures { CountersTellOpenBraces }
+{}
+
+/// What holds of a path alone holds of it among others.
+pub fn each_path_guards()
+    ensures { EachPathGuards }
+{}
+
+/// No semaphore passes the number of starts by more than one, and no counter passes it.
+pub fn each_value_is_bounded()
+    ensures { EachValueIsBounded }
+{}
+
+/// The semaphores of all paths judge starts and finishes as the words of all paths do.
+pub fn all_paths_judge()
+    ensures { AllPathsJudge }
+{}
+
+/// A path sees as much in progress of what it names as there is.
+pub fn projections_keep_progress()
+    ensures { ProjectionsKeepProgress }
+{}
+
+/// The values of all paths move event by event.
+pub fn each_event_moves()
+    ensures { EachEventMoves }
+{}
+
+/// There is one first blocking path, or none.
+pub fn first_is_one()
+    ensures { FirstIsOne }
+{}
+
+/// What is blocked stays so through admitted starts; the path that is named may become an earlier one.
+pub fn starts_only_block()
+    ensures { StartsOnlyBlock }
+{}
+
+/// Each path that forbade a start still does after an admitted start.
+pub fn each_block_stays()
+    ensures { EachBlockStays }
+{}
+
+/// Between a blocked start of an operation and the next admitted one something finishes.
+pub fn finishes_unblock()
+    ensures { FinishesUnblock }
+{}
+
+/// What is trimmed from a path answers nothing.
+pub fn each_path_trims()
+    ensures { EachPathTrims }
+{}
+
+/// The trimmed paths block as all paths do, and name the same path.
+pub fn trimming_keeps_answers()
+    ensures { TrimmingKeepsAnswers }
+{}
+
+/// The trimmed semaphores admit exactly what the words of all paths allow.
+pub fn trimmed_admits_the_words()
+    ensures { TrimmedAdmitsTheWords }
+{}
+
+/// One table, with numbers that count through the paths, holds the values of each path.
+pub fn one_table_shows_all()
+    ensures { OneTableShowsAll }
+{}

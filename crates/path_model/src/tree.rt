@@ -1,0 +1,17 @@
+//! The tree of a path expression.
+
+use crate::ids::OpId;
+use std::alloc::{Allocator, Global};
+
+/// A path expression (Campbell and Habermann, 1974). Parentheses leave no trace in it.
+#[derive(Drop)]
+pub enum Expr<A: Allocator + Copy = Global> {
+    /// One execution of the operation.
+    Op(OpId),
+    /// `S ; T`: first the one, then the other.
+    Seq(Box<Expr<A>, A>, Box<Expr<A>, A>),
+    /// `S , T`: one of the two.
+    Alt(Box<Expr<A>, A>, Box<Expr<A>, A>),
+    /// `{ S }`: executions that overlap, as many as are asked for.
+    Burst(Box<Expr<A>, A>),
+}
