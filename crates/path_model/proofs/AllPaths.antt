@@ -1,4 +1,4 @@
--- All paths together.
+-- The semaphores of all paths judge starts and finishes as their words do; starts only block, and finishes unblock.
 use Rattle.std.proofs.Common.{◌≡◌, ◌⊎◌, ◌==◌, if◌then◌else◌, ◌<◌, ◌≤◌, ◌+◌, ℕ, List, [], ◌∷◌, ◌++◌, ◌↔◌, Bool, true, false, refl, sym, ap, ◌∙◌, subst, inl, inr, arith}
 use Rattle.std.proofs.lemmas.List.{append-nil, append_assoc}
 use Rattle.std.proofs.lemmas.Bool.{ne_eqb, cond-false, cases_Bool, cases_lt}

@@ -1,4 +1,4 @@
--- How large values become.
+-- No semaphore passes the number of starts by more than one, and no counter passes it.
 use Rattle.std.proofs.Common.{◌≡◌, ◌==◌, ◌<◌, ◌≤◌, ◌+◌, ◌-◌, ℕ, List, [], ◌∷◌, ◌++◌, refl, sym, ap, subst, inl, inr, arith}
 use Rattle.std.proofs.lemmas.Bool.{eqb-true, eq-eqb, ne_eqb, cond-true, cond-false, cond_both}
 use Rattle.path_model.specs.declared.ids.OpId.{OpId}

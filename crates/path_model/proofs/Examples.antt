@@ -1,6 +1,7 @@
--- Worked examples: readers and a writer, a crossing burst, and a burst before another operation.
+-- Worked examples: a slot, readers and writers, crossing labels, a burst before another operation; with bounds; and two paths.
 use Rattle.std.proofs.Common.{◌≡◌, ◌⊎◌, ◌<◌, ℕ, List, [], ◌∷◌, refl, ap, inl, inr, arith}
 use Rattle.path_model.specs.declared.ids.OpId.{OpId}
+use Rattle.path_model.specs.declared.history.Event.{Event}
 use Rattle.path_model.specs.declared.history.Event.TheVariants.{Began, Ended}
 use Rattle.path_model.specs.Trees.{any, most, Tree, op, seq, alt, burst}
 use Rattle.path_model.specs.Behaviour.{Behaves}
@@ -11,8 +12,15 @@ use Rattle.path_model.specs.AllPaths.{after, Blocks}
 use Rattle.path_model.specs.Trimmed.{kept, lean_after, LeanBlocks, lean_prologue, nothing, limits, does}
 use Rattle.path_model.proofs.OnePath.{each_path_admits_its_words}
 
-abbrev o : ℕ → OpId
+-- an operation by its number, and its events
+abbrev pub o : ℕ → OpId
 o n = record { 0 = n }
+
+abbrev pub began : ℕ → Event
+began n = Began (o n)
+
+abbrev pub ended : ℕ → Event
+ended n = Ended (o n)
 
 pub behaves_nil : (s : Tree) → Behaves s []
 behaves_nil s = ([], ([], refl))
@@ -24,176 +32,213 @@ neither : (0 < 0) ⊎ (0 < 0) → ⊥
 neither (inl l) = omega (arith, l)
 neither (inr l) = omega (arith, l)
 
--- path { 0 } , 1 end
-abbrev book : Tree
-book = alt (burst any (op (o 0))) (op (o 1))
+-- path 0 ; 1 end: a slot, with deposit and remove in turn
+abbrev pub slot : Tree
+slot = seq (op (o 0)) (op (o 1))
 
-book_laws : AdmitsItsWords book
-book_laws = each_path_admits_its_words book (record { names_once = (tt, tt, differ); not_nested = ((tt, tt), tt) })
+slot_laws : AdmitsItsWords slot
+slot_laws = each_path_admits_its_words slot (record { names_once = (tt, tt, differ); not_nested = (tt, tt) })
 
-pub book_0 : Behaves book (Began (o 0) ∷ [])
-book_0 = (book_laws.starts ([]) (o 0) (behaves_nil book) (inl refl)).0 (inr (omega arith))
+slot_terms : (prologue slot (o 0) ≡ Plain 0) × (epilogue slot (o 0) ≡ Plain 1) × (prologue slot (o 1) ≡ Plain 1) × (epilogue slot (o 1) ≡ Plain 0)
+slot_terms = (refl, refl, refl, refl)
 
-pub book_1 : Behaves book (Began (o 0) ∷ Began (o 0) ∷ [])
-book_1 = (book_laws.starts (Began (o 0) ∷ []) (o 0) book_0 (inl refl)).0 (inl (omega arith))
+-- nothing is removed before a deposit
+slot_remove_waits : Behaves slot (began 1 ∷ []) → ⊥
+slot_remove_waits h = let l : 0 < 0 = (slot_laws.starts ([]) (o 1) (behaves_nil slot) (inr refl)).1 h in omega (arith, l)
 
-book_2 : Behaves book (Began (o 0) ∷ Began (o 0) ∷ Began (o 1) ∷ []) → ⊥
-book_2 h = let l : 0 < 0 = (book_laws.starts (Began (o 0) ∷ Began (o 0) ∷ []) (o 1) book_1 (inr refl)).1 h in omega (arith, l)
+pub slot_deposit : Behaves slot (began 0 ∷ [])
+slot_deposit = (slot_laws.starts ([]) (o 0) (behaves_nil slot) (inl refl)).0 (omega arith)
 
-pub book_3 : Behaves book (Began (o 0) ∷ Began (o 0) ∷ Ended (o 0) ∷ [])
-book_3 = (book_laws.finishes (Began (o 0) ∷ Began (o 0) ∷ []) (o 0) book_1 (inl refl)).0 (omega arith)
+-- nor during it
+pub slot_remove_still_waits : Behaves slot (began 0 ∷ began 1 ∷ []) → ⊥
+slot_remove_still_waits h = let l : 0 < 0 = (slot_laws.starts (began 0 ∷ []) (o 1) slot_deposit (inr refl)).1 h in omega (arith, l)
 
-book_4 : Behaves book (Began (o 0) ∷ Began (o 0) ∷ Ended (o 0) ∷ Began (o 1) ∷ []) → ⊥
-book_4 h = let l : 0 < 0 = (book_laws.starts (Began (o 0) ∷ Began (o 0) ∷ Ended (o 0) ∷ []) (o 1) book_3 (inr refl)).1 h in omega (arith, l)
+pub slot_deposited : Behaves slot (began 0 ∷ ended 0 ∷ [])
+slot_deposited = (slot_laws.finishes (began 0 ∷ []) (o 0) slot_deposit (inl refl)).0 (omega arith)
 
-pub book_5 : Behaves book (Began (o 0) ∷ Began (o 0) ∷ Ended (o 0) ∷ Ended (o 0) ∷ [])
-book_5 = (book_laws.finishes (Began (o 0) ∷ Began (o 0) ∷ Ended (o 0) ∷ []) (o 0) book_3 (inl refl)).0 (omega arith)
+-- and nothing is deposited again before it is removed
+slot_deposit_waits : Behaves slot (began 0 ∷ ended 0 ∷ began 0 ∷ []) → ⊥
+slot_deposit_waits h = let l : 0 < 0 = (slot_laws.starts (began 0 ∷ ended 0 ∷ []) (o 0) slot_deposited (inl refl)).1 h in omega (arith, l)
 
-pub book_6 : Behaves book (Began (o 0) ∷ Began (o 0) ∷ Ended (o 0) ∷ Ended (o 0) ∷ Began (o 1) ∷ [])
-book_6 = (book_laws.starts (Began (o 0) ∷ Began (o 0) ∷ Ended (o 0) ∷ Ended (o 0) ∷ []) (o 1) book_5 (inr refl)).0 (omega arith)
+pub slot_remove : Behaves slot (began 0 ∷ ended 0 ∷ began 1 ∷ [])
+slot_remove = (slot_laws.starts (began 0 ∷ ended 0 ∷ []) (o 1) slot_deposited (inr refl)).0 (omega arith)
 
-book_7 : Behaves book (Began (o 0) ∷ Began (o 0) ∷ Ended (o 0) ∷ Ended (o 0) ∷ Began (o 1) ∷ Began (o 0) ∷ []) → ⊥
-book_7 h = neither ((book_laws.starts (Began (o 0) ∷ Began (o 0) ∷ Ended (o 0) ∷ Ended (o 0) ∷ Began (o 1) ∷ []) (o 0) book_6 (inl refl)).1 h)
+pub slot_removed : Behaves slot (began 0 ∷ ended 0 ∷ began 1 ∷ ended 1 ∷ [])
+slot_removed = (slot_laws.finishes (began 0 ∷ ended 0 ∷ began 1 ∷ []) (o 1) slot_remove (inr refl)).0 (omega arith)
 
--- path { 0 ; 1 } end
-abbrev cross : Tree
-cross = burst any (seq (op (o 0)) (op (o 1)))
+pub slot_deposit_again : Behaves slot (began 0 ∷ ended 0 ∷ began 1 ∷ ended 1 ∷ began 0 ∷ [])
+slot_deposit_again = (slot_laws.starts (began 0 ∷ ended 0 ∷ began 1 ∷ ended 1 ∷ []) (o 0) slot_removed (inl refl)).0 (omega arith)
 
-cross_laws : AdmitsItsWords cross
-cross_laws = each_path_admits_its_words cross (record { names_once = (tt, tt, differ); not_nested = ((tt, tt), tt) })
+-- path { 0 } , 1 end: many read, or one writes
+abbrev readers_and_writers : Tree
+readers_and_writers = alt (burst any (op (o 0))) (op (o 1))
 
-pub cross_0 : Behaves cross (Began (o 0) ∷ [])
-cross_0 = (cross_laws.starts ([]) (o 0) (behaves_nil cross) (inl refl)).0 (inr (omega arith))
+readers_and_writers_laws : AdmitsItsWords readers_and_writers
+readers_and_writers_laws = each_path_admits_its_words readers_and_writers (record { names_once = (tt, tt, differ); not_nested = ((tt, tt), tt) })
 
-pub cross_1 : Behaves cross (Began (o 0) ∷ Ended (o 0) ∷ [])
-cross_1 = (cross_laws.finishes (Began (o 0) ∷ []) (o 0) cross_0 (inl refl)).0 (omega arith)
+pub readers_and_writers_first_reader : Behaves readers_and_writers (began 0 ∷ [])
+readers_and_writers_first_reader = (readers_and_writers_laws.starts ([]) (o 0) (behaves_nil readers_and_writers) (inl refl)).0 (inr (omega arith))
 
-pub cross_2 : Behaves cross (Began (o 0) ∷ Ended (o 0) ∷ Began (o 0) ∷ [])
-cross_2 = (cross_laws.starts (Began (o 0) ∷ Ended (o 0) ∷ []) (o 0) cross_1 (inl refl)).0 (inl (omega arith))
+pub readers_and_writers_second_reader : Behaves readers_and_writers (began 0 ∷ began 0 ∷ [])
+readers_and_writers_second_reader = (readers_and_writers_laws.starts (began 0 ∷ []) (o 0) readers_and_writers_first_reader (inl refl)).0 (inl (omega arith))
 
-pub cross_3 : Behaves cross (Began (o 0) ∷ Ended (o 0) ∷ Began (o 0) ∷ Began (o 1) ∷ [])
-cross_3 = (cross_laws.starts (Began (o 0) ∷ Ended (o 0) ∷ Began (o 0) ∷ []) (o 1) cross_2 (inr refl)).0 (omega arith)
+readers_and_writers_writer_waits : Behaves readers_and_writers (began 0 ∷ began 0 ∷ began 1 ∷ []) → ⊥
+readers_and_writers_writer_waits h = let l : 0 < 0 = (readers_and_writers_laws.starts (began 0 ∷ began 0 ∷ []) (o 1) readers_and_writers_second_reader (inr refl)).1 h in omega (arith, l)
 
-cross_4 : Behaves cross (Began (o 0) ∷ Ended (o 0) ∷ Began (o 0) ∷ Began (o 1) ∷ Began (o 1) ∷ []) → ⊥
-cross_4 h = let l : 0 < 0 = (cross_laws.starts (Began (o 0) ∷ Ended (o 0) ∷ Began (o 0) ∷ Began (o 1) ∷ []) (o 1) cross_3 (inr refl)).1 h in omega (arith, l)
+pub readers_and_writers_one_reader_left : Behaves readers_and_writers (began 0 ∷ began 0 ∷ ended 0 ∷ [])
+readers_and_writers_one_reader_left = (readers_and_writers_laws.finishes (began 0 ∷ began 0 ∷ []) (o 0) readers_and_writers_second_reader (inl refl)).0 (omega arith)
 
-pub cross_5 : Behaves cross (Began (o 0) ∷ Ended (o 0) ∷ Began (o 0) ∷ Began (o 1) ∷ Ended (o 0) ∷ [])
-cross_5 = (cross_laws.finishes (Began (o 0) ∷ Ended (o 0) ∷ Began (o 0) ∷ Began (o 1) ∷ []) (o 0) cross_3 (inl refl)).0 (omega arith)
+readers_and_writers_writer_still_waits : Behaves readers_and_writers (began 0 ∷ began 0 ∷ ended 0 ∷ began 1 ∷ []) → ⊥
+readers_and_writers_writer_still_waits h = let l : 0 < 0 = (readers_and_writers_laws.starts (began 0 ∷ began 0 ∷ ended 0 ∷ []) (o 1) readers_and_writers_one_reader_left (inr refl)).1 h in omega (arith, l)
 
-pub cross_6 : Behaves cross (Began (o 0) ∷ Ended (o 0) ∷ Began (o 0) ∷ Began (o 1) ∷ Ended (o 0) ∷ Began (o 1) ∷ [])
-cross_6 = (cross_laws.starts (Began (o 0) ∷ Ended (o 0) ∷ Began (o 0) ∷ Began (o 1) ∷ Ended (o 0) ∷ []) (o 1) cross_5 (inr refl)).0 (omega arith)
+pub readers_and_writers_no_reader_left : Behaves readers_and_writers (began 0 ∷ began 0 ∷ ended 0 ∷ ended 0 ∷ [])
+readers_and_writers_no_reader_left = (readers_and_writers_laws.finishes (began 0 ∷ began 0 ∷ ended 0 ∷ []) (o 0) readers_and_writers_one_reader_left (inl refl)).0 (omega arith)
 
--- path { 0 } ; 1 end
-abbrev before : Tree
-before = seq (burst any (op (o 0))) (op (o 1))
+pub readers_and_writers_writer : Behaves readers_and_writers (began 0 ∷ began 0 ∷ ended 0 ∷ ended 0 ∷ began 1 ∷ [])
+readers_and_writers_writer = (readers_and_writers_laws.starts (began 0 ∷ began 0 ∷ ended 0 ∷ ended 0 ∷ []) (o 1) readers_and_writers_no_reader_left (inr refl)).0 (omega arith)
 
-before_laws : AdmitsItsWords before
-before_laws = each_path_admits_its_words before (record { names_once = (tt, tt, differ); not_nested = ((tt, tt), tt) })
+readers_and_writers_reader_waits : Behaves readers_and_writers (began 0 ∷ began 0 ∷ ended 0 ∷ ended 0 ∷ began 1 ∷ began 0 ∷ []) → ⊥
+readers_and_writers_reader_waits h = neither ((readers_and_writers_laws.starts (began 0 ∷ began 0 ∷ ended 0 ∷ ended 0 ∷ began 1 ∷ []) (o 0) readers_and_writers_writer (inl refl)).1 h)
 
-pub before_0 : Behaves before (Began (o 0) ∷ [])
-before_0 = (before_laws.starts ([]) (o 0) (behaves_nil before) (inl refl)).0 (inr (omega arith))
+-- path { 0 ; 1 } end: an end of 1 may belong to either of two executions that are underway
+abbrev crossing_labels : Tree
+crossing_labels = burst any (seq (op (o 0)) (op (o 1)))
 
-pub before_1 : Behaves before (Began (o 0) ∷ Began (o 0) ∷ [])
-before_1 = (before_laws.starts (Began (o 0) ∷ []) (o 0) before_0 (inl refl)).0 (inl (omega arith))
+crossing_labels_laws : AdmitsItsWords crossing_labels
+crossing_labels_laws = each_path_admits_its_words crossing_labels (record { names_once = (tt, tt, differ); not_nested = ((tt, tt), tt) })
 
-pub before_2 : Behaves before (Began (o 0) ∷ Began (o 0) ∷ Ended (o 0) ∷ [])
-before_2 = (before_laws.finishes (Began (o 0) ∷ Began (o 0) ∷ []) (o 0) before_1 (inl refl)).0 (omega arith)
+pub crossing_labels_first_a : Behaves crossing_labels (began 0 ∷ [])
+crossing_labels_first_a = (crossing_labels_laws.starts ([]) (o 0) (behaves_nil crossing_labels) (inl refl)).0 (inr (omega arith))
 
-pub before_3 : Behaves before (Began (o 0) ∷ Began (o 0) ∷ Ended (o 0) ∷ Ended (o 0) ∷ [])
-before_3 = (before_laws.finishes (Began (o 0) ∷ Began (o 0) ∷ Ended (o 0) ∷ []) (o 0) before_2 (inl refl)).0 (omega arith)
+pub crossing_labels_first_a_over : Behaves crossing_labels (began 0 ∷ ended 0 ∷ [])
+crossing_labels_first_a_over = (crossing_labels_laws.finishes (began 0 ∷ []) (o 0) crossing_labels_first_a (inl refl)).0 (omega arith)
 
-before_4 : Behaves before (Began (o 0) ∷ Began (o 0) ∷ Ended (o 0) ∷ Ended (o 0) ∷ Began (o 0) ∷ []) → ⊥
-before_4 h = neither ((before_laws.starts (Began (o 0) ∷ Began (o 0) ∷ Ended (o 0) ∷ Ended (o 0) ∷ []) (o 0) before_3 (inl refl)).1 h)
+pub crossing_labels_second_a : Behaves crossing_labels (began 0 ∷ ended 0 ∷ began 0 ∷ [])
+crossing_labels_second_a = (crossing_labels_laws.starts (began 0 ∷ ended 0 ∷ []) (o 0) crossing_labels_first_a_over (inl refl)).0 (inl (omega arith))
 
-pub before_5 : Behaves before (Began (o 0) ∷ Began (o 0) ∷ Ended (o 0) ∷ Ended (o 0) ∷ Began (o 1) ∷ [])
-before_5 = (before_laws.starts (Began (o 0) ∷ Began (o 0) ∷ Ended (o 0) ∷ Ended (o 0) ∷ []) (o 1) before_3 (inr refl)).0 (omega arith)
+pub crossing_labels_first_b : Behaves crossing_labels (began 0 ∷ ended 0 ∷ began 0 ∷ began 1 ∷ [])
+crossing_labels_first_b = (crossing_labels_laws.starts (began 0 ∷ ended 0 ∷ began 0 ∷ []) (o 1) crossing_labels_second_a (inr refl)).0 (omega arith)
 
-pub before_6 : Behaves before (Began (o 0) ∷ Began (o 0) ∷ Ended (o 0) ∷ Ended (o 0) ∷ Began (o 1) ∷ Ended (o 1) ∷ [])
-before_6 = (before_laws.finishes (Began (o 0) ∷ Began (o 0) ∷ Ended (o 0) ∷ Ended (o 0) ∷ Began (o 1) ∷ []) (o 1) before_5 (inr refl)).0 (omega arith)
+crossing_labels_second_b_waits : Behaves crossing_labels (began 0 ∷ ended 0 ∷ began 0 ∷ began 1 ∷ began 1 ∷ []) → ⊥
+crossing_labels_second_b_waits h = let l : 0 < 0 = (crossing_labels_laws.starts (began 0 ∷ ended 0 ∷ began 0 ∷ began 1 ∷ []) (o 1) crossing_labels_first_b (inr refl)).1 h in omega (arith, l)
 
-pub before_7 : Behaves before (Began (o 0) ∷ Began (o 0) ∷ Ended (o 0) ∷ Ended (o 0) ∷ Began (o 1) ∷ Ended (o 1) ∷ Began (o 0) ∷ [])
-before_7 = (before_laws.starts (Began (o 0) ∷ Began (o 0) ∷ Ended (o 0) ∷ Ended (o 0) ∷ Began (o 1) ∷ Ended (o 1) ∷ []) (o 0) before_6 (inl refl)).0 (inr (omega arith))
+pub crossing_labels_second_a_over : Behaves crossing_labels (began 0 ∷ ended 0 ∷ began 0 ∷ began 1 ∷ ended 0 ∷ [])
+crossing_labels_second_a_over = (crossing_labels_laws.finishes (began 0 ∷ ended 0 ∷ began 0 ∷ began 1 ∷ []) (o 0) crossing_labels_first_b (inl refl)).0 (omega arith)
+
+pub crossing_labels_second_b : Behaves crossing_labels (began 0 ∷ ended 0 ∷ began 0 ∷ began 1 ∷ ended 0 ∷ began 1 ∷ [])
+crossing_labels_second_b = (crossing_labels_laws.starts (began 0 ∷ ended 0 ∷ began 0 ∷ began 1 ∷ ended 0 ∷ []) (o 1) crossing_labels_second_a_over (inr refl)).0 (omega arith)
+
+-- path { 0 } ; 1 end: once the burst of 0 is over, 0 begins again only behind 1
+abbrev burst_then_b : Tree
+burst_then_b = seq (burst any (op (o 0))) (op (o 1))
+
+burst_then_b_laws : AdmitsItsWords burst_then_b
+burst_then_b_laws = each_path_admits_its_words burst_then_b (record { names_once = (tt, tt, differ); not_nested = ((tt, tt), tt) })
+
+pub burst_then_b_first_a : Behaves burst_then_b (began 0 ∷ [])
+burst_then_b_first_a = (burst_then_b_laws.starts ([]) (o 0) (behaves_nil burst_then_b) (inl refl)).0 (inr (omega arith))
+
+pub burst_then_b_second_a : Behaves burst_then_b (began 0 ∷ began 0 ∷ [])
+burst_then_b_second_a = (burst_then_b_laws.starts (began 0 ∷ []) (o 0) burst_then_b_first_a (inl refl)).0 (inl (omega arith))
+
+pub burst_then_b_one_a_left : Behaves burst_then_b (began 0 ∷ began 0 ∷ ended 0 ∷ [])
+burst_then_b_one_a_left = (burst_then_b_laws.finishes (began 0 ∷ began 0 ∷ []) (o 0) burst_then_b_second_a (inl refl)).0 (omega arith)
+
+pub burst_then_b_burst_over : Behaves burst_then_b (began 0 ∷ began 0 ∷ ended 0 ∷ ended 0 ∷ [])
+burst_then_b_burst_over = (burst_then_b_laws.finishes (began 0 ∷ began 0 ∷ ended 0 ∷ []) (o 0) burst_then_b_one_a_left (inl refl)).0 (omega arith)
+
+burst_then_b_burst_stays_over : Behaves burst_then_b (began 0 ∷ began 0 ∷ ended 0 ∷ ended 0 ∷ began 0 ∷ []) → ⊥
+burst_then_b_burst_stays_over h = neither ((burst_then_b_laws.starts (began 0 ∷ began 0 ∷ ended 0 ∷ ended 0 ∷ []) (o 0) burst_then_b_burst_over (inl refl)).1 h)
+
+pub burst_then_b_b : Behaves burst_then_b (began 0 ∷ began 0 ∷ ended 0 ∷ ended 0 ∷ began 1 ∷ [])
+burst_then_b_b = (burst_then_b_laws.starts (began 0 ∷ began 0 ∷ ended 0 ∷ ended 0 ∷ []) (o 1) burst_then_b_burst_over (inr refl)).0 (omega arith)
+
+pub burst_then_b_b_over : Behaves burst_then_b (began 0 ∷ began 0 ∷ ended 0 ∷ ended 0 ∷ began 1 ∷ ended 1 ∷ [])
+burst_then_b_b_over = (burst_then_b_laws.finishes (began 0 ∷ began 0 ∷ ended 0 ∷ ended 0 ∷ began 1 ∷ []) (o 1) burst_then_b_b (inr refl)).0 (omega arith)
+
+pub burst_then_b_a_again : Behaves burst_then_b (began 0 ∷ began 0 ∷ ended 0 ∷ ended 0 ∷ began 1 ∷ ended 1 ∷ began 0 ∷ [])
+burst_then_b_a_again = (burst_then_b_laws.starts (began 0 ∷ began 0 ∷ ended 0 ∷ ended 0 ∷ began 1 ∷ ended 1 ∷ []) (o 0) burst_then_b_b_over (inl refl)).0 (inr (omega arith))
 
 -- the terms of these paths
-cross_terms : (prologue cross (o 0) ≡ Braced 0 0) × (epilogue cross (o 0) ≡ Plain 1) × (prologue cross (o 1) ≡ Plain 1) × (epilogue cross (o 1) ≡ Braced 0 0)
-cross_terms = (refl, refl, refl, refl)
+crossing_labels_terms : (prologue crossing_labels (o 0) ≡ Braced 0 0) × (epilogue crossing_labels (o 0) ≡ Plain 1) × (prologue crossing_labels (o 1) ≡ Plain 1) × (epilogue crossing_labels (o 1) ≡ Braced 0 0)
+crossing_labels_terms = (refl, refl, refl, refl)
 
-before_terms : (prologue before (o 0) ≡ Braced 0 0) × (epilogue before (o 0) ≡ Braced 0 1) × (prologue before (o 1) ≡ Plain 1) × (epilogue before (o 1) ≡ Plain 0)
-before_terms = (refl, refl, refl, refl)
+burst_then_b_terms : (prologue burst_then_b (o 0) ≡ Braced 0 0) × (epilogue burst_then_b (o 0) ≡ Braced 0 1) × (prologue burst_then_b (o 1) ≡ Plain 1) × (epilogue burst_then_b (o 1) ≡ Plain 0)
+burst_then_b_terms = (refl, refl, refl, refl)
 
-book_terms : (prologue book (o 0) ≡ Braced 0 0) × (epilogue book (o 0) ≡ Braced 0 0) × (prologue book (o 1) ≡ Plain 0) × (epilogue book (o 1) ≡ Plain 0)
-book_terms = (refl, refl, refl, refl)
+readers_and_writers_terms : (prologue readers_and_writers (o 0) ≡ Braced 0 0) × (epilogue readers_and_writers (o 0) ≡ Braced 0 0) × (prologue readers_and_writers (o 1) ≡ Plain 0) × (epilogue readers_and_writers (o 1) ≡ Plain 0)
+readers_and_writers_terms = (refl, refl, refl, refl)
 
--- path { 0 : 2 } , 1 end
-abbrev pool : Tree
-pool = alt (burst (most 2) (op (o 0))) (op (o 1))
+-- path { 0 : 2 } , 1 end: the same with two readers at most
+abbrev two_readers_at_most : Tree
+two_readers_at_most = alt (burst (most 2) (op (o 0))) (op (o 1))
 
-pool_laws : AdmitsItsWords pool
-pool_laws = each_path_admits_its_words pool (record { names_once = (tt, tt, differ); not_nested = ((tt, omega arith), tt) })
+two_readers_at_most_laws : AdmitsItsWords two_readers_at_most
+two_readers_at_most_laws = each_path_admits_its_words two_readers_at_most (record { names_once = (tt, tt, differ); not_nested = ((tt, omega arith), tt) })
 
-pub pool_0 : Behaves pool (Began (o 0) ∷ [])
-pool_0 = (pool_laws.starts ([]) (o 0) (behaves_nil pool) (inl refl)).0 (inr (omega arith), omega arith)
+pub two_readers_at_most_first_reader : Behaves two_readers_at_most (began 0 ∷ [])
+two_readers_at_most_first_reader = (two_readers_at_most_laws.starts ([]) (o 0) (behaves_nil two_readers_at_most) (inl refl)).0 (inr (omega arith), omega arith)
 
-pub pool_1 : Behaves pool (Began (o 0) ∷ Began (o 0) ∷ [])
-pool_1 = (pool_laws.starts (Began (o 0) ∷ []) (o 0) pool_0 (inl refl)).0 (inl (omega arith), omega arith)
+pub two_readers_at_most_second_reader : Behaves two_readers_at_most (began 0 ∷ began 0 ∷ [])
+two_readers_at_most_second_reader = (two_readers_at_most_laws.starts (began 0 ∷ []) (o 0) two_readers_at_most_first_reader (inl refl)).0 (inl (omega arith), omega arith)
 
-pool_2 : Behaves pool (Began (o 0) ∷ Began (o 0) ∷ Began (o 0) ∷ []) → ⊥
-pool_2 h = let p = (pool_laws.starts (Began (o 0) ∷ Began (o 0) ∷ []) (o 0) pool_1 (inl refl)).1 h in let l : 0 < 0 = p.1 in omega (arith, l)
+two_readers_at_most_third_reader_waits : Behaves two_readers_at_most (began 0 ∷ began 0 ∷ began 0 ∷ []) → ⊥
+two_readers_at_most_third_reader_waits h = let p = (two_readers_at_most_laws.starts (began 0 ∷ began 0 ∷ []) (o 0) two_readers_at_most_second_reader (inl refl)).1 h in let l : 0 < 0 = p.1 in omega (arith, l)
 
-pool_3 : Behaves pool (Began (o 0) ∷ Began (o 0) ∷ Began (o 1) ∷ []) → ⊥
-pool_3 h = let l : 0 < 0 = (pool_laws.starts (Began (o 0) ∷ Began (o 0) ∷ []) (o 1) pool_1 (inr refl)).1 h in omega (arith, l)
+two_readers_at_most_writer_waits : Behaves two_readers_at_most (began 0 ∷ began 0 ∷ began 1 ∷ []) → ⊥
+two_readers_at_most_writer_waits h = let l : 0 < 0 = (two_readers_at_most_laws.starts (began 0 ∷ began 0 ∷ []) (o 1) two_readers_at_most_second_reader (inr refl)).1 h in omega (arith, l)
 
-pub pool_4 : Behaves pool (Began (o 0) ∷ Began (o 0) ∷ Ended (o 0) ∷ [])
-pool_4 = (pool_laws.finishes (Began (o 0) ∷ Began (o 0) ∷ []) (o 0) pool_1 (inl refl)).0 (omega arith)
+pub two_readers_at_most_one_reader_left : Behaves two_readers_at_most (began 0 ∷ began 0 ∷ ended 0 ∷ [])
+two_readers_at_most_one_reader_left = (two_readers_at_most_laws.finishes (began 0 ∷ began 0 ∷ []) (o 0) two_readers_at_most_second_reader (inl refl)).0 (omega arith)
 
-pub pool_5 : Behaves pool (Began (o 0) ∷ Began (o 0) ∷ Ended (o 0) ∷ Began (o 0) ∷ [])
-pool_5 = (pool_laws.starts (Began (o 0) ∷ Began (o 0) ∷ Ended (o 0) ∷ []) (o 0) pool_4 (inl refl)).0 (inl (omega arith), omega arith)
+pub two_readers_at_most_third_reader : Behaves two_readers_at_most (began 0 ∷ began 0 ∷ ended 0 ∷ began 0 ∷ [])
+two_readers_at_most_third_reader = (two_readers_at_most_laws.starts (began 0 ∷ began 0 ∷ ended 0 ∷ []) (o 0) two_readers_at_most_one_reader_left (inl refl)).0 (inl (omega arith), omega arith)
 
--- path { 0 ; 1 : 2 } end
-abbrev pipe : Tree
-pipe = burst (most 2) (seq (op (o 0)) (op (o 1)))
+-- path { 0 ; 1 : 2 } end: two executions underway at most
+abbrev two_pairs_at_most : Tree
+two_pairs_at_most = burst (most 2) (seq (op (o 0)) (op (o 1)))
 
-pipe_laws : AdmitsItsWords pipe
-pipe_laws = each_path_admits_its_words pipe (record { names_once = (tt, tt, differ); not_nested = ((tt, tt), omega arith) })
+two_pairs_at_most_laws : AdmitsItsWords two_pairs_at_most
+two_pairs_at_most_laws = each_path_admits_its_words two_pairs_at_most (record { names_once = (tt, tt, differ); not_nested = ((tt, tt), omega arith) })
 
-pipe_terms : (prologue pipe (o 0) ≡ Counted 0 0) × (epilogue pipe (o 0) ≡ Plain 1) × (prologue pipe (o 1) ≡ Plain 1) × (epilogue pipe (o 1) ≡ Counted 0 0)
-pipe_terms = (refl, refl, refl, refl)
+two_pairs_at_most_terms : (prologue two_pairs_at_most (o 0) ≡ Counted 0 0) × (epilogue two_pairs_at_most (o 0) ≡ Plain 1) × (prologue two_pairs_at_most (o 1) ≡ Plain 1) × (epilogue two_pairs_at_most (o 1) ≡ Counted 0 0)
+two_pairs_at_most_terms = (refl, refl, refl, refl)
 
-pub pipe_0 : Behaves pipe (Began (o 0) ∷ [])
-pipe_0 = (pipe_laws.starts ([]) (o 0) (behaves_nil pipe) (inl refl)).0 (inr (omega arith), omega arith)
+pub two_pairs_at_most_first_a : Behaves two_pairs_at_most (began 0 ∷ [])
+two_pairs_at_most_first_a = (two_pairs_at_most_laws.starts ([]) (o 0) (behaves_nil two_pairs_at_most) (inl refl)).0 (inr (omega arith), omega arith)
 
-pub pipe_1 : Behaves pipe (Began (o 0) ∷ Ended (o 0) ∷ [])
-pipe_1 = (pipe_laws.finishes (Began (o 0) ∷ []) (o 0) pipe_0 (inl refl)).0 (omega arith)
+pub two_pairs_at_most_first_a_over : Behaves two_pairs_at_most (began 0 ∷ ended 0 ∷ [])
+two_pairs_at_most_first_a_over = (two_pairs_at_most_laws.finishes (began 0 ∷ []) (o 0) two_pairs_at_most_first_a (inl refl)).0 (omega arith)
 
-pub pipe_2 : Behaves pipe (Began (o 0) ∷ Ended (o 0) ∷ Began (o 0) ∷ [])
-pipe_2 = (pipe_laws.starts (Began (o 0) ∷ Ended (o 0) ∷ []) (o 0) pipe_1 (inl refl)).0 (inl (omega arith), omega arith)
+pub two_pairs_at_most_second_a : Behaves two_pairs_at_most (began 0 ∷ ended 0 ∷ began 0 ∷ [])
+two_pairs_at_most_second_a = (two_pairs_at_most_laws.starts (began 0 ∷ ended 0 ∷ []) (o 0) two_pairs_at_most_first_a_over (inl refl)).0 (inl (omega arith), omega arith)
 
-pub pipe_3 : Behaves pipe (Began (o 0) ∷ Ended (o 0) ∷ Began (o 0) ∷ Ended (o 0) ∷ [])
-pipe_3 = (pipe_laws.finishes (Began (o 0) ∷ Ended (o 0) ∷ Began (o 0) ∷ []) (o 0) pipe_2 (inl refl)).0 (omega arith)
+pub two_pairs_at_most_second_a_over : Behaves two_pairs_at_most (began 0 ∷ ended 0 ∷ began 0 ∷ ended 0 ∷ [])
+two_pairs_at_most_second_a_over = (two_pairs_at_most_laws.finishes (began 0 ∷ ended 0 ∷ began 0 ∷ []) (o 0) two_pairs_at_most_second_a (inl refl)).0 (omega arith)
 
 -- two executions stand at the semicolon, and both count
-pipe_4 : Behaves pipe (Began (o 0) ∷ Ended (o 0) ∷ Began (o 0) ∷ Ended (o 0) ∷ Began (o 0) ∷ []) → ⊥
-pipe_4 h = let p = (pipe_laws.starts (Began (o 0) ∷ Ended (o 0) ∷ Began (o 0) ∷ Ended (o 0) ∷ []) (o 0) pipe_3 (inl refl)).1 h in let l : 0 < 0 = p.1 in omega (arith, l)
+two_pairs_at_most_third_a_waits : Behaves two_pairs_at_most (began 0 ∷ ended 0 ∷ began 0 ∷ ended 0 ∷ began 0 ∷ []) → ⊥
+two_pairs_at_most_third_a_waits h = let p = (two_pairs_at_most_laws.starts (began 0 ∷ ended 0 ∷ began 0 ∷ ended 0 ∷ []) (o 0) two_pairs_at_most_second_a_over (inl refl)).1 h in let l : 0 < 0 = p.1 in omega (arith, l)
 
 -- path 0 , 2 end path 1 ; 2 end: 2 is blocked by the second path, and after a start of 0 by the first
-abbrev two : List (ℕ × Tree)
-two = numbered 0 (alt (op (o 0)) (op (o 2)) ∷ seq (op (o 1)) (op (o 2)) ∷ [])
+abbrev two_paths : List (ℕ × Tree)
+two_paths = numbered 0 (alt (op (o 0)) (op (o 2)) ∷ seq (op (o 1)) (op (o 2)) ∷ [])
 
-two_0 : First (Blocks (o 2)) (after two []) 1
-two_0 = inr (λ b. b.1 (omega arith), inl ((inr refl, λ l. omega (arith, l)), refl))
+two_paths_second_blocks : First (Blocks (o 2)) (after two_paths []) 1
+two_paths_second_blocks = inr (λ b. b.1 (omega arith), inl ((inr refl, λ l. omega (arith, l)), refl))
 
-two_1 : First (Blocks (o 2)) (after two (Began (o 0) ∷ [])) 0
-two_1 = inl ((inr refl, λ l. omega (arith, l)), refl)
+two_paths_first_blocks : First (Blocks (o 2)) (after two_paths (began 0 ∷ [])) 0
+two_paths_first_blocks = inl ((inr refl, λ l. omega (arith, l)), refl)
 
 -- the second of two equal paths is removed, and of the first all but the bound's semaphore
-abbrev twice : List (ℕ × Tree)
-twice = numbered 0 (burst (most 2) (op (o 0)) ∷ burst (most 2) (op (o 0)) ∷ burst (most 3) (op (o 0)) ∷ [])
+abbrev equal_paths : List (ℕ × Tree)
+equal_paths = numbered 0 (burst (most 2) (op (o 0)) ∷ burst (most 2) (op (o 0)) ∷ burst (most 3) (op (o 0)) ∷ [])
 
-twice_kept : kept [] twice ≡ (0, burst (most 2) (op (o 0))) ∷ (2, burst (most 3) (op (o 0))) ∷ []
-twice_kept = refl
+equal_paths_kept : kept [] equal_paths ≡ (0, burst (most 2) (op (o 0))) ∷ (2, burst (most 3) (op (o 0))) ∷ []
+equal_paths_kept = refl
 
-twice_terms : (lean_prologue (burst (most 2) (op (o 0))) (o 0) ≡ limits 0) × (lean_prologue (burst any (op (o 0))) (o 0) ≡ nothing) × (lean_prologue pipe (o 1) ≡ does (Plain 1)) × (lean_prologue pool (o 0) ≡ does (Counted 0 0))
-twice_terms = (refl, refl, refl, refl)
+equal_paths_terms : (lean_prologue (burst (most 2) (op (o 0))) (o 0) ≡ limits 0) × (lean_prologue (burst any (op (o 0))) (o 0) ≡ nothing) × (lean_prologue two_pairs_at_most (o 1) ≡ does (Plain 1)) × (lean_prologue two_readers_at_most (o 0) ≡ does (Counted 0 0))
+equal_paths_terms = (refl, refl, refl, refl)
 
-twice_blocks : First (LeanBlocks (o 0)) (lean_after twice (Began (o 0) ∷ Began (o 0) ∷ [])) 0
-twice_blocks = inl ((refl, λ l. omega (arith, l)), refl)
+equal_paths_blocks : First (LeanBlocks (o 0)) (lean_after equal_paths (began 0 ∷ began 0 ∷ [])) 0
+equal_paths_blocks = inl ((refl, λ l. omega (arith, l)), refl)

@@ -1,4 +1,4 @@
--- A finish keeps the values those of the counts.
+-- A finish keeps each value equal to its difference of counts.
 use Rattle.std.proofs.Common.{◌≡◌, ◌⊎◌, ◌==◌, if◌then◌else◌, ◌<◌, ◌≤◌, ◌+◌, ◌-◌, ℕ, List, [], ◌∷◌, ◌++◌, refl, sym, ap, ◌∙◌, subst, inl, inr, arith}
 use Rattle.std.proofs.lemmas.Bool.{eq-eqb, ne_eqb, cond-true, cond-false, cond_both}
 use Rattle.path_model.specs.declared.ids.OpId.{OpId}

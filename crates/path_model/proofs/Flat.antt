@@ -1,4 +1,4 @@
--- One table holds the values of all paths.
+-- One table with numbers that count through the paths holds the values of each path.
 use Rattle.std.proofs.Common.{◌≡◌, ◌==◌, if◌then◌else◌, ◌<◌, ◌≤◌, ◌+◌, ◌-◌, ℕ, List, [], ◌∷◌, ◌++◌, Bool, true, false, refl, sym, ap, ◌∙◌, subst, inl, inr, arith}
 use Rattle.std.proofs.lemmas.Bool.{eq-eqb, ne_eqb, cond-true, cond-false, cases_Bool, cases_eq, or_cases}
 use Rattle.std.specs.Prelude.{◌||◌}

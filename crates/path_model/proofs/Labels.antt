@@ -1,4 +1,4 @@
--- Labels on events, and lists merged one by one.
+-- A labelling of events is a merge of its labels, one by one, and the other way round.
 use Rattle.std.proofs.Common.{◌≡◌, ◌≢◌, ◌==◌, if◌then◌else◌, ◌≤◌, ◌+◌, ℕ, suc, zero, List, [], ◌∷◌, ◌++◌, refl, sym, ap, ◌∙◌, subst, inl, inr, arith}
 use Rattle.std.proofs.lemmas.Bool.{eqb-true, eq-eqb, ne_eqb, cond-true, cond-false}
 use Rattle.path_model.specs.declared.history.Event.{Event}

@@ -17,6 +17,7 @@ pub mod Finishes
 pub mod OnePath
 pub mod Examples
 pub mod Labelled
+pub mod InsideParts
 pub mod OpenBurst
 pub mod AmongOthers
 pub mod Downward
@@ -24,3 +25,11 @@ pub mod Bounds
 pub mod AllPaths
 pub mod Trimmed
 pub mod Flat
+pub mod JournalLists
+pub mod Lookups
+pub mod HonestJournals
+pub mod Progress
+pub mod OwedReplies
+pub mod StuckStates
+pub mod Admission
+pub mod JournalExamples

@@ -1,4 +1,4 @@
--- The path of a tree: its behaviour, event by event.
+-- The behaviour of a path, event by event.
 use Rattle.std.proofs.Common.{◌≡◌, ◌⊎◌, ◌≤◌, List, [], ◌∷◌, ◌++◌, refl, sym, ap, ◌∙◌, subst, inl, inr, arith}
 use Rattle.std.proofs.lemmas.List.{append-nil, append_assoc}
 use Rattle.path_model.specs.declared.history.Event.{Event}

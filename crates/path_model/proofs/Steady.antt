@@ -1,4 +1,4 @@
--- What holds of braces within a path.
+-- Braces within a path are as often open as they were opened and not closed, after every event.
 use Rattle.std.proofs.Common.{◌≡◌, ◌⊎◌, ◌==◌, if◌then◌else◌, ◌<◌, ◌+◌, ◌-◌, ℕ, List, [], ◌∷◌, ◌++◌, refl, sym, subst, inl, inr, arith}
 use Rattle.std.proofs.lemmas.Bool.{ne_eqb, cond-false, cond_both}
 use Rattle.path_model.specs.declared.ids.OpId.{OpId}

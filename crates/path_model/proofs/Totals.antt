@@ -1,4 +1,4 @@
--- Sums of what events count.
+-- Sums over labels of what their events count.
 use Rattle.std.proofs.Common.{◌≡◌, ◌+◌, ℕ, List, [], ◌∷◌, refl, sym, ◌∙◌, arith}
 use Rattle.path_model.specs.declared.history.Event.{Event}
 use Rattle.path_model.specs.Trees.{Tree, op, seq, alt, burst, NoBraces}

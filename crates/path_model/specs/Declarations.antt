@@ -1,5 +1,5 @@
 -- What a declaration holds: resources, operations and paths, in order.
-use Rattle.std.specs.Prelude.{ℕ, List, [], ◌∷◌, map, slice_index_or}
+use Rattle.std.specs.Prelude.{ℕ, List, [], map, slice_index_or}
 use Rattle.path_model.specs.declared.resource.Law.{Law}
 use Rattle.path_model.specs.declared.resource.Law.TheVariants.{Cell}
 use Rattle.path_model.specs.Trees.{Tree}

@@ -1,5 +1,6 @@
 -- What a journal tells: its starts and finishes, the live activations, and the admitted history.
-use Rattle.std.specs.Prelude.{ℕ, ◌+◌, ◌==◌, ◌||◌, Bool, false, not, List, [], ◌∷◌, ◌++◌, length, filter, Option, Some, None, if◌then◌else◌}
+use Rattle.std.specs.Prelude.{◌≡◌, ℕ, ◌+◌, ◌≤◌, ◌==◌, ◌||◌, Bool, false, not, List, [], ◌∷◌, ◌++◌, length, filter, Option, Some, None, if◌then◌else◌}
+use Rattle.path_model.specs.declared.ids.OpId.{OpId}
 use Rattle.path_model.specs.declared.ids.ActId.{ActId}
 use Rattle.path_model.specs.declared.history.Event.{Event}
 use Rattle.path_model.specs.declared.history.Event.TheVariants.{Began, Ended}
@@ -43,6 +44,29 @@ abbrev pub activation_of : ActId → List Activation → Option Activation
 activation_of n [] = None
 activation_of n (a ∷ rest) = if a.act.0 == n.0 then Some a else activation_of n rest
 
+-- all but the activation of a number, in their order
+abbrev pub without : ActId → List Activation → List Activation
+without n activations = filter (λ a. not (a.act.0 == n.0)) activations
+
+-- each number is above the ones before it, from low on, and below the end
+abbrev pub AreNumberedFrom : ℕ → List Activation → ℕ → Type 0
+AreNumberedFrom low [] end = low ≤ end
+AreNumberedFrom low (a ∷ rest) end = (low ≤ a.act.0) × AreNumberedFrom (a.act.0 + 1) rest end
+
+-- the numbers rise, and are below the end
+abbrev pub AreNumbered : List Activation → ℕ → Type 0
+AreNumbered activations end = AreNumberedFrom 0 activations end
+
+-- the activations have the numbers from n on, each the next
+abbrev pub AreCountedFrom : ℕ → List Activation → Type 0
+AreCountedFrom n [] = Unit {0}
+AreCountedFrom n (a ∷ rest) = (a.act.0 ≡ n) × AreCountedFrom (n + 1) rest
+
+-- how many activations are of the operation
+abbrev pub live_count : OpId → List Activation → ℕ
+live_count a [] = 0
+live_count a (x ∷ rest) = (if x.op.0 == a.0 then 1 else 0) + live_count a rest
+
 abbrev pub ended_events : Option Activation → List Event
 ended_events None = []
 ended_events (Some a) = Ended a.op ∷ []
@@ -60,6 +84,12 @@ history_from before (l ∷ ls) = events_of_line before l.attempt l.reply ++ hist
 -- the admitted history of a journal
 abbrev pub admitted_history : List Line → List Event
 admitted_history ls = history_from [] ls
+
+-- a worker's attempt with this reply starts nothing and finishes nothing
+pub record IsQuiet (w : ℕ) (attempt : Attempt) (reply : Reply) : Type 0 where
+  pub starts_none : started_by w attempt reply ≡ []
+  pub finishes_none : (n : ActId) → finishes n attempt reply ≡ false
+  pub no_events : (before : List Line) → events_of_line before attempt reply ≡ []
 
 -- the journal after one more attempt: a line with its reply, or nothing where there is no room
 abbrev pub with_line : List Line → ℕ → Attempt → Reply → List Line

@@ -19,3 +19,4 @@ pub mod Journals
 pub mod Contents
 pub mod Owed
 pub mod Honest
+pub mod Stuck

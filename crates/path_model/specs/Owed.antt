@@ -1,5 +1,5 @@
 -- The reply that a journal owes to a worker's attempt: the first that applies.
-use Rattle.std.specs.Prelude.{◌≡◌, ◌≢◌, ◌<◌, ◌≤◌, ◌+◌, ℕ, List, [], ◌∷◌, ◌++◌, length, Some, None}
+use Rattle.std.specs.Prelude.{◌≡◌, ◌≢◌, ◌⊎◌, ◌<◌, ◌≤◌, ◌+◌, ℕ, List, length, Some, None}
 use Rattle.path_model.specs.declared.ids.OpId.{OpId}
 use Rattle.path_model.specs.declared.ids.ActId.{ActId}
 use Rattle.path_model.specs.declared.ids.PathId.{PathId}
@@ -60,3 +60,11 @@ abbrev pub Owed : Declaration → ℕ → List (List ℕ) → List Line → ℕ 
 Owed d room openings ls w (Start a) reply = OwedToStart d room ls a reply
 Owed d room openings ls w (Apply n verb) reply = OwedToUse d room openings ls w n verb reply
 Owed d room openings ls w (Finish n) reply = OwedToFinish d room ls w n reply
+
+-- two replies are one; or the law serves, and one of them says that the device failed
+abbrev pub AreSame : Reply → Reply → Type 0
+AreSame r s = (r ≡ s) ⊎ ((x : ℕ) × (r ≡ Used x) × (s ≡ DeviceFailed)) ⊎ ((x : ℕ) × (r ≡ DeviceFailed) × (s ≡ Used x))
+
+-- no two different replies are owed to one attempt, but for a device that fails
+abbrev pub OneReplyIsOwed : Type 0
+OneReplyIsOwed = (d : Declaration) (room : ℕ) (openings : List (List ℕ)) (ls : List Line) (w : ℕ) (attempt : Attempt) (r s : Reply) → Owed d room openings ls w attempt r → Owed d room openings ls w attempt s → AreSame r s

@@ -1,6 +1,6 @@
 //! Want of memory.
 
-ghost use Rattle.std.specs.Prelude.{◌≡◌};
+ghost use Rattle.std.specs.Prelude.{Some, codes};
 
 use std::alloc::{AllocError, AllocFailed};
 use std::fmt;
@@ -10,6 +10,8 @@ use std::fmt;
 pub struct OutOfMemory;
 
 impl fmt::Display for OutOfMemory {
+    ghost output = { λ _. Some (codes "out of memory") };
+
     fn fmt<W: fmt::Write>(&self, f: &mut fmt::Formatter<W>) -> fmt::Result {
         write!(f, "out of memory")
     }
@@ -24,5 +26,16 @@ impl From<AllocError> for OutOfMemory {
 impl<T: Drop> From<AllocFailed<T>> for OutOfMemory {
     fn from(_error: AllocFailed<T>) -> OutOfMemory {
         OutOfMemory
+    }
+}
+
+#[cfg(test)]
+mod tests {
+    use super::*;
+
+    #[test]
+    fn says_what_is_wanting(rt: HostRuntime) {
+        let text = format!(in rt.alloc(); "{}", OutOfMemory);
+        assert!(rt; text.is_ok_and(|text| text.as_str() == "out of memory"));
     }
 }

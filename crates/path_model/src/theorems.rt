@@ -7,6 +7,9 @@ ghost use Rattle.path_model.specs.Bounds.{EachValueIsBounded};
 ghost use Rattle.path_model.specs.AllPaths.{AllPathsJudge, ProjectionsKeepProgress, EachEventMoves, FirstIsOne, StartsOnlyBlock, EachBlockStays, FinishesUnblock};
 ghost use Rattle.path_model.specs.Trimmed.{EachPathTrims, TrimmingKeepsAnswers, TrimmedAdmitsTheWords};
 ghost use Rattle.path_model.specs.Flat.{OneTableShowsAll};
+ghost use Rattle.path_model.specs.Honest.{EachHonestJournalIsLegal, EachHonestJournalHasRoom, LiveActivationsAreInProgress, EachAttemptIsOwedAReply};
+ghost use Rattle.path_model.specs.Owed.{OneReplyIsOwed};
+ghost use Rattle.path_model.specs.Stuck.{FrozenStaysFrozen, StartablesMayStart, LiveActivationsMayFinish, FinishesComeBetween};
 
 /// After every history of a path's behaviour the semaphores let an operation begin or end exactly where the behaviour does.
 pub fn each_path_admits_its_words()
@@ -86,4 +89,49 @@ pub fn trimmed_admits_the_words()
 /// One table, with numbers that count through the paths, holds the values of each path.
 pub fn one_table_shows_all()
     ensures { OneTableShowsAll }
+{}
+
+/// The admitted history of an honest journal is legal on every path.
+pub fn each_honest_journal_is_legal()
+    ensures { EachHonestJournalIsLegal }
+{}
+
+/// An honest journal has room for its lines, and for the finish of each live activation.
+pub fn each_honest_journal_has_room()
+    ensures { EachHonestJournalHasRoom }
+{}
+
+/// After an honest journal each operation has as many live activations as it has begun and not ended.
+pub fn live_activations_are_in_progress()
+    ensures { LiveActivationsAreInProgress }
+{}
+
+/// After an honest journal some reply is owed to each attempt.
+pub fn each_attempt_is_owed_a_reply()
+    ensures { EachAttemptIsOwedAReply }
+{}
+
+/// One reply at most is owed to an attempt, but that a device may fail where its law would serve.
+pub fn one_reply_is_owed()
+    ensures { OneReplyIsOwed }
+{}
+
+/// After a journal where nothing is live and nothing can be started, nothing is admitted any more.
+pub fn frozen_stays_frozen()
+    ensures { FrozenStaysFrozen }
+{}
+
+/// What can be started is owed its start, where there is room.
+pub fn startables_may_start()
+    ensures { StartablesMayStart }
+{}
+
+/// What is live is owed its finish, by its own worker.
+pub fn live_activations_may_finish()
+    ensures { LiveActivationsMayFinish }
+{}
+
+/// Between a blocked start of an operation and a later admitted one stands an admitted finish.
+pub fn finishes_come_between()
+    ensures { FinishesComeBetween }
 {}
