@@ -1,0 +1,104 @@
+-- What each part asks of a draft, and what it makes of it.
+use Rattle.std.specs.Prelude.{◌≡◌, ℕ, ◌+◌, ◌<◌, if◌then◌else◌, List, [], ◌∷◌, ◌++◌, map, reverse, length, slice_get, Some, Contains}
+use Rattle.std.specs.Str.{bytes_eq}
+use Rattle.path_model.specs.declared.resource.Law.TheVariants.{Cell}
+use Rattle.path_model.specs.Trees.{Tree, op, seq, alt, shape}
+use Rattle.path_model.specs.Declarations.{Resource, Operation, Path, Declaration}
+use Rattle.path_decl.specs.declared.draft.Draft.{Draft}
+use Rattle.path_decl.specs.Kept.{path_of}
+use Rattle.path_decl.specs.Parts.{Saying, a_resource, an_operation, a_path, a_name, a_sequence, a_selection, an_end}
+use Rattle.path_decl.specs.Table.{resources_of, operations_of}
+
+-- what was declared so far, the last resource, and of the path so far the trees, the last first, and the names
+pub record Drafted : Type 0 where
+  pub resources : List Resource
+  pub operations : List Operation
+  pub paths : List Path
+  pub resource : ℕ
+  pub open_trees : List Tree
+  pub named : List (List ℕ)
+
+abbrev pub drafted : {Y : Type 0} → Draft Y → Drafted
+drafted d = record {
+  resources = resources_of d.resources.entries;
+  operations = operations_of d.operations.entries;
+  paths = map path_of d.paths.items;
+  resource = d.resource.0;
+  open_trees = reverse (map shape d.open_trees.items);
+  named = map (λ n. n.now) d.named.items;
+}
+
+abbrev pub nothing : Drafted
+nothing = record { resources = []; operations = []; paths = []; resource = 0; open_trees = []; named = [] }
+
+abbrev pub declared_by : Drafted → Declaration
+declared_by d = record { resources = d.resources; operations = d.operations; paths = d.paths }
+
+abbrev pub resource_names : Drafted → List (List ℕ)
+resource_names d = map (λ r. r.name) d.resources
+
+abbrev pub operation_names : List Operation → List (List ℕ)
+operation_names os = map (λ o. o.name) os
+
+-- the first place of a name, or the length
+abbrev pub place_of : List ℕ → List (List ℕ) → ℕ
+place_of n [] = 0
+place_of n (m ∷ ms) = if bytes_eq n m then 0 else 1 + place_of n ms
+
+-- the number of an operation's name
+abbrev pub number_of : List Operation → List ℕ → ℕ
+number_of os n = place_of n (operation_names os)
+
+abbrev pub joined : (Tree → Tree → Tree) → List Tree → List Tree
+joined f [] = []
+joined f (t ∷ []) = t ∷ []
+joined f (t ∷ s ∷ ts) = f s t ∷ ts
+
+abbrev pub HasTwo : List Tree → Type 0
+HasTwo [] = ⊥
+HasTwo (t ∷ []) = ⊥
+HasTwo (t ∷ s ∷ ts) = Unit {0}
+
+abbrev pub HasOne : List Tree → Type 0
+HasOne [] = ⊥
+HasOne (t ∷ ts) = Unit {0}
+
+-- the path whose tree is the last
+abbrev pub closed : ℕ → List Tree → List Path
+closed r [] = []
+closed r (t ∷ ts) = record { resource = r; tree = t } ∷ []
+
+-- the draft after a part
+abbrev pub after : Saying → Drafted → Drafted
+after (a_resource n) d = record d { resources = d.resources ++ record { name = n; law = Cell } ∷ []; resource = length d.resources }
+after (an_operation n) d = record d { operations = d.operations ++ record { name = n; resource = d.resource } ∷ [] }
+after a_path d = d
+after (a_name n) d = record d { open_trees = op (record { 0 = number_of d.operations n }) ∷ d.open_trees; named = d.named ++ n ∷ [] }
+after a_sequence d = record d { open_trees = joined seq d.open_trees }
+after a_selection d = record d { open_trees = joined alt d.open_trees }
+after an_end d = record d { paths = d.paths ++ closed d.resource d.open_trees; open_trees = []; named = [] }
+
+-- a name that stands for an operation of the last resource, and is new in the path, which has room for it
+pub record IsUsable (d : Drafted) (n : List ℕ) : Type 0 where
+  pub own : slice_get d.operations (number_of d.operations n) ≡ Some (record { name = n; resource = d.resource })
+  pub new : Contains d.named n → ⊥
+  pub room : length d.named < 64
+
+-- what a part asks of the draft
+abbrev pub Allowed : Saying → Drafted → Type 0
+Allowed (a_resource n) d = (Contains (resource_names d) n → ⊥) × (length d.resources < 64)
+Allowed (an_operation n) d = (Contains (operation_names d.operations) n → ⊥) × (length d.operations < 256)
+Allowed a_path d = length d.paths < 256
+Allowed (a_name n) d = IsUsable d n
+Allowed a_sequence d = HasTwo d.open_trees
+Allowed a_selection d = HasTwo d.open_trees
+Allowed an_end d = HasOne d.open_trees
+
+-- the same of many parts
+abbrev pub after_all : List Saying → Drafted → Drafted
+after_all [] d = d
+after_all (p ∷ ps) d = after_all ps (after p d)
+
+abbrev pub AllAllowed : List Saying → Drafted → Type 0
+AllAllowed [] d = Unit {0}
+AllAllowed (p ∷ ps) d = Allowed p d × AllAllowed ps (after p d)

@@ -1,0 +1,49 @@
+-- The declaration that forms are: numbers in the order of the text in place of names.
+use Rattle.std.specs.Prelude.{◌≡◌, ℕ, ◌+◌, List, [], ◌∷◌, ◌++◌, map, Some, slice_get}
+use Rattle.path_model.specs.declared.resource.Law.TheVariants.{Cell}
+use Rattle.path_model.specs.Trees.{Tree, op, seq, alt, burst}
+use Rattle.path_model.specs.Declarations.{Resource, Operation, Path, Declaration}
+use Rattle.path_decl.specs.Forms.{Form, once, sequence, selection, ResourceForm, all_operations}
+
+-- the tree has the numbers of the names in place of them
+abbrev pub Numbers : List (List ℕ) → Form → Tree → Type 0
+Numbers ns (once n) (op a) = slice_get ns a.0 ≡ Some n
+Numbers ns (once n) (seq s t) = ⊥
+Numbers ns (once n) (alt s t) = ⊥
+Numbers ns (once n) (burst b s) = ⊥
+Numbers ns (sequence f g) (seq s t) = Numbers ns f s × Numbers ns g t
+Numbers ns (sequence f g) (op a) = ⊥
+Numbers ns (sequence f g) (alt s t) = ⊥
+Numbers ns (sequence f g) (burst b s) = ⊥
+Numbers ns (selection f g) (alt s t) = Numbers ns f s × Numbers ns g t
+Numbers ns (selection f g) (op a) = ⊥
+Numbers ns (selection f g) (seq s t) = ⊥
+Numbers ns (selection f g) (burst b s) = ⊥
+
+abbrev pub resource_from : ResourceForm → Resource
+resource_from r = record { name = r.name; law = Cell }
+
+-- the operations, each with the number of its resource, of which the first is k
+abbrev pub operations_from : ℕ → List ResourceForm → List Operation
+operations_from k [] = []
+operations_from k (r ∷ rs) = map (λ n. record { name = n; resource = k }) r.operations ++ operations_from (k + 1) rs
+
+-- the paths, each with its form and the number of its resource, of which the first is k
+abbrev pub paths_from : ℕ → List ResourceForm → List (ℕ × Form)
+paths_from k [] = []
+paths_from k (r ∷ rs) = map (λ f. (k, f)) r.paths ++ paths_from (k + 1) rs
+
+-- a path of that resource, with the numbers of the names
+abbrev pub IsPathOf : List (List ℕ) → ℕ × Form → Path → Type 0
+IsPathOf ns f p = (p.resource ≡ f.0) × Numbers ns f.1 p.tree
+
+abbrev pub ArePathsOf : List (List ℕ) → List (ℕ × Form) → List Path → Type 0
+ArePathsOf ns [] [] = Unit {0}
+ArePathsOf ns [] (p ∷ ps) = ⊥
+ArePathsOf ns (f ∷ fs) [] = ⊥
+ArePathsOf ns (f ∷ fs) (p ∷ ps) = IsPathOf ns f p × ArePathsOf ns fs ps
+
+pub record Declares (rs : List ResourceForm) (d : Declaration) : Type 0 where
+  pub resources : d.resources ≡ map resource_from rs
+  pub operations : d.operations ≡ operations_from 0 rs
+  pub paths : ArePathsOf (all_operations rs) (paths_from 0 rs) d.paths

@@ -1,0 +1,30 @@
+-- What a text declares, in names alone.
+use Rattle.std.specs.Prelude.{ℕ, List, [], ◌∷◌, ◌++◌}
+
+-- a path expression over names
+pub data Form : Type 0 where
+  once : List ℕ → Form
+  sequence : Form → Form → Form
+  selection : Form → Form → Form
+
+-- a resource with its operations and its paths
+pub record ResourceForm : Type 0 where
+  pub name : List ℕ
+  pub operations : List (List ℕ)
+  pub paths : List Form
+
+-- the names of a path, from left to right
+abbrev pub names_in : Form → List (List ℕ)
+names_in (once n) = n ∷ []
+names_in (sequence s t) = names_in s ++ names_in t
+names_in (selection s t) = names_in s ++ names_in t
+
+-- the operations of all resources, in order
+abbrev pub all_operations : List ResourceForm → List (List ℕ)
+all_operations [] = []
+all_operations (r ∷ rs) = r.operations ++ all_operations rs
+
+-- the paths of all resources, in order
+abbrev pub all_paths : List ResourceForm → List Form
+all_paths [] = []
+all_paths (r ∷ rs) = r.paths ++ all_paths rs

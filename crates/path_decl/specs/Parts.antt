@@ -1,0 +1,53 @@
+-- What forms say, part by part.
+use Rattle.std.specs.Prelude.{ℕ, List, [], ◌∷◌, ◌++◌, map}
+use Rattle.path_decl.specs.declared.part.Part.{Part}
+use Rattle.path_decl.specs.declared.part.Part.TheVariants as parts
+use Rattle.path_decl.specs.declared.part.PlacedPart.{PlacedPart}
+use Rattle.path_decl.specs.Forms.{Form, once, sequence, selection, ResourceForm}
+
+-- a part without where its bytes lie in memory
+pub data Saying : Type 0 where
+  a_resource : List ℕ → Saying
+  an_operation : List ℕ → Saying
+  a_path : Saying
+  a_name : List ℕ → Saying
+  a_sequence : Saying
+  a_selection : Saying
+  an_end : Saying
+
+abbrev pub saying : Part → Saying
+saying (parts.Resource n) = a_resource n.now
+saying (parts.Operation n) = an_operation n.now
+saying parts.Path = a_path
+saying (parts.Name n) = a_name n.now
+saying parts.Sequence = a_sequence
+saying parts.Selection = a_selection
+saying parts.End = an_end
+
+abbrev pub sayings : List PlacedPart → List Saying
+sayings ps = map (λ p. saying p.part) ps
+
+-- operands, and then their operator
+abbrev pub form_parts : Form → List Saying
+form_parts (once n) = a_name n ∷ []
+form_parts (sequence s t) = form_parts s ++ (form_parts t ++ a_sequence ∷ [])
+form_parts (selection s t) = form_parts s ++ (form_parts t ++ a_selection ∷ [])
+
+-- a path after its first word
+abbrev pub body_parts : Form → List Saying
+body_parts f = form_parts f ++ an_end ∷ []
+
+abbrev pub path_parts : List Form → List Saying
+path_parts [] = []
+path_parts (f ∷ fs) = a_path ∷ (body_parts f ++ path_parts fs)
+
+-- names, and then paths
+abbrev pub inner_parts : List (List ℕ) × List Form → List Saying
+inner_parts b = map an_operation b.0 ++ path_parts b.1
+
+abbrev pub resource_parts : ResourceForm → List Saying
+resource_parts r = a_resource r.name ∷ inner_parts (r.operations, r.paths)
+
+abbrev pub file_parts : List ResourceForm → List Saying
+file_parts [] = []
+file_parts (r ∷ rs) = resource_parts r ++ file_parts rs

@@ -1,0 +1,26 @@
+-- The rules that names keep, and the limits.
+use Rattle.std.specs.Prelude.{◌≢◌, ℕ, ◌≤◌, List, length, map, AllPairs, Contains}
+use Rattle.std.specs.List.{AllByRecursion}
+use Rattle.path_decl.specs.Forms.{Form, names_in, ResourceForm, all_operations, all_paths}
+
+-- no name stands twice
+abbrev pub IsDistinct : List (List ℕ) → Type 0
+IsDistinct ns = AllPairs (λ m n. m ≢ n) ns
+
+-- a path names, each once, at most 64 operations of its own resource
+pub record KeepsPathRules (own : List (List ℕ)) (p : Form) : Type 0 where
+  pub declared : AllByRecursion (λ n. Contains own n) (names_in p)
+  pub once : IsDistinct (names_in p)
+  pub few : length (names_in p) ≤ 64
+
+-- each path keeps them for its own resource
+abbrev pub PathsKeepRules : List ResourceForm → Type 0
+PathsKeepRules rs = AllByRecursion (λ r. AllByRecursion (KeepsPathRules r.operations) r.paths) rs
+
+pub record KeepsRules (rs : List ResourceForm) : Type 0 where
+  pub resources : IsDistinct (map (λ r. r.name) rs)
+  pub operations : IsDistinct (all_operations rs)
+  pub paths : PathsKeepRules rs
+  pub few_resources : length rs ≤ 64
+  pub few_operations : length (all_operations rs) ≤ 256
+  pub few_paths : length (all_paths rs) ≤ 256

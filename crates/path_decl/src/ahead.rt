@@ -1,0 +1,106 @@
+//! The next tokens.
+
+ghost use Rattle.std.specs.Prelude.{◌≡◌, ℕ, ◌<◌, List, ◌∷◌, length, IfOk, IfErr, IfSome, IfNone};
+ghost use Rattle.path_decl.specs.Spelling.{sign as a_sign, reserved as a_word, name as a_name};
+ghost use Rattle.path_decl.specs.Reading.{told, Begins, Fails};
+
+use crate::fault::DeclFault;
+use crate::token::{Kind, Reserved, Sign, Token};
+
+/// Where the next token stands, or the text ends.
+pub(crate) fn place(tokens: &[Token<'_>], end: u32) -> u32 {
+    match tokens.first() {
+        Some(token) => token.at,
+        None => end,
+    }
+}
+
+/// The place of this sign and the tokens after it, if it comes first.
+pub(crate) fn after_sign<'t, 'a>(
+    tokens: &'t [Token<'a>],
+    wanted: Sign,
+) -> Option<(u32, &'t [Token<'a>])>
+    ensures some { IfSome result (λ p. told tokens.now ≡ a_sign wanted ∷ told p.1.now) }
+    ensures shorter { IfSome result (λ p. length p.1.now < length tokens.now) }
+    ensures none { IfNone result (Begins (a_sign wanted) (told tokens.now) → ⊥) }
+{
+    let Some((first, rest)) = tokens.split_first() else {
+        return None;
+    };
+    let Kind::Sign(sign) = first.kind else {
+        return None;
+    };
+    if sign == wanted {
+        Some((first.at, rest))
+    } else {
+        None
+    }
+}
+
+/// The place of this word and the tokens after it, if it comes first.
+pub(crate) fn after_word<'t, 'a>(
+    tokens: &'t [Token<'a>],
+    wanted: Reserved,
+) -> Option<(u32, &'t [Token<'a>])>
+    ensures some { IfSome result (λ p. told tokens.now ≡ a_word wanted ∷ told p.1.now) }
+    ensures shorter { IfSome result (λ p. length p.1.now < length tokens.now) }
+    ensures none { IfNone result (Begins (a_word wanted) (told tokens.now) → ⊥) }
+{
+    let Some((first, rest)) = tokens.split_first() else {
+        return None;
+    };
+    let Kind::Reserved(word) = first.kind else {
+        return None;
+    };
+    if word == wanted {
+        Some((first.at, rest))
+    } else {
+        None
+    }
+}
+
+/// The name that comes first, its place and the tokens after it.
+pub(crate) fn split_name<'t, 'a>(tokens: &'t [Token<'a>]) -> Option<(&'a str, u32, &'t [Token<'a>])>
+    ensures some { IfSome result (λ p. told tokens.now ≡ a_name p.0.now ∷ told p.2.now) }
+    ensures shorter { IfSome result (λ p. length p.2.now < length tokens.now) }
+    ensures none { IfNone result ((n : List ℕ) → Begins (a_name n) (told tokens.now) → ⊥) }
+{
+    let Some((first, rest)) = tokens.split_first() else {
+        return None;
+    };
+    let Kind::Name(name) = first.kind else {
+        return None;
+    };
+    Some((name, first.at, rest))
+}
+
+/// The tokens after this word, which has to come first.
+pub(crate) fn expect_word<'t, 'a>(
+    tokens: &'t [Token<'a>],
+    wanted: Reserved,
+    end: u32,
+) -> Result<&'t [Token<'a>], DeclFault>
+    ensures ok { IfOk result (λ rest. told tokens.now ≡ a_word wanted ∷ told rest.now) }
+    ensures shorter { IfOk result (λ rest. length rest.now < length tokens.now) }
+    ensures err { IfErr result (λ e. Fails e (Begins (a_word wanted) (told tokens.now) → ⊥)) }
+{
+    match after_word(tokens, wanted) {
+        Some((_, rest)) => Ok(rest),
+        None => Err(DeclFault::Unexpected(place(tokens, end))),
+    }
+}
+
+/// The name that has to come first, its place and the tokens after it.
+pub(crate) fn expect_name<'t, 'a>(
+    tokens: &'t [Token<'a>],
+    end: u32,
+) -> Result<(&'a str, u32, &'t [Token<'a>]), DeclFault>
+    ensures ok { IfOk result (λ p. told tokens.now ≡ a_name p.0.now ∷ told p.2.now) }
+    ensures shorter { IfOk result (λ p. length p.2.now < length tokens.now) }
+    ensures err { IfErr result (λ e. Fails e ((n : List ℕ) → Begins (a_name n) (told tokens.now) → ⊥)) }
+{
+    match split_name(tokens) {
+        Some(found) => Ok(found),
+        None => Err(DeclFault::Unexpected(place(tokens, end))),
+    }
+}

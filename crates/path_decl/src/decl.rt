@@ -1,0 +1,143 @@
+//! Declarations, and what they answer.
+
+ghost use Rattle.std.specs.Prelude.{◌≡◌, ◌<◌, ◌↔◌, length, map, Contains, IsSome, IfSome, IfNone, Some, slice_get, option_map};
+ghost use Rattle.path_model.specs.Trees.{shape};
+ghost use Rattle.path_decl.specs.Lawful.{Lawful};
+ghost use Rattle.path_decl.specs.Text.{IsDeclared};
+ghost use Rattle.path_decl.specs.Table.{naming};
+
+use crate::totals::Counts;
+use indexmap::IndexMap;
+use path_model::{Expr, Law, OpId, PathId, ResId};
+use std::alloc::{Allocator, Global};
+use std::hash::{BuildHasherDefault, FoldHasher};
+use std::marker::Model;
+
+/// Names in the order of the text, each with what was declared of it.
+pub(crate) type Names<V, A> = IndexMap<String<A>, V, BuildHasherDefault<FoldHasher>, A>;
+
+/// A path and its resource.
+#[derive(Drop)]
+pub(crate) struct PathEntry<A: Allocator + Copy> {
+    pub(crate) resource: ResId,
+    pub(crate) tree: Expr<A>,
+}
+
+/// A declaration: resources, operations and paths, numbered in the order of the text. Contracts see these three lists.
+#[derive(Drop)]
+pub struct Decl<A: Allocator + Copy = Global> {
+    pub(crate) resources: Names<Law, A>,
+    pub(crate) operations: Names<ResId, A>,
+    pub(crate) paths: Vec<PathEntry<A>, A>,
+    pub(crate) naming: Vec<Vec<PathId, A>, A>,
+}
+
+impl<A: Allocator + Copy> Model for Decl<A> {
+    ghost use Rattle.path_model.specs.Declarations.{Declaration};
+    ghost use Rattle.path_decl.specs.Stored.{declaration_code};
+
+    ghost Value = { Declaration };
+
+    ghost coded = { declaration_code };
+
+    ghost use Rattle.path_decl.specs.Kept.{shown, IsKept};
+
+    ghost view = { shown };
+
+    ghost invariant = { IsKept };
+}
+
+/// The operation with this name. A look-up in a hash table.
+pub fn operation<A: Allocator + Copy>(decl: &Decl<A>, name: &str) -> Option<OpId>
+    ensures some { IfSome result (λ a. slice_get (map (λ o. o.name) decl.now.operations) a.0 ≡ Some name.now) }
+    ensures none { IfNone result (Contains (map (λ o. o.name) decl.now.operations) name.now → ⊥) }
+{
+    let Some(place) = decl.operations.get_index_of(name) else {
+        return None;
+    };
+    Some(OpId(place as u32))
+}
+
+/// The resource with this name. A look-up in a hash table.
+pub fn resource<A: Allocator + Copy>(decl: &Decl<A>, name: &str) -> Option<ResId>
+    ensures some { IfSome result (λ r. slice_get (map (λ r. r.name) decl.now.resources) r.0 ≡ Some name.now) }
+    ensures none { IfNone result (Contains (map (λ r. r.name) decl.now.resources) name.now → ⊥) }
+{
+    let Some(place) = decl.resources.get_index_of(name) else {
+        return None;
+    };
+    Some(ResId(place as u32))
+}
+
+/// The numbers of the paths that name the operation, ascending; `None` where it isn't declared.
+pub fn paths_of<A: Allocator + Copy>(decl: &Decl<A>, op: OpId) -> Option<&[PathId]>
+    ensures declared { IsSome result ↔ (op.0 < length decl.now.operations) }
+    ensures paths { IfSome result (λ ps. ps.now ≡ naming decl.now op) }
+{
+    let paths = decl.naming.get(op.0 as usize)?;
+    Some(paths.as_slice())
+}
+
+/// The law of the resource; `None` where it isn't declared.
+pub fn law_of<A: Allocator + Copy>(decl: &Decl<A>, resource: ResId) -> Option<Law>
+    ensures { result ≡ option_map (λ r. r.law) (slice_get decl.now.resources resource.0) }
+{
+    let (_, law) = decl.resources.get_index(resource.0 as usize)?;
+    Some(*law)
+}
+
+/// The resource of the operation; `None` where it isn't declared.
+pub fn resource_of<A: Allocator + Copy>(decl: &Decl<A>, op: OpId) -> Option<ResId>
+    ensures { option_map (λ r. r.0) result ≡ option_map (λ o. o.resource) (slice_get decl.now.operations op.0) }
+{
+    let (_, resource) = decl.operations.get_index(op.0 as usize)?;
+    Some(*resource)
+}
+
+/// The resource of the path; `None` where it isn't declared.
+pub fn path_resource<A: Allocator + Copy>(decl: &Decl<A>, path: PathId) -> Option<ResId>
+    ensures { option_map (λ r. r.0) result ≡ option_map (λ p. p.resource) (slice_get decl.now.paths path.0) }
+{
+    let entry = decl.paths.get(path.0 as usize)?;
+    Some(entry.resource)
+}
+
+/// The tree of the path; `None` where it isn't declared.
+pub fn tree_of<A: Allocator + Copy>(decl: &Decl<A>, path: PathId) -> Option<&Expr<A>>
+    ensures { option_map (λ t. shape t.now) result ≡ option_map (λ p. p.tree) (slice_get decl.now.paths path.0) }
+{
+    let entry = decl.paths.get(path.0 as usize)?;
+    Some(&entry.tree)
+}
+
+/// The name of the operation; `None` where it isn't declared.
+pub fn op_name<A: Allocator + Copy>(decl: &Decl<A>, op: OpId) -> Option<&str>
+    ensures { option_map (λ s. s.now) result ≡ option_map (λ o. o.name) (slice_get decl.now.operations op.0) }
+{
+    let (name, _) = decl.operations.get_index(op.0 as usize)?;
+    Some(name.as_str())
+}
+
+/// The name of the resource; `None` where it isn't declared.
+pub fn resource_name<A: Allocator + Copy>(decl: &Decl<A>, resource: ResId) -> Option<&str>
+    ensures { option_map (λ s. s.now) result ≡ option_map (λ r. r.name) (slice_get decl.now.resources resource.0) }
+{
+    let (name, _) = decl.resources.get_index(resource.0 as usize)?;
+    Some(name.as_str())
+}
+
+/// How many resources, operations and paths there are.
+pub fn counts<A: Allocator + Copy>(decl: &Decl<A>) -> Counts
+    ensures resources { result.resources ≡ length decl.now.resources }
+    ensures operations { result.operations ≡ length decl.now.operations }
+    ensures paths { result.paths ≡ length decl.now.paths }
+    // What always holds of a declaration.
+    ensures lawful { Lawful decl.now }
+    ensures declared { IsDeclared decl.now }
+{
+    Counts {
+        resources: decl.resources.len() as u32,
+        operations: decl.operations.len() as u32,
+        paths: decl.paths.len() as u32,
+    }
+}

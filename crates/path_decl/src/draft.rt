@@ -1,0 +1,220 @@
+//! Declarations on the way.
+
+ghost use Rattle.std.specs.Prelude.{◌≡◌, ◌<◌, ◌≤◌, ◌++◌, [], ◌∷◌, ◌↔◌, length, map, Contains, IsTrue, IfOk, OnOk, IfErr};
+ghost use Rattle.path_decl.specs.Table.{names_of};
+ghost use Rattle.path_decl.specs.Parts.{saying, sayings, a_resource, an_operation, a_path, a_name, a_sequence, a_selection, an_end};
+ghost use Rattle.path_decl.specs.Building.{drafted, nothing, Allowed, after, AllAllowed, after_all};
+ghost use Rattle.path_decl.specs.Reading.{Fails};
+
+use crate::decl::{Names, PathEntry};
+use crate::fault::DeclFault;
+use crate::part::{Part, PlacedPart};
+use indexmap::IndexMap;
+use path_model::{Expr, Law, OpId, ResId};
+use std::alloc::Allocator;
+
+/// The most resources of a file.
+const MOST_RESOURCES: usize = 64;
+
+/// The most operations of a file.
+const MOST_OPERATIONS: usize = 256;
+
+/// The most paths of a file.
+const MOST_PATHS: usize = 256;
+
+/// The most names of a path.
+const MOST_NAMES: usize = 64;
+
+/// What was declared so far, and what was read so far of a path.
+#[derive(Drop)]
+pub(crate) struct Draft<'a, A: Allocator + Copy> {
+    pub(crate) resources: Names<Law, A>,
+    pub(crate) operations: Names<ResId, A>,
+    pub(crate) paths: Vec<PathEntry<A>, A>,
+    /// The last resource, to which operations and paths belong.
+    pub(crate) resource: ResId,
+    /// The trees of the path that no operator has joined yet.
+    pub(crate) open_trees: Vec<Expr<A>, A>,
+    /// The names of the path.
+    pub(crate) named: Vec<&'a str, A>,
+}
+
+/// Whether the name is one of these.
+fn is_among(names: &[&str], name: &str) -> bool
+    ensures { IsTrue result ↔ Contains (map (λ n. n.now) names.now) name.now }
+{
+    names.contains(&name)
+}
+
+/// Whether the table has the name.
+fn has_name<V, A: Allocator + Copy>(names: &Names<V, A>, name: &str) -> bool
+    ensures { IsTrue result ↔ Contains (names_of names.now.entries) name.now }
+{
+    names.contains_key(name)
+}
+
+impl<'a, A: Allocator + Copy> Draft<'a, A> {
+    /// Nothing is declared.
+    pub(crate) fn new(alloc: A) -> Draft<'a, A>
+        ensures { drafted result ≡ nothing }
+    {
+        Draft {
+            resources: IndexMap::new(alloc),
+            operations: IndexMap::new(alloc),
+            paths: Vec::new(alloc),
+            resource: ResId(0),
+            open_trees: Vec::new(alloc),
+            named: Vec::new(alloc),
+        }
+    }
+
+    /// A resource has this name.
+    fn resource(&mut self, alloc: A, name: &str, at: u32) -> Result<(), DeclFault>
+        ensures ok { OnOk result (Allowed (a_resource name.now) (drafted self.old) × (drafted self.new ≡ after (a_resource name.now) (drafted self.old))) }
+        ensures err { IfErr result (λ e. Fails e (Allowed (a_resource name.now) (drafted self.old) → ⊥)) }
+    {
+        if has_name(&self.resources, name) {
+            return Err(DeclFault::DuplicateResource(at));
+        }
+        if self.resources.len() >= MOST_RESOURCES {
+            return Err(DeclFault::TooMany(at));
+        }
+        self.resource = ResId(self.resources.len() as u32);
+        let key = String::from_str(alloc, name)?;
+        self.resources.insert(key, Law::Cell)?;
+        Ok(())
+    }
+
+    /// The last resource has an operation of this name.
+    fn operation(&mut self, alloc: A, name: &str, at: u32) -> Result<(), DeclFault>
+        ensures ok { OnOk result (Allowed (an_operation name.now) (drafted self.old) × (drafted self.new ≡ after (an_operation name.now) (drafted self.old))) }
+        ensures err { IfErr result (λ e. Fails e (Allowed (an_operation name.now) (drafted self.old) → ⊥)) }
+    {
+        if has_name(&self.operations, name) {
+            return Err(DeclFault::DuplicateOperation(at));
+        }
+        if self.operations.len() >= MOST_OPERATIONS {
+            return Err(DeclFault::TooMany(at));
+        }
+        let key = String::from_str(alloc, name)?;
+        self.operations.insert(key, self.resource)?;
+        Ok(())
+    }
+
+    /// A path of the last resource begins.
+    fn path(&mut self, at: u32) -> Result<(), DeclFault>
+        ensures ok { OnOk result (Allowed a_path (drafted self.old) × (drafted self.new ≡ after a_path (drafted self.old))) }
+        ensures err { IfErr result (λ e. Fails e (Allowed a_path (drafted self.old) → ⊥)) }
+    {
+        if self.paths.len() >= MOST_PATHS {
+            return Err(DeclFault::TooMany(at));
+        }
+        Ok(())
+    }
+
+    /// An operation of the path has this name.
+    fn name(&mut self, name: &'a str, at: u32) -> Result<(), DeclFault>
+        requires { length self.old.operations.entries ≤ 256 }
+        ensures ok { OnOk result (Allowed (a_name name.now) (drafted self.old) × (drafted self.new ≡ after (a_name name.now) (drafted self.old))) }
+        ensures err { IfErr result (λ e. Fails e (Allowed (a_name name.now) (drafted self.old) → ⊥)) }
+    {
+        let Some((place, _, owner)) = self.operations.get_full(name) else {
+            return Err(DeclFault::Undeclared(at));
+        };
+        if owner.0 != self.resource.0 {
+            return Err(DeclFault::Undeclared(at));
+        }
+        if is_among(&self.named, name) {
+            return Err(DeclFault::RepeatedName(at));
+        }
+        if self.named.len() >= MOST_NAMES {
+            return Err(DeclFault::TooMany(at));
+        }
+        self.open_trees.push(Expr::Op(OpId(place as u32)))?;
+        self.named.push(name)?;
+        Ok(())
+    }
+
+    /// The last two trees of the path, one after the other.
+    fn sequence(&mut self, alloc: A, at: u32) -> Result<(), DeclFault>
+        ensures ok { OnOk result (Allowed a_sequence (drafted self.old) × (drafted self.new ≡ after a_sequence (drafted self.old))) }
+        ensures err { IfErr result (λ e. Fails e (Allowed a_sequence (drafted self.old) → ⊥)) }
+    {
+        let Some(right) = self.open_trees.pop() else {
+            return Err(DeclFault::Unexpected(at));
+        };
+        let Some(left) = self.open_trees.pop() else {
+            return Err(DeclFault::Unexpected(at));
+        };
+        let left = Box::new(alloc, left)?;
+        let right = Box::new(alloc, right)?;
+        self.open_trees.push(Expr::Seq(left, right))?;
+        Ok(())
+    }
+
+    /// One of the last two trees of the path.
+    fn selection(&mut self, alloc: A, at: u32) -> Result<(), DeclFault>
+        ensures ok { OnOk result (Allowed a_selection (drafted self.old) × (drafted self.new ≡ after a_selection (drafted self.old))) }
+        ensures err { IfErr result (λ e. Fails e (Allowed a_selection (drafted self.old) → ⊥)) }
+    {
+        let Some(right) = self.open_trees.pop() else {
+            return Err(DeclFault::Unexpected(at));
+        };
+        let Some(left) = self.open_trees.pop() else {
+            return Err(DeclFault::Unexpected(at));
+        };
+        let left = Box::new(alloc, left)?;
+        let right = Box::new(alloc, right)?;
+        self.open_trees.push(Expr::Alt(left, right))?;
+        Ok(())
+    }
+
+    /// The path ends.
+    fn end(&mut self, at: u32) -> Result<(), DeclFault>
+        ensures ok { OnOk result (Allowed an_end (drafted self.old) × (drafted self.new ≡ after an_end (drafted self.old))) }
+        ensures err { IfErr result (λ e. Fails e (Allowed an_end (drafted self.old) → ⊥)) }
+    {
+        let Some(tree) = self.open_trees.pop() else {
+            return Err(DeclFault::Unexpected(at));
+        };
+        self.paths.push(PathEntry {
+            resource: self.resource,
+            tree,
+        })?;
+        self.open_trees.clear();
+        self.named.clear();
+        Ok(())
+    }
+
+    /// Takes a part.
+    pub(crate) fn take(&mut self, alloc: A, part: PlacedPart<'a>) -> Result<(), DeclFault>
+        requires { length self.old.operations.entries ≤ 256 }
+        ensures ok { OnOk result (Allowed (saying part.entry.part) (drafted self.old) × (drafted self.new ≡ after (saying part.entry.part) (drafted self.old))) }
+        ensures err { IfErr result (λ e. Fails e (Allowed (saying part.entry.part) (drafted self.old) → ⊥)) }
+    {
+        match part.part {
+            Part::Resource(name) => self.resource(alloc, name, part.at),
+            Part::Operation(name) => self.operation(alloc, name, part.at),
+            Part::Path => self.path(part.at),
+            Part::Name(name) => self.name(name, part.at),
+            Part::Sequence => self.sequence(alloc, part.at),
+            Part::Selection => self.selection(alloc, part.at),
+            Part::End => self.end(part.at),
+        }
+    }
+}
+
+/// Takes the parts of a file, one after the other. The first part that breaks a rule is named.
+pub(crate) fn build<'a, A: Allocator + Copy>(
+    alloc: A,
+    parts: &[PlacedPart<'a>],
+) -> Result<Draft<'a, A>, DeclFault>
+    ensures built { IfOk result (λ d. AllAllowed (sayings parts.now) nothing × (drafted d ≡ after_all (sayings parts.now) nothing)) }
+    ensures none { IfErr result (λ e. Fails e (AllAllowed (sayings parts.now) nothing → ⊥)) }
+{
+    let mut draft = Draft::new(alloc);
+    for part in parts {
+        draft.take(alloc, *part)?;
+    }
+    Ok(draft)
+}

@@ -1,0 +1,92 @@
+//! Paths: from tokens to parts, by the grammar.
+
+ghost use Rattle.std.specs.Prelude.{ℕ, ◌<◌, List, length, IfOk, IfErr};
+ghost use Rattle.path_decl.specs.Spelling.{Piece};
+ghost use Rattle.path_decl.specs.Forms.{Form};
+ghost use Rattle.path_decl.specs.Parts.{sayings, form_parts};
+ghost use Rattle.path_decl.specs.Reading.{told, Fails, Adds, ReadsUnit, ReadsAlt, ReadsSeq};
+
+use crate::ahead::{after_sign, place, split_name};
+use crate::fault::DeclFault;
+use crate::part::{Part, PlacedPart};
+use crate::token::{Sign, Token};
+use std::alloc::Allocator;
+
+/// Reads a name, or a sequence in parentheses, of which at most `depth` may be open, and adds its parts. Answers the
+/// tokens after it.
+#[cycle(grammar)]
+fn unit<'t, 'a, A: Allocator + Copy>(
+    out: &mut Vec<PlacedPart<'a>, A>,
+    tokens: &'t [Token<'a>],
+    end: u32,
+    depth: u32,
+) -> Result<&'t [Token<'a>], DeclFault>
+    ensures found { IfOk result (λ rest. Adds form_parts (ReadsUnit depth (told tokens.now) (told rest.now)) (sayings out.old.items) (sayings out.new.items)) }
+    ensures shorter { IfOk result (λ rest. length rest.now < length tokens.now) }
+    ensures none { IfErr result (λ e. Fails e ((rest : List Piece) (f : Form) → ReadsUnit depth (told tokens.now) rest f → ⊥)) }
+{
+    if let Some((name, at, rest)) = split_name(tokens) {
+        out.push(PlacedPart {
+            part: Part::Name(name),
+            at,
+        })?;
+        return Ok(rest);
+    }
+    let Some((at, inside)) = after_sign(tokens, Sign::OpenParen) else {
+        return Err(DeclFault::Unexpected(place(tokens, end)));
+    };
+    if depth == 0 {
+        return Err(DeclFault::TooDeep(at));
+    }
+    let left = seq(out, inside, end, depth - 1)?;
+    let Some((_, rest)) = after_sign(left, Sign::CloseParen) else {
+        return Err(DeclFault::Unexpected(place(left, end)));
+    };
+    Ok(rest)
+}
+
+/// Reads units of which one is chosen, and adds their parts.
+#[cycle(grammar)]
+fn alt<'t, 'a, A: Allocator + Copy>(
+    out: &mut Vec<PlacedPart<'a>, A>,
+    tokens: &'t [Token<'a>],
+    end: u32,
+    depth: u32,
+) -> Result<&'t [Token<'a>], DeclFault>
+    ensures found { IfOk result (λ rest. Adds form_parts (ReadsAlt depth (told tokens.now) (told rest.now)) (sayings out.old.items) (sayings out.new.items)) }
+    ensures shorter { IfOk result (λ rest. length rest.now < length tokens.now) }
+    ensures none { IfErr result (λ e. Fails e ((rest : List Piece) (f : Form) → ReadsAlt depth (told tokens.now) rest f → ⊥)) }
+{
+    let mut rest = unit(out, tokens, end, depth)?;
+    while let Some((at, left)) = after_sign(rest, Sign::Comma) {
+        rest = unit(out, left, end, depth)?;
+        out.push(PlacedPart {
+            part: Part::Selection,
+            at,
+        })?;
+    }
+    Ok(rest)
+}
+
+/// Reads alternatives, one after the other, and adds their parts.
+#[cycle(grammar)]
+pub(crate) fn seq<'t, 'a, A: Allocator + Copy>(
+    out: &mut Vec<PlacedPart<'a>, A>,
+    tokens: &'t [Token<'a>],
+    end: u32,
+    depth: u32,
+) -> Result<&'t [Token<'a>], DeclFault>
+    ensures found { IfOk result (λ rest. Adds form_parts (ReadsSeq depth (told tokens.now) (told rest.now)) (sayings out.old.items) (sayings out.new.items)) }
+    ensures shorter { IfOk result (λ rest. length rest.now < length tokens.now) }
+    ensures none { IfErr result (λ e. Fails e ((rest : List Piece) (f : Form) → ReadsSeq depth (told tokens.now) rest f → ⊥)) }
+{
+    let mut rest = alt(out, tokens, end, depth)?;
+    while let Some((at, left)) = after_sign(rest, Sign::Semicolon) {
+        rest = alt(out, left, end, depth)?;
+        out.push(PlacedPart {
+            part: Part::Sequence,
+            at,
+        })?;
+    }
+    Ok(rest)
+}

@@ -1,0 +1,27 @@
+//! What a declaration text says, part by part.
+
+/// A part of what a text says. In a path operands come before their operator.
+#[derive(Clone, Copy, Debug)]
+pub(crate) enum Part<'a> {
+    /// A resource has this name.
+    Resource(&'a str),
+    /// The resource has an operation of this name.
+    Operation(&'a str),
+    /// A path of the resource begins.
+    Path,
+    /// An operation in the path.
+    Name(&'a str),
+    /// The last two of the path, one after the other.
+    Sequence,
+    /// One of the last two of the path.
+    Selection,
+    /// The path ends.
+    End,
+}
+
+/// A part, and the offset of the first byte of its token.
+#[derive(Clone, Copy, Debug)]
+pub(crate) struct PlacedPart<'a> {
+    pub(crate) part: Part<'a>,
+    pub(crate) at: u32,
+}

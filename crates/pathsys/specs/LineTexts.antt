@@ -1,0 +1,78 @@
+-- The texts of attempts, replies and the lines of a journal. Each value has one text.
+use Rattle.std.specs.Prelude.{ℕ, ◌<◌, ◌^◌, List, ◌∷◌, ◌++◌, length, map, codes, decimal, slice_get, Option, Some, None}
+use Rattle.path_model.specs.declared.ids.OpId.{OpId}
+use Rattle.path_model.specs.declared.journal.Verb.{Verb}
+use Rattle.path_model.specs.declared.journal.Verb.TheVariants.{Put, Take, Look, Add}
+use Rattle.path_model.specs.declared.journal.Attempt.{Attempt}
+use Rattle.path_model.specs.declared.journal.Attempt.TheVariants.{Start, Apply, Finish}
+use Rattle.path_model.specs.declared.journal.Reply.{Reply}
+use Rattle.path_model.specs.declared.journal.Reply.TheVariants.{Started, Blocked, UnknownOperation, Used, NotOffered, Empty, Full, Overflow, DeviceFailed, Finished, Stale, NotYours, NoRoom}
+use Rattle.path_model.specs.declared.journal.Line.{Line}
+use Rattle.path_model.specs.Declarations.{Declaration}
+
+-- what is asked of a device
+abbrev pub verb_text : Verb → List ℕ
+verb_text (Put x) = codes "put " ++ decimal x
+verb_text Take = codes "take"
+verb_text Look = codes "look"
+verb_text (Add x) = codes "add " ++ decimal x
+
+-- the names of all operations, in order
+abbrev pub operation_names : Declaration → List (List ℕ)
+operation_names d = map (λ o. o.name) d.operations
+
+-- a name, or `#` and a number where there is none
+abbrev pub name_or_number : Option (List ℕ) → ℕ → List ℕ
+name_or_number (Some name) n = name
+name_or_number None n = 35 ∷ decimal n
+
+-- a declared operation by its name, any other by its number
+abbrev pub operation_text : Declaration → OpId → List ℕ
+operation_text d a = name_or_number (slice_get (operation_names d) a.0) a.0
+
+-- which activation is used, and how
+abbrev pub use_text : ℕ → Verb → List ℕ
+use_text n verb = decimal n ++ (32 ∷ verb_text verb)
+
+-- what is attempted
+abbrev pub attempt_text : Declaration → Attempt → List ℕ
+attempt_text d (Start a) = codes "start " ++ operation_text d a
+attempt_text d (Apply n verb) = codes "use " ++ use_text n.0 verb
+attempt_text d (Finish n) = codes "finish " ++ decimal n.0
+
+-- who attempts it, and what
+abbrev pub line_text : Declaration → ℕ → Attempt → List ℕ
+line_text d w a = decimal w ++ (32 ∷ attempt_text d a)
+
+-- what a worker is told
+abbrev pub reply_text : Reply → List ℕ
+reply_text (Started n) = codes "started " ++ decimal n.0
+reply_text (Blocked p) = codes "blocked " ++ decimal p.0
+reply_text UnknownOperation = codes "unknown operation"
+reply_text (Used x) = codes "used " ++ decimal x
+reply_text NotOffered = codes "not offered"
+reply_text Empty = codes "empty"
+reply_text Full = codes "full"
+reply_text Overflow = codes "overflow"
+reply_text DeviceFailed = codes "device failed"
+reply_text Finished = codes "finished"
+reply_text Stale = codes "stale"
+reply_text NotYours = codes "not yours"
+reply_text NoRoom = codes "no room"
+
+-- a line of a journal: the attempt, a colon, a space, the reply
+abbrev pub journal_line_text : Declaration → Line → List ℕ
+journal_line_text d l = line_text d l.worker l.attempt ++ (codes ": " ++ reply_text l.reply)
+
+-- the number of a verb has at most 64 bits
+abbrev pub VerbFits : Verb → Type 0
+VerbFits (Put x) = x < 2 ^ 64
+VerbFits Take = Unit {0}
+VerbFits Look = Unit {0}
+VerbFits (Add x) = x < 2 ^ 64
+
+-- the operation is declared, and each number has at most 64 bits
+abbrev pub AttemptFits : Declaration → Attempt → Type 0
+AttemptFits d (Start a) = a.0 < length d.operations
+AttemptFits d (Apply n verb) = (n.0 < 2 ^ 64) × VerbFits verb
+AttemptFits d (Finish n) = n.0 < 2 ^ 64

@@ -1,0 +1,53 @@
+//! Bounded files and standard input.
+
+use crate::input::read_all;
+use crate::tell::{NO_MEMORY, STREAM_FAILED, tell};
+use std::io::Write;
+use std::rt::Files;
+use std::{fs, io};
+
+/// Why there is no text.
+#[derive(Clone, Copy, Debug, PartialEq, Eq)]
+pub enum Unread {
+    /// The file or stream can't be read.
+    Unreadable,
+    /// It has more bytes than are taken.
+    TooLong,
+    /// Memory is wanted.
+    OutOfMemory,
+}
+
+fn settled(read: io::Result<Option<Vec<u8>>>) -> Result<Vec<u8>, Unread> {
+    match read {
+        Ok(Some(bytes)) => Ok(bytes),
+        Ok(None) => Err(Unread::TooLong),
+        Err(error) if error.kind() == io::ErrorKind::OutOfMemory => Err(Unread::OutOfMemory),
+        Err(_) => Err(Unread::Unreadable),
+    }
+}
+
+/// The bytes of a file.
+pub fn read_file<R: Files + AllocGlobal>(rt: &R, path: &str) -> Result<Vec<u8>, Unread> {
+    match fs::open(rt, path) {
+        Ok(file) => settled(read_all(rt.alloc(), file)),
+        Err(error) => settled(Err(error)),
+    }
+}
+
+/// The bytes of standard input.
+pub fn read_stdin<R: Input + AllocGlobal>(rt: &R) -> Result<Vec<u8>, Unread> {
+    settled(read_all(rt.alloc(), rt.reader()))
+}
+
+/// Tells on standard error why there is no text, and answers the status.
+pub fn tell_unread<E: Write>(err: &mut E, name: &str, why: Unread) -> u8 {
+    match why {
+        Unread::Unreadable => tell(
+            err,
+            format_args!("file: {name}: cannot read"),
+            STREAM_FAILED,
+        ),
+        Unread::TooLong => tell(err, format_args!("file: {name}: too long"), STREAM_FAILED),
+        Unread::OutOfMemory => tell(err, "out of memory", NO_MEMORY),
+    }
+}
