@@ -98,16 +98,16 @@ pub after_file : (qs : List ResourceForm) (R : List Resource) (O : List Operatio
 after_file [] R O P r = record { resources = sym (append-nil R); operations = sym (append-nil O); paths = sym (append-nil P) }
 after_file (q ∷ qs) R O P r =
     let k : ℕ = length R in
-    let R1 : List Resource = R ++ resource_from q ∷ [] in
-    let O1 : List Operation = O ++ owned k q.operations in
-    let P1 : List Path = P ++ map (made_path O1 k) q.paths in
+    let Rq : List Resource = R ++ resource_from q ∷ [] in
+    let Oq : List Operation = O ++ owned k q.operations in
+    let Pq : List Path = P ++ map (made_path Oq k) q.paths in
     let e = after_all-append (resource_parts q) (file_parts qs) (base R O P r) ∙ ap (after_all (file_parts qs)) (after_resource q R O P r) in
-    let m = after_file qs R1 O1 P1 k in
-    let l : length R1 ≡ k + 1 = longer R (resource_from q) in
+    let m = after_file qs Rq Oq Pq k in
+    let l : length Rq ≡ k + 1 = longer R (resource_from q) in
     record {
       resources = ap (λ d. d.resources) e ∙ m.resources ∙ append_assoc R (resource_from q ∷ []) (map resource_from qs);
-      operations = ap (λ d. d.operations) e ∙ m.operations ∙ ap (λ n. O1 ++ operations_from n qs) l ∙ append_assoc O (owned k q.operations) (operations_from (k + 1) qs);
-      paths = ap (λ d. d.paths) e ∙ m.paths ∙ ap (λ n. P1 ++ made_paths O1 n qs) l ∙ append_assoc P (map (made_path O1 k) q.paths) (made_paths O1 (k + 1) qs);
+      operations = ap (λ d. d.operations) e ∙ m.operations ∙ ap (λ n. Oq ++ operations_from n qs) l ∙ append_assoc O (owned k q.operations) (operations_from (k + 1) qs);
+      paths = ap (λ d. d.paths) e ∙ m.paths ∙ ap (λ n. Pq ++ made_paths Oq n qs) l ∙ append_assoc P (map (made_path Oq k) q.paths) (made_paths Oq (k + 1) qs);
     }
 
 -- what the paths of a file ask for
@@ -135,20 +135,20 @@ pub file_kept : (qs : List ResourceForm) (R : List Resource) (O : List Operation
 file_kept [] R O P r le a = record { resources = tt; operations = tt; paths = tt; room = omega arith }
 file_kept (q ∷ qs) R O P r le a =
     let k : ℕ = length R in
-    let R1 : List Resource = R ++ resource_from q ∷ [] in
-    let O1 : List Operation = O ++ owned k q.operations in
-    let P1 : List Path = P ++ map (made_path O1 k) q.paths in
+    let Rq : List Resource = R ++ resource_from q ∷ [] in
+    let Oq : List Operation = O ++ owned k q.operations in
+    let Pq : List Path = P ++ map (made_path Oq k) q.paths in
     let here = allowed_front (resource_parts q) (file_parts qs) (base R O P r) a in
     let rest = subst (AllAllowed (file_parts qs)) (after_resource q R O P r) (allowed_back (resource_parts q) (file_parts qs) (base R O P r) a) in
-    let os = operations_kept q.operations R1 O P k (allowed_front (map an_operation q.operations) (path_parts q.paths) (base R1 O P k) here.1) in
-    let ps = paths_kept q.paths R1 O1 P k le (subst (AllAllowed (path_parts q.paths)) (after_operations q.operations R1 O P k) (allowed_back (map an_operation q.operations) (path_parts q.paths) (base R1 O P k) here.1)) in
-    let long : length P1 ≡ length P + length q.paths = simp (length-append, length-map) in
-    let m = file_kept qs R1 O1 P1 k (omega (arith, ps.1)) rest in
+    let os = operations_kept q.operations Rq O P k (allowed_front (map an_operation q.operations) (path_parts q.paths) (base Rq O P k) here.1) in
+    let ps = paths_kept q.paths Rq Oq P k le (subst (AllAllowed (path_parts q.paths)) (after_operations q.operations Rq O P k) (allowed_back (map an_operation q.operations) (path_parts q.paths) (base Rq O P k) here.1)) in
+    let long : length Pq ≡ length P + length q.paths = simp (length-append, length-map) in
+    let m = file_kept qs Rq Oq Pq k (omega (arith, ps.1)) rest in
     let room : length (map (λ x. x.name) R) < 64 = simp length-map here.0.1 in
     record {
       resources = (here.0.0, room, subst (λ z. Fresh 64 z (map (λ x. x.name) qs)) (one_resource_more R q) m.resources);
       operations = fresh-append 256 (operation_names O) q.operations (all_operations qs) os (subst (λ z. Fresh 256 z (all_operations qs)) (names_with O k q.operations) m.operations);
-      paths = (ps.0, subst (λ n. FileFits O1 n qs) (longer R (resource_from q)) m.paths);
+      paths = (ps.0, subst (λ n. FileFits Oq n qs) (longer R (resource_from q)) m.paths);
       room = simp length-append (omega (arith, m.room));
     }
 
@@ -156,19 +156,19 @@ pub file_allowed : (qs : List ResourceForm) (R : List Resource) (O : List Operat
 file_allowed [] R O P r m = tt
 file_allowed (q ∷ qs) R O P r m =
     let k : ℕ = length R in
-    let R1 : List Resource = R ++ resource_from q ∷ [] in
-    let O1 : List Operation = O ++ owned k q.operations in
-    let P1 : List Path = P ++ map (made_path O1 k) q.paths in
+    let Rq : List Resource = R ++ resource_from q ∷ [] in
+    let Oq : List Operation = O ++ owned k q.operations in
+    let Pq : List Path = P ++ map (made_path Oq k) q.paths in
     let few : length R < 64 = simp length-map at m.resources.1 in
     let all : length P + (length q.paths + length (all_paths qs)) ≤ 256 = simp length-append at m.room in
-    let long : length P1 ≡ length P + length q.paths = simp (length-append, length-map) in
-    let os = operations_allowed q.operations R1 O P k (fresh_front 256 (operation_names O) q.operations (all_operations qs) m.operations) in
-    let ps = paths_allowed q.paths R1 O1 P k m.paths.0 (omega (arith, all)) in
-    let here = allowed-append (map an_operation q.operations) (path_parts q.paths) (base R1 O P k) os (subst (AllAllowed (path_parts q.paths)) (sym (after_operations q.operations R1 O P k)) ps) in
-    let next : Keeps R1 O1 P1 qs = record {
+    let long : length Pq ≡ length P + length q.paths = simp (length-append, length-map) in
+    let os = operations_allowed q.operations Rq O P k (fresh_front 256 (operation_names O) q.operations (all_operations qs) m.operations) in
+    let ps = paths_allowed q.paths Rq Oq P k m.paths.0 (omega (arith, all)) in
+    let here = allowed-append (map an_operation q.operations) (path_parts q.paths) (base Rq O P k) os (subst (AllAllowed (path_parts q.paths)) (sym (after_operations q.operations Rq O P k)) ps) in
+    let next : Keeps Rq Oq Pq qs = record {
       resources = subst (λ z. Fresh 64 z (map (λ x. x.name) qs)) (sym (one_resource_more R q)) m.resources.2;
       operations = subst (λ z. Fresh 256 z (all_operations qs)) (sym (names_with O k q.operations)) (fresh_back 256 (operation_names O) q.operations (all_operations qs) m.operations);
-      paths = subst (λ n. FileFits O1 n qs) (sym (longer R (resource_from q))) m.paths.1;
+      paths = subst (λ n. FileFits Oq n qs) (sym (longer R (resource_from q))) m.paths.1;
       room = omega (arith, all, long);
     } in
-    allowed-append (resource_parts q) (file_parts qs) (base R O P r) ((m.resources.0, few), here) (subst (AllAllowed (file_parts qs)) (sym (after_resource q R O P r)) (file_allowed qs R1 O1 P1 k next))
+    allowed-append (resource_parts q) (file_parts qs) (base R O P r) ((m.resources.0, few), here) (subst (AllAllowed (file_parts qs)) (sym (after_resource q R O P r)) (file_allowed qs Rq Oq Pq k next))
