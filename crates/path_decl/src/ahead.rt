@@ -24,9 +24,7 @@ pub(crate) fn after_sign<'t, 'a>(
     ensures shorter { IfSome result (λ p. length p.1.now < length tokens.now) }
     ensures none { IfNone result (Begins (a_sign wanted) (told tokens.now) → ⊥) }
 {
-    let Some((first, rest)) = tokens.split_first() else {
-        return None;
-    };
+    let (first, rest) = tokens.split_first()?;
     let Kind::Sign(sign) = first.kind else {
         return None;
     };
@@ -46,9 +44,7 @@ pub(crate) fn after_word<'t, 'a>(
     ensures shorter { IfSome result (λ p. length p.1.now < length tokens.now) }
     ensures none { IfNone result (Begins (a_word wanted) (told tokens.now) → ⊥) }
 {
-    let Some((first, rest)) = tokens.split_first() else {
-        return None;
-    };
+    let (first, rest) = tokens.split_first()?;
     let Kind::Reserved(word) = first.kind else {
         return None;
     };
@@ -65,9 +61,7 @@ pub(crate) fn split_name<'t, 'a>(tokens: &'t [Token<'a>]) -> Option<(&'a str, u3
     ensures shorter { IfSome result (λ p. length p.2.now < length tokens.now) }
     ensures none { IfNone result ((n : List ℕ) → Begins (a_name n) (told tokens.now) → ⊥) }
 {
-    let Some((first, rest)) = tokens.split_first() else {
-        return None;
-    };
+    let (first, rest) = tokens.split_first()?;
     let Kind::Name(name) = first.kind else {
         return None;
     };

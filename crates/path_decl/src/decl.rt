@@ -52,9 +52,7 @@ pub fn operation<A: Allocator + Copy>(decl: &Decl<A>, name: &str) -> Option<OpId
     ensures some { IfSome result (λ a. slice_get (map (λ o. o.name) decl.now.operations) a.0 ≡ Some name.now) }
     ensures none { IfNone result (Contains (map (λ o. o.name) decl.now.operations) name.now → ⊥) }
 {
-    let Some(place) = decl.operations.get_index_of(name) else {
-        return None;
-    };
+    let place = decl.operations.get_index_of(name)?;
     Some(OpId(place as u32))
 }
 
@@ -63,9 +61,7 @@ pub fn resource<A: Allocator + Copy>(decl: &Decl<A>, name: &str) -> Option<ResId
     ensures some { IfSome result (λ r. slice_get (map (λ r. r.name) decl.now.resources) r.0 ≡ Some name.now) }
     ensures none { IfNone result (Contains (map (λ r. r.name) decl.now.resources) name.now → ⊥) }
 {
-    let Some(place) = decl.resources.get_index_of(name) else {
-        return None;
-    };
+    let place = decl.resources.get_index_of(name)?;
     Some(ResId(place as u32))
 }
 

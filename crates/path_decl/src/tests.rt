@@ -11,6 +11,9 @@ mod limits;
 
 const SLOT: &str = "resource slot cell operation deposit, remove path deposit ; remove end end";
 
+const SEVERAL: &str = "resource r cell operation a, b, c path a ; b ; c end path b , a ; c end end
+    resource s cell operation d, r path (d ,r) end path d;(r) end end";
+
 // The fault of a text, if it has one.
 fn fault_of(heap: Global, text: &[u8]) -> Option<DeclFault> {
     match read(heap, text) {
@@ -21,6 +24,13 @@ fn fault_of(heap: Global, text: &[u8]) -> Option<DeclFault> {
 
 fn expect_fault(rt: &impl Abort, heap: Global, text: &[u8], want: DeclFault) {
     assert_eq!(rt; fault_of(heap, text), Some(want));
+}
+
+// Each text has the fault beside it.
+fn expect_faults(rt: &impl Abort, heap: Global, rows: &[(&str, DeclFault)]) {
+    for (text, want) in rows {
+        assert_eq!(rt; fault_of(heap, text.as_bytes()), Some(*want), "at {text:?}");
+    }
 }
 
 fn expect_read(rt: &impl Abort, heap: Global, text: &[u8]) {
@@ -59,63 +69,95 @@ fn drawn(heap: Global, decl: &Decl, path: u32) -> Result<String, AllocError> {
     }
 }
 
+fn declared(heap: Global, text: &str) -> Result<Decl, DeclFault> {
+    read(heap, text.as_bytes())
+}
+
 #[test]
-fn slot_names(rt: HostRuntime) -> Result<(), Fail> {
-    let decl = read(rt.alloc(), SLOT.as_bytes())?;
-    assert_eq!(rt; operation(&decl, "deposit"), Some(OpId(0)));
-    assert_eq!(rt; operation(&decl, "remove"), Some(OpId(1)));
-    assert_eq!(rt; operation(&decl, "slot"), None);
-    assert_eq!(rt; resource(&decl, "slot"), Some(ResId(0)));
-    assert_eq!(rt; resource(&decl, "remove"), None);
-    assert_eq!(rt; op_name(&decl, OpId(1)), Some("remove"));
-    assert_eq!(rt; op_name(&decl, OpId(2)), None);
-    assert_eq!(rt; resource_name(&decl, ResId(0)), Some("slot"));
-    assert_eq!(rt; resource_name(&decl, ResId(1)), None);
+fn slot_by_name(rt: HostRuntime) -> Result<(), Fail> {
+    let decl = declared(rt.alloc(), SLOT)?;
+    let rows = [
+        ("deposit", Some(OpId(0)), None),
+        ("remove", Some(OpId(1)), None),
+        ("slot", None, Some(ResId(0))),
+        ("buffer", None, None),
+    ];
+    for (name, op, own) in rows {
+        assert_eq!(rt; operation(&decl, name), op, "at {name}");
+        assert_eq!(rt; resource(&decl, name), own, "at {name}");
+    }
     Ok(())
 }
 
 #[test]
-fn slot_numbers(rt: HostRuntime) -> Result<(), Fail> {
-    let decl = read(rt.alloc(), SLOT.as_bytes())?;
-    assert_eq!(rt; law_of(&decl, ResId(0)), Some(Law::Cell));
-    assert_eq!(rt; law_of(&decl, ResId(1)), None);
-    assert_eq!(rt; resource_of(&decl, OpId(1)), Some(ResId(0)));
-    assert_eq!(rt; path_resource(&decl, PathId(0)), Some(ResId(0)));
-    assert_eq!(rt; path_resource(&decl, PathId(1)), None);
-    assert_eq!(rt;
-        counts(&decl),
-        Counts {
-            resources: 1,
-            operations: 2,
-            paths: 1
-        }
-    );
-    assert_eq!(rt; drawn(rt.alloc(), &decl, 0)?.as_str(), "(; 0 1)");
-    assert_eq!(rt; drawn(rt.alloc(), &decl, 1)?.as_str(), "none");
+fn slot_by_number(rt: HostRuntime) -> Result<(), Fail> {
+    let decl = declared(rt.alloc(), SLOT)?;
+    let rows = [
+        (0, Some("deposit"), Some("slot")),
+        (1, Some("remove"), None),
+        (2, None, None),
+    ];
+    for (number, op, own) in rows {
+        assert_eq!(rt; op_name(&decl, OpId(number)), op, "at {number}");
+        assert_eq!(rt; resource_name(&decl, ResId(number)), own, "at {number}");
+    }
     Ok(())
+}
+
+#[test]
+fn owners(rt: HostRuntime) -> Result<(), Fail> {
+    let decl = declared(rt.alloc(), SEVERAL)?;
+    let first = Some(ResId(0));
+    let second = Some(ResId(1));
+    let rows = [
+        (0, Some(Law::Cell), first, first),
+        (1, Some(Law::Cell), first, first),
+        (2, None, first, second),
+        (3, None, second, second),
+        (4, None, second, None),
+        (5, None, None, None),
+    ];
+    for (number, law, of_operation, of_path) in rows {
+        assert_eq!(rt; law_of(&decl, ResId(number)), law, "at {number}");
+        assert_eq!(rt;
+            resource_of(&decl, OpId(number)),
+            of_operation,
+            "at {number}"
+        );
+        assert_eq!(rt;
+            path_resource(&decl, PathId(number)),
+            of_path,
+            "at {number}"
+        );
+    }
+    Ok(())
+}
+
+// How many resources, operations and paths a text declares.
+fn counted(heap: Global, text: &str) -> Result<(u32, u32, u32), DeclFault> {
+    let counts = counts(&read(heap, text.as_bytes())?);
+    Ok((counts.resources, counts.operations, counts.paths))
+}
+
+#[test]
+fn totals(rt: HostRuntime) {
+    assert_eq!(rt; counted(rt.alloc(), SLOT), Ok((1, 2, 1)));
+    assert_eq!(rt; counted(rt.alloc(), SEVERAL), Ok((2, 5, 4)));
 }
 
 #[test]
 fn several_paths(rt: HostRuntime) -> Result<(), Fail> {
-    let text = "resource r cell operation a, b, c path a ; b ; c end path a , b ; c end
-        resource s cell operation d, e path d ; ( e ) end end";
-    let decl = read(rt.alloc(), text.as_bytes());
-    assert!(rt; decl.is_err());
-    let text = "resource r cell operation a, b, c path a ; b ; c end path b , a ; c end end
-        resource s cell operation d, r path (d ,r) end path d;(r) end end";
-    let decl = read(rt.alloc(), text.as_bytes())?;
-    assert_eq!(rt;
-        counts(&decl),
-        Counts {
-            resources: 2,
-            operations: 5,
-            paths: 4
-        }
-    );
-    assert_eq!(rt; drawn(rt.alloc(), &decl, 0)?.as_str(), "(; (; 0 1) 2)");
-    assert_eq!(rt; drawn(rt.alloc(), &decl, 1)?.as_str(), "(; (, 1 0) 2)");
-    assert_eq!(rt; drawn(rt.alloc(), &decl, 2)?.as_str(), "(, 3 4)");
-    assert_eq!(rt; drawn(rt.alloc(), &decl, 3)?.as_str(), "(; 3 4)");
+    let decl = declared(rt.alloc(), SEVERAL)?;
+    let rows = [
+        (0, "(; (; 0 1) 2)"),
+        (1, "(; (, 1 0) 2)"),
+        (2, "(, 3 4)"),
+        (3, "(; 3 4)"),
+        (4, "none"),
+    ];
+    for (path, want) in rows {
+        assert_eq!(rt; drawn(rt.alloc(), &decl, path)?.as_str(), want, "at {path}");
+    }
     Ok(())
 }
 
@@ -137,126 +179,102 @@ fn listed(heap: Global, decl: &Decl, op: u32) -> Result<String, AllocError> {
 fn paths_that_name(rt: HostRuntime) -> Result<(), Fail> {
     let text = "resource r cell operation a, b, c path a ; b end path b end path a ; (b) end end
         resource s cell operation d path d end end";
-    let heap = rt.alloc();
-    let decl = read(heap, text.as_bytes())?;
-    assert_eq!(rt; listed(heap, &decl, 0)?.as_str(), " 0 2");
-    assert_eq!(rt; listed(heap, &decl, 1)?.as_str(), " 0 1 2");
-    assert_eq!(rt; listed(heap, &decl, 2)?.as_str(), "");
-    assert_eq!(rt; listed(heap, &decl, 3)?.as_str(), " 3");
-    assert_eq!(rt; listed(heap, &decl, 4)?.as_str(), "none");
-    assert_eq!(rt; path_resource(&decl, PathId(3)), Some(ResId(1)));
-    assert_eq!(rt; resource_of(&decl, OpId(3)), Some(ResId(1)));
+    let decl = declared(rt.alloc(), text)?;
+    let rows = [(0, " 0 2"), (1, " 0 1 2"), (2, ""), (3, " 3"), (4, "none")];
+    for (op, want) in rows {
+        assert_eq!(rt; listed(rt.alloc(), &decl, op)?.as_str(), want, "at {op}");
+    }
     Ok(())
 }
 
 #[test]
 fn first_faults(rt: HostRuntime) {
-    let heap = rt.alloc();
-    expect_fault(&rt, heap, b"", DeclFault::Unexpected(0));
-    expect_fault(
-        &rt,
-        heap,
-        b"resource r cell operation a, b path a ;",
-        DeclFault::Unexpected(39),
-    );
-    expect_fault(&rt, heap, b"resource \xC3", DeclFault::BadByte(9));
-    expect_fault(&rt, heap, b"resource _r", DeclFault::BadByte(9));
-    expect_fault(&rt, heap, b"resource 7_", DeclFault::BadByte(10));
+    let rows = [
+        ("", DeclFault::Unexpected(0)),
+        (
+            "resource r cell operation a, b path a ;",
+            DeclFault::Unexpected(39),
+        ),
+        ("resource \u{C3}", DeclFault::BadByte(9)),
+        ("resource _r", DeclFault::BadByte(9)),
+        ("resource 7_", DeclFault::BadByte(10)),
+    ];
+    expect_faults(&rt, rt.alloc(), &rows);
 }
 
 #[test]
 fn unexpected_tokens(rt: HostRuntime) {
-    let heap = rt.alloc();
-    expect_fault(&rt, heap, b"resource resource", DeclFault::Unexpected(9));
-    expect_fault(
-        &rt,
-        heap,
-        b"resource r tally operation a end",
-        DeclFault::Unexpected(11),
-    );
-    expect_fault(
-        &rt,
-        heap,
-        b"resource r queue 2 operation a end",
-        DeclFault::Unexpected(11),
-    );
-    expect_fault(
-        &rt,
-        heap,
-        b"resource r cell operation a path { a } end end",
-        DeclFault::Unexpected(33),
-    );
-    expect_fault(
-        &rt,
-        heap,
-        b"resource r cell operation a, end",
-        DeclFault::Unexpected(29),
-    );
-    expect_fault(
-        &rt,
-        heap,
-        b"resource r cell operation a end end",
-        DeclFault::Unexpected(32),
-    );
+    let rows = [
+        ("resource resource", DeclFault::Unexpected(9)),
+        (
+            "resource r tally operation a end",
+            DeclFault::Unexpected(11),
+        ),
+        (
+            "resource r queue 2 operation a end",
+            DeclFault::Unexpected(11),
+        ),
+        (
+            "resource r cell operation a path { a } end end",
+            DeclFault::Unexpected(33),
+        ),
+        (
+            "resource r cell operation a, end",
+            DeclFault::Unexpected(29),
+        ),
+        (
+            "resource r cell operation a end end",
+            DeclFault::Unexpected(32),
+        ),
+    ];
+    expect_faults(&rt, rt.alloc(), &rows);
 }
 
 #[test]
 fn broken_rules(rt: HostRuntime) {
-    let heap = rt.alloc();
-    expect_fault(
-        &rt,
-        heap,
-        b"resource r cell operation a, b path a ; ( b , a ) end end",
-        DeclFault::RepeatedName(46),
-    );
-    expect_fault(
-        &rt,
-        heap,
-        b"resource r cell operation a, a end",
-        DeclFault::DuplicateOperation(29),
-    );
-    expect_fault(
-        &rt,
-        heap,
-        b"resource r cell operation a end resource r cell operation b end",
-        DeclFault::DuplicateResource(41),
-    );
-    expect_fault(
-        &rt,
-        heap,
-        b"resource r cell operation a end resource t cell operation b path a end end",
-        DeclFault::Undeclared(65),
-    );
-    expect_fault(
-        &rt,
-        heap,
-        b"resource r cell operation a path x end end",
-        DeclFault::Undeclared(33),
-    );
+    let rows = [
+        (
+            "resource r cell operation a, b path a ; ( b , a ) end end",
+            DeclFault::RepeatedName(46),
+        ),
+        (
+            "resource r cell operation a, a end",
+            DeclFault::DuplicateOperation(29),
+        ),
+        (
+            "resource r cell operation a end resource r cell operation b end",
+            DeclFault::DuplicateResource(41),
+        ),
+        (
+            "resource r cell operation a end resource t cell operation b path a end end",
+            DeclFault::Undeclared(65),
+        ),
+        (
+            "resource r cell operation a path x end end",
+            DeclFault::Undeclared(33),
+        ),
+    ];
+    expect_faults(&rt, rt.alloc(), &rows);
 }
 
+// A later token that is worse counts before an earlier one.
 #[test]
 fn stages(rt: HostRuntime) {
-    let heap = rt.alloc();
-    // A later token that is worse counts before an earlier one.
-    expect_fault(
-        &rt,
-        heap,
-        b"resource r cell operation a, a end 1234567890 _",
-        DeclFault::BadByte(46),
-    );
-    expect_fault(
-        &rt,
-        heap,
-        b"resource r cell operation a, a end 1234567890",
-        DeclFault::NumberTooLong(35),
-    );
-    expect_fault(
-        &rt,
-        heap,
-        b"resource r cell operation a, a end 123456789",
-        DeclFault::Unexpected(35),
-    );
+    let rows = [
+        (
+            "resource r cell operation a, a end 1234567890 _",
+            DeclFault::BadByte(46),
+        ),
+        (
+            "resource r cell operation a, a end 1234567890",
+            DeclFault::NumberTooLong(35),
+        ),
+        (
+            "resource r cell operation a, a end 123456789",
+            DeclFault::Unexpected(35),
+        ),
+    ];
+    expect_faults(&rt, rt.alloc(), &rows);
 }
 
 #[test]
@@ -281,30 +299,43 @@ fn each_request_is_refused(rt: HostRuntime) {
 
 #[test]
 fn names(rt: HostRuntime) {
-    assert!(rt; is_name(b"a"));
-    assert!(rt; is_name(b"Path_1"));
-    assert!(rt; is_name(b"x2345678901234567890123456789012"));
-    assert!(rt; !is_name(b"x23456789012345678901234567890123"));
-    assert!(rt; !is_name(b""));
-    assert!(rt; !is_name(b"1a"));
-    assert!(rt; !is_name(b"_a"));
-    assert!(rt; !is_name(b"a-b"));
-    assert!(rt; !is_name(b"queue"));
+    let rows = [
+        ("a", true),
+        ("Path_1", true),
+        ("x2345678901234567890123456789012", true),
+        ("x23456789012345678901234567890123", false),
+        ("", false),
+        ("1a", false),
+        ("_a", false),
+        ("a-b", false),
+        ("queue", false),
+    ];
+    for (text, want) in rows {
+        assert_eq!(rt; is_name(text.as_bytes()), want, "at {text:?}");
+    }
 }
 
 #[test]
 fn fault_texts(rt: HostRuntime) -> Result<(), Fail> {
-    let heap = rt.alloc();
-    let fault = DeclFault::TooLong;
-    assert_eq!(rt; format!(in heap; "{fault}")?.as_str(), "text too long");
-    let fault = DeclFault::BadByte(9);
-    assert_eq!(rt; format!(in heap; "{fault}")?.as_str(), "bad byte at 9");
-    let fault = DeclFault::DuplicateOperation(29);
-    assert_eq!(rt;
-        format!(in heap; "{fault}")?.as_str(),
-        "duplicate operation at 29"
-    );
-    let fault = DeclFault::OutOfMemory;
-    assert_eq!(rt; format!(in heap; "{fault}")?.as_str(), "out of memory");
+    let rows = [
+        (DeclFault::TooLong, "text too long"),
+        (DeclFault::BadByte(9), "bad byte at 9"),
+        (DeclFault::WordTooLong(9), "word too long at 9"),
+        (DeclFault::NumberTooLong(35), "number too long at 35"),
+        (DeclFault::Unexpected(0), "unexpected at 0"),
+        (DeclFault::TooDeep(65), "too deep at 65"),
+        (DeclFault::DuplicateResource(41), "duplicate resource at 41"),
+        (
+            DeclFault::DuplicateOperation(29),
+            "duplicate operation at 29",
+        ),
+        (DeclFault::Undeclared(65), "undeclared at 65"),
+        (DeclFault::RepeatedName(46), "repeated name at 46"),
+        (DeclFault::TooMany(527), "too many at 527"),
+        (DeclFault::OutOfMemory, "out of memory"),
+    ];
+    for (fault, want) in rows {
+        assert_eq!(rt; format!(in rt.alloc(); "{fault}")?.as_str(), want);
+    }
     Ok(())
 }

@@ -32,18 +32,10 @@ fn read_verb(text: &[u8]) -> Option<Verb>
         return Some(Verb::Look);
     }
     if let Some(digits) = after(text, b"put ") {
-        let Some(x) = number(digits) else {
-            return None;
-        };
-        return Some(Verb::Put(x));
+        return Some(Verb::Put(number(digits)?));
     }
-    let Some(digits) = after(text, b"add ") else {
-        return None;
-    };
-    let Some(x) = number(digits) else {
-        return None;
-    };
-    Some(Verb::Add(x))
+    let digits = after(text, b"add ")?;
+    Some(Verb::Add(number(digits)?))
 }
 
 // Which activation is used, and how.
@@ -51,15 +43,9 @@ fn read_use(text: &[u8]) -> Option<(ActId, Verb)>
     ensures some { IfSome result (λ p. (text.now ≡ use_text p.0.0 p.1) × (p.0.0 < 2 ^ 64) × VerbFits p.1) }
     ensures none { IfNone result ((n : ℕ) (v : Verb) → n < 2 ^ 64 → VerbFits v → text.now ≢ use_text n v) }
 {
-    let Some((digits, rest)) = cut(text, b' ') else {
-        return None;
-    };
-    let Some(act) = number(digits) else {
-        return None;
-    };
-    let Some(verb) = read_verb(rest) else {
-        return None;
-    };
+    let (digits, rest) = cut(text, b' ')?;
+    let act = number(digits)?;
+    let verb = read_verb(rest)?;
     Some((ActId(act), verb))
 }
 
@@ -88,23 +74,15 @@ fn read_attempt<A: Allocator + Copy>(decl: &Decl<A>, text: &[u8]) -> Result<Atte
     ensures fault { IfErr result (λ f. IsAttemptFault decl.now text.now f) }
 {
     if let Some(name) = after(text, b"start ") {
-        return match read_operation(decl, name) {
-            Ok(op) => Ok(Attempt::Start(op)),
-            Err(fault) => Err(fault),
-        };
+        let op = read_operation(decl, name)?;
+        return Ok(Attempt::Start(op));
     }
     if let Some(digits) = after(text, b"finish ") {
-        let Some(act) = number(digits) else {
-            return Err(LineFault::Bad);
-        };
+        let act = number(digits).ok_or(LineFault::Bad)?;
         return Ok(Attempt::Finish(ActId(act)));
     }
-    let Some(rest) = after(text, b"use ") else {
-        return Err(LineFault::Bad);
-    };
-    let Some((act, verb)) = read_use(rest) else {
-        return Err(LineFault::Bad);
-    };
+    let rest = after(text, b"use ").ok_or(LineFault::Bad)?;
+    let (act, verb) = read_use(rest).ok_or(LineFault::Bad)?;
     Ok(Attempt::Apply(act, verb))
 }
 
@@ -129,8 +107,6 @@ pub fn read_entry<A: Allocator + Copy>(
     let Ok(worker) = u32::try_from(worker) else {
         return Err(LineFault::Bad);
     };
-    match read_attempt(decl, rest) {
-        Ok(attempt) => Ok((worker, attempt)),
-        Err(fault) => Err(fault),
-    }
+    let attempt = read_attempt(decl, rest)?;
+    Ok((worker, attempt))
 }

@@ -45,13 +45,7 @@ pub fn number(text: &[u8]) -> Option<u64>
         if digit > 9 {
             return None;
         }
-        let Some(shifted) = value.checked_mul(10) else {
-            return None;
-        };
-        let Some(sum) = shifted.checked_add(u64::from(digit)) else {
-            return None;
-        };
-        value = sum;
+        value = value.checked_mul(10)?.checked_add(u64::from(digit))?;
     }
     Some(value)
 }

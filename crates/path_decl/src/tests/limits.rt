@@ -5,39 +5,46 @@ use crate::DeclFault;
 use std::alloc::{AllocError, Global};
 use std::test::Fail;
 
-// Adds a piece so many times.
-fn add(text: &mut String, piece: &str, times: u32) -> Result<(), AllocError> {
+// A front, a piece so many times, and a back.
+fn repeated(
+    heap: Global,
+    front: &str,
+    piece: &str,
+    times: u32,
+    back: &str,
+) -> Result<String, AllocError> {
+    let mut text = String::from_str(heap, front)?;
     for _time in 0..times {
         text.push_str(piece)?;
     }
-    Ok(())
+    text.push_str(back)?;
+    Ok(text)
 }
 
-// Adds a letter with each number below the limit, and a separator before each but the first.
-fn add_numbered(
+// A front, so many names that differ with a sign between them, and a back.
+fn numbered(
     heap: Global,
-    text: &mut String,
-    letter: char,
-    separator: &str,
-    limit: u32,
-) -> Result<(), AllocError> {
-    for number in 0..limit {
-        if number > 0 {
-            text.push_str(separator)?;
-        }
-        let name = format!(in heap; "{letter}{number}")?;
+    front: &str,
+    sign: &str,
+    times: u32,
+    back: &str,
+) -> Result<String, AllocError> {
+    let mut text = String::from_str(heap, front)?;
+    for number in 0..times {
+        let before = if number > 0 { sign } else { "" };
+        let name = format!(in heap; "{before}a{number}")?;
         text.push_str(&name)?;
     }
-    Ok(())
+    text.push_str(back)?;
+    Ok(text)
 }
 
 #[test]
 fn longest_words(rt: HostRuntime) -> Result<(), Fail> {
     let heap = rt.alloc();
-    let mut text = String::from_str(heap, "resource ")?;
-    add(&mut text, "x", 32)?;
+    let text = repeated(heap, "resource ", "x", 32, "")?;
     expect_fault(&rt, heap, text.as_bytes(), DeclFault::Unexpected(41));
-    add(&mut text, "x", 1)?;
+    let text = repeated(heap, "resource ", "x", 33, "")?;
     expect_fault(&rt, heap, text.as_bytes(), DeclFault::WordTooLong(9));
     Ok(())
 }
@@ -45,22 +52,17 @@ fn longest_words(rt: HostRuntime) -> Result<(), Fail> {
 #[test]
 fn longest_text(rt: HostRuntime) -> Result<(), Fail> {
     let heap = rt.alloc();
-    let mut text = String::from_str(heap, SLOT)?;
-    add(&mut text, " ", 65_536 - 74)?;
+    let text = repeated(heap, SLOT, " ", 65_536 - 74, "")?;
     assert_eq!(rt; text.len(), 65_536);
     expect_read(&rt, heap, text.as_bytes());
-    add(&mut text, "_", 1)?;
+    let text = repeated(heap, SLOT, " ", 65_536 - 74, "_")?;
     expect_fault(&rt, heap, text.as_bytes(), DeclFault::TooLong);
     Ok(())
 }
 
 fn nested(heap: Global, depth: u32) -> Result<String, AllocError> {
-    let mut text = String::from_str(heap, "resource r cell operation a path ")?;
-    add(&mut text, "(", depth)?;
-    add(&mut text, "a", 1)?;
-    add(&mut text, ")", depth)?;
-    add(&mut text, " end end", 1)?;
-    Ok(text)
+    let open = repeated(heap, "resource r cell operation a path ", "(", depth, "a")?;
+    repeated(heap, &open, ")", depth, " end end")
 }
 
 #[test]
@@ -79,41 +81,43 @@ fn depth(rt: HostRuntime) -> Result<(), Fail> {
 #[test]
 fn most_operations(rt: HostRuntime) -> Result<(), Fail> {
     let heap = rt.alloc();
-    let mut text = String::from_str(heap, "resource r cell operation ")?;
-    add_numbered(heap, &mut text, 'a', ",", 256)?;
-    let mut more = String::from_str(heap, &text)?;
-    text.push_str(" end")?;
+    let text = numbered(heap, "resource r cell operation ", ",", 256, " end")?;
     expect_read(&rt, heap, text.as_bytes());
-    more.push_str(",b end")?;
-    expect_fault(&rt, heap, more.as_bytes(), DeclFault::TooMany(1196));
+    let text = numbered(heap, "resource r cell operation ", ",", 257, " end")?;
+    expect_fault(&rt, heap, text.as_bytes(), DeclFault::TooMany(1196));
     Ok(())
 }
 
 #[test]
 fn most_paths(rt: HostRuntime) -> Result<(), Fail> {
     let heap = rt.alloc();
-    let mut text = String::from_str(heap, "resource r cell operation a ")?;
-    add(&mut text, "path a end ", 256)?;
-    let mut more = String::from_str(heap, &text)?;
-    text.push_str("end")?;
+    let text = repeated(
+        heap,
+        "resource r cell operation a ",
+        "path a end ",
+        256,
+        "end",
+    )?;
     expect_read(&rt, heap, text.as_bytes());
-    more.push_str("path a end end")?;
-    expect_fault(&rt, heap, more.as_bytes(), DeclFault::TooMany(2844));
+    let text = repeated(
+        heap,
+        "resource r cell operation a ",
+        "path a end ",
+        257,
+        "end",
+    )?;
+    expect_fault(&rt, heap, text.as_bytes(), DeclFault::TooMany(2844));
     Ok(())
 }
 
 #[test]
 fn most_names(rt: HostRuntime) -> Result<(), Fail> {
     let heap = rt.alloc();
-    let mut text = String::from_str(heap, "resource r cell operation ")?;
-    add_numbered(heap, &mut text, 'a', ",", 65)?;
-    text.push_str(" path ")?;
-    add_numbered(heap, &mut text, 'a', ";", 64)?;
-    let mut more = String::from_str(heap, &text)?;
-    text.push_str(" end end")?;
+    let front = numbered(heap, "resource r cell operation ", ",", 65, " path ")?;
+    let text = numbered(heap, &front, ";", 64, " end end")?;
     expect_read(&rt, heap, text.as_bytes());
-    more.push_str(";a64 end end")?;
-    expect_fault(&rt, heap, more.as_bytes(), DeclFault::TooMany(527));
+    let text = numbered(heap, &front, ";", 65, " end end")?;
+    expect_fault(&rt, heap, text.as_bytes(), DeclFault::TooMany(527));
     Ok(())
 }
 
@@ -135,9 +139,8 @@ fn most_resources(rt: HostRuntime) -> Result<(), Fail> {
 #[test]
 fn long_path(rt: HostRuntime) -> Result<(), Fail> {
     let heap = rt.alloc();
-    let mut text = String::from_str(heap, "resource r cell operation a path a")?;
-    add(&mut text, ";a", 20_000)?;
-    text.push_str(" end end")?;
+    let front = "resource r cell operation a path a";
+    let text = repeated(heap, front, ";a", 20_000, " end end")?;
     expect_fault(&rt, heap, text.as_bytes(), DeclFault::RepeatedName(35));
     Ok(())
 }

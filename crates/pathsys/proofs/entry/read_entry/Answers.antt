@@ -1,5 +1,6 @@
 -- A line is cut behind the worker's number.
 use Rattle.std.proofs.Common.{arith}
+use Rattle.std.proofs.lemmas.Result.{err_from_is_err_and}
 use Rattle.pathsys.specs.LineTexts.{attempt_text}
 use Rattle.pathsys.proofs.EntryLemmas.{number_cut, number_uncut, other_number, no_entry, line_fault}
 use Rattle.pathsys.proofs.entry.read_entry.Goals as goal
@@ -27,8 +28,12 @@ returns-in_default-try_from-clause-err g c = λ w a lt f e. other_number _ _ _ _
 pub returns-in_default-try_from-clause-fault : goal.returns-in_default-try_from-clause-fault
 returns-in_default-try_from-clause-fault g c = λ u. other_number _ _ _ _ u.worker u.attempt c.in-Some.ensures.some c.in-Some.ensures.first c.in-Some-number.ensures.some (omega arith) c.in_default-try_from.ensures u.fits u.spelled
 
-pub returns-in-Err-clause-err : goal.returns-in-Err-clause-err
-returns-in-Err-clause-err g c = no_entry c.args.decl.now _ _ _ c.in-Some.ensures.some c.in-Some.ensures.first c.in-Err.ensures.err
+pub returns-in_err-attempt-clause-err : goal.returns-in_err-attempt-clause-err
+returns-in_err-attempt-clause-err g c =
+    let p = err_from_is_err_and c.from_residual.result c.from_residual.ensures.1 in
+    rw p.1 (no_entry c.args.decl.now _ _ _ c.in-Some.ensures.some c.in-Some.ensures.first c.in_err-attempt.ensures.err)
 
-pub returns-in-Err-clause-fault : goal.returns-in-Err-clause-fault
-returns-in-Err-clause-fault g c = line_fault c.args.decl.now _ _ _ _ _ c.in-Some.ensures.some c.in-Some.ensures.first c.in-Some-number.ensures.some c.in-Ok.ensures.0 c.in-Err.ensures.fault
+pub returns-in_err-attempt-clause-fault : goal.returns-in_err-attempt-clause-fault
+returns-in_err-attempt-clause-fault g c =
+    let p = err_from_is_err_and c.from_residual.result c.from_residual.ensures.1 in
+    rw (p.1, p.2) (line_fault c.args.decl.now _ _ _ _ _ c.in-Some.ensures.some c.in-Some.ensures.first c.in-Some-number.ensures.some c.in-Ok.ensures.0 c.in_err-attempt.ensures.fault)

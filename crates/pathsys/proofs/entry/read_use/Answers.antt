@@ -3,15 +3,17 @@ use Rattle.pathsys.proofs.EntryLemmas.{number_cut, number_uncut}
 use Rattle.pathsys.specs.LineTexts.{verb_text}
 use Rattle.pathsys.proofs.entry.read_use.Goals as goal
 
-pub returns-in_default-clause-none : goal.returns-in_default-clause-none
-returns-in_default-clause-none c = λ n v lt f e. number_uncut _ n (verb_text v) c.in_default.ensures.none e
+pub returns-in_err-digits-clause-none : goal.returns-in_err-digits-clause-none
+returns-in_err-digits-clause-none c = rw c.from_residual.ensures (λ n v lt f e. number_uncut _ n (verb_text v) c.in_err-digits.ensures.none e)
 
-pub returns-in_default-number-clause-none : goal.returns-in_default-number-clause-none
-returns-in_default-number-clause-none c = λ n v lt f e.
-    let p = number_cut _ _ _ n (verb_text v) c.in-Some.ensures.some c.in-Some.ensures.first lt e in
-    c.in_default-number.ensures.none n lt p.0
+pub returns-in_err-act-clause-none : goal.returns-in_err-act-clause-none
+returns-in_err-act-clause-none c =
+    rw c.from_residual-in_err-act.ensures (λ n v lt f e.
+    let p = number_cut _ _ _ n (verb_text v) c.in_ok-digits.ensures.some c.in_ok-digits.ensures.first lt e in
+    c.in_err-act.ensures.none n lt p.0)
 
-pub returns-in_default-read_verb-clause-none : goal.returns-in_default-read_verb-clause-none
-returns-in_default-read_verb-clause-none c = λ n v lt f e.
-    let p = number_cut _ _ _ n (verb_text v) c.in-Some.ensures.some c.in-Some.ensures.first lt e in
-    c.in_default-read_verb.ensures.none v f p.1
+pub returns-in_err-verb-clause-none : goal.returns-in_err-verb-clause-none
+returns-in_err-verb-clause-none c =
+    rw c.from_residual-in_err-verb.ensures (λ n v lt f e.
+    let p = number_cut _ _ _ n (verb_text v) c.in_ok-digits.ensures.some c.in_ok-digits.ensures.first lt e in
+    c.in_err-verb.ensures.none v f p.1)

@@ -20,16 +20,17 @@ returns-then-digit-gt9-clause-none c = λ n fits e.
     let byte : get_or c.args.text.now c.loop-byte.byte-index 0 < 256 = omega (arith, c.type_inv.text c.loop-byte.byte-index) in
     not_digit c.args.text.now c.loop-byte.byte-index _ n c.loop-byte-test.true byte refl c.if-digit-gt9.true fits e
 
-pub returns-in_default-clause-none : goal.returns-in_default-clause-none
-returns-in_default-clause-none c = λ n fits e.
+pub returns-in_err-checked_mul-clause-none : goal.returns-in_err-checked_mul-clause-none
+returns-in_err-checked_mul-clause-none c =
+    rw c.from_residual.ensures (λ n fits e.
     let byte : get_or c.args.text.now c.loop-byte.byte-index 0 < 256 = omega (arith, c.type_inv.text c.loop-byte.byte-index) in
-    too_large c.args.text.now c.loop-byte.byte-index c.loop-byte.value n c.loop-byte.invariant c.loop-byte-test.true byte c.if-digit-gt9.false (omega arith) fits e
+    too_large c.args.text.now c.loop-byte.byte-index c.loop-byte.value n c.loop-byte.invariant c.loop-byte-test.true byte c.if-digit-gt9.false (omega arith) fits e)
 
-pub returns-in_default-checked_add-clause-none : goal.returns-in_default-checked_add-clause-none
-returns-in_default-checked_add-clause-none c = λ n fits e.
+pub returns-in_err-value-clause-none : goal.returns-in_err-value-clause-none
+returns-in_err-value-clause-none c =
+    rw c.from_residual-in_err-value.ensures (λ n fits e.
     let byte : get_or c.args.text.now c.loop-byte.byte-index 0 < 256 = omega (arith, c.type_inv.text c.loop-byte.byte-index) in
-    let shifted : c.in-Some.shifted ≡ c.loop-byte.value * 10 = c.in-Some.ensures.1 in
-    too_large c.args.text.now c.loop-byte.byte-index c.loop-byte.value n c.loop-byte.invariant c.loop-byte-test.true byte c.if-digit-gt9.false (omega arith) fits e
+    too_large c.args.text.now c.loop-byte.byte-index c.loop-byte.value n c.loop-byte.invariant c.loop-byte-test.true byte c.if-digit-gt9.false (omega arith) fits e)
 
 pub returns-clause-some : goal.returns-clause-some
 returns-clause-some c =
