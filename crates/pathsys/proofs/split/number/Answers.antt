@@ -1,5 +1,5 @@
 -- The digits read so far and the number that they write.
-use Rattle.std.proofs.Common.{◌≡◌, ◌<◌, ◌*◌, length, get_or, arith, refl, inl, inr}
+use Rattle.std.proofs.Common.{◌≡◌, ◌<◌, length, get_or, arith, refl, inl, inr}
 use Rattle.std.proofs.lemmas.Grind.{common_steps}
 use Rattle.std.proofs.lemmas.Bool.{cases_lt}
 use Rattle.pathsys.proofs.Numbers.{not_digit, too_large, reads_all, leading_zero, empty_number}
