@@ -21,6 +21,7 @@ pub enum LineFault {
     Undeclared,
 }
 
+/// The verb that the text tells, with its number where it has one.
 fn read_verb(text: &[u8]) -> Option<Verb>
     ensures some { IfSome result (λ v. (text.now ≡ verb_text v) × VerbFits v) }
     ensures none { IfNone result ((v : Verb) → VerbFits v → text.now ≢ verb_text v) }
@@ -38,7 +39,7 @@ fn read_verb(text: &[u8]) -> Option<Verb>
     Some(Verb::Add(number(digits)?))
 }
 
-// Which activation is used, and how.
+/// Which activation is used, and how.
 fn read_use(text: &[u8]) -> Option<(ActId, Verb)>
     ensures some { IfSome result (λ p. (text.now ≡ use_text p.0.0 p.1) × (p.0.0 < 2 ^ 64) × VerbFits p.1) }
     ensures none { IfNone result ((n : ℕ) (v : Verb) → n < 2 ^ 64 → VerbFits v → text.now ≢ use_text n v) }
@@ -49,7 +50,7 @@ fn read_use(text: &[u8]) -> Option<(ActId, Verb)>
     Some((ActId(act), verb))
 }
 
-// The operation of this name.
+/// The operation of this name.
 fn read_operation<A: Allocator + Copy>(decl: &Decl<A>, name: &[u8]) -> Result<OpId, LineFault>
     requires { All IsName (operation_names decl.now) }
     ensures ok { IfOk result (λ a. slice_get (operation_names decl.now) a.0 ≡ Some name.now) }
@@ -66,7 +67,7 @@ fn read_operation<A: Allocator + Copy>(decl: &Decl<A>, name: &[u8]) -> Result<Op
     }
 }
 
-// What stands behind the worker's number.
+/// What stands behind the worker's number.
 fn read_attempt<A: Allocator + Copy>(decl: &Decl<A>, text: &[u8]) -> Result<Attempt, LineFault>
     requires { All IsName (operation_names decl.now) }
     ensures ok { IfOk result (λ a. (text.now ≡ attempt_text decl.now a) × AttemptFits decl.now a) }

@@ -17,6 +17,7 @@ pub enum Unread {
     OutOfMemory,
 }
 
+/// The bytes that were read, or why there are none.
 fn settled(read: io::Result<Option<Vec<u8>>>) -> Result<Vec<u8>, Unread> {
     match read {
         Ok(Some(bytes)) => Ok(bytes),
@@ -26,7 +27,8 @@ fn settled(read: io::Result<Option<Vec<u8>>>) -> Result<Vec<u8>, Unread> {
     }
 }
 
-/// The bytes of a file.
+/// The bytes of the file of this name, at most [`LIMIT`](crate::input::LIMIT). Unreadable where it can't be opened or
+/// read. The cost is that of the bytes.
 pub fn read_file<R: Files + AllocGlobal>(rt: &R, path: &str) -> Result<Vec<u8>, Unread> {
     match fs::open(rt, path) {
         Ok(file) => settled(read_all(rt.alloc(), file)),
@@ -34,12 +36,13 @@ pub fn read_file<R: Files + AllocGlobal>(rt: &R, path: &str) -> Result<Vec<u8>, 
     }
 }
 
-/// The bytes of standard input.
+/// The bytes of standard input, at most [`LIMIT`](crate::input::LIMIT). Unreadable where a read fails. The cost is that
+/// of the bytes.
 pub fn read_stdin<R: Input + AllocGlobal>(rt: &R) -> Result<Vec<u8>, Unread> {
     settled(read_all(rt.alloc(), rt.reader()))
 }
 
-/// Tells on standard error why there is no text, and answers the status.
+/// Tells why the file of this name gave no text, in one line, and answers the status: 6 for want of memory, else 3.
 pub fn tell_unread<E: Write>(err: &mut E, name: &str, why: Unread) -> u8 {
     match why {
         Unread::Unreadable => tell(

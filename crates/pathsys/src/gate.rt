@@ -32,7 +32,7 @@ struct Term {
     signal: u32,
 }
 
-// The checking pass, which writes nothing.
+/// The checking pass, which writes nothing.
 fn first_blocked(semaphores: &[u64], terms: &[Term]) -> Result<(), PathId>
     requires { All (λ t. t.wait < length semaphores.now) terms.now }
     ensures { MatchResult result (λ _. blocking terms.now semaphores.now ≡ None) (λ path. blocking terms.now semaphores.now ≡ Some path) }
@@ -45,7 +45,7 @@ fn first_blocked(semaphores: &[u64], terms: &[Term]) -> Result<(), PathId>
     Ok(())
 }
 
-// The applying pass of a start.
+/// The applying pass of a start.
 fn take(semaphores: &mut [u64], terms: &[Term])
     requires within { All (λ t. t.wait < length semaphores.old) terms.now }
     requires can { CanTake terms.now semaphores.old }
@@ -56,7 +56,7 @@ fn take(semaphores: &mut [u64], terms: &[Term])
     }
 }
 
-// The pass of a finish.
+/// The pass of a finish.
 fn give(semaphores: &mut [u64], terms: &[Term])
     requires within { All (λ t. t.signal < length semaphores.old) terms.now }
     requires can { CanGive terms.now semaphores.old }
@@ -67,7 +67,7 @@ fn give(semaphores: &mut [u64], terms: &[Term])
     }
 }
 
-// One execution more of an operation that a path names.
+/// One execution more of an operation that a path names.
 fn count_start(in_progress: &mut [u32], terms: &[Term], op: OpId)
     requires within { terms.now ≢ [] → op.0 < length in_progress.old }
     requires small { terms.now ≢ [] → slice_index in_progress.old op.0 + 1 < 4294967296 }
@@ -78,7 +78,7 @@ fn count_start(in_progress: &mut [u32], terms: &[Term], op: OpId)
     }
 }
 
-// One execution less of an operation that a path names.
+/// One execution less of an operation that a path names.
 fn count_finish(in_progress: &mut [u32], terms: &[Term], op: OpId)
     requires within { terms.now ≢ [] → op.0 < length in_progress.old }
     requires some { terms.now ≢ [] → 0 < slice_index in_progress.old op.0 }
@@ -89,7 +89,7 @@ fn count_finish(in_progress: &mut [u32], terms: &[Term], op: OpId)
     }
 }
 
-// The terms of an operation; none for one that no path names.
+/// The terms of an operation; none for one that no path names.
 fn terms_of<A: Allocator + Copy>(by_op: &[Vec<Term, A>], op: OpId) -> &[Term]
     ensures { result.now ≡ slice_index_or (map (λ terms. terms.items) by_op.now) op.0 [] }
 {
@@ -103,12 +103,12 @@ fn terms_of<A: Allocator + Copy>(by_op: &[Vec<Term, A>], op: OpId) -> &[Term]
 /// often each operation is in progress, and how many starts were admitted.
 #[derive(Drop)]
 pub struct Gate<A: Allocator + Copy = Global> {
-    // What was opened, which only contracts read: it takes no memory.
+    /// What was opened, which only contracts read: it takes no memory.
     decl: Snapshot<Decl<A>>,
-    // The terms of each operation, in the order of the paths.
+    /// The terms of each operation, in the order of the paths.
     by_op: Vec<Vec<Term, A>, A>,
     semaphores: Vec<u64, A>,
-    // How often each operation that a path names is in progress; 0 for the others.
+    /// How often each operation that a path names is in progress; 0 for the others.
     in_progress: Vec<u32, A>,
     admitted: u32,
 }

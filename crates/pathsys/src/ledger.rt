@@ -28,7 +28,7 @@ impl<A: Allocator + Copy> Model for Ledger<A> {
     ghost invariant = { λ l. record { numbered : AreNumbered l.live.items l.begun; within : length l.live.items ≤ l.room; reserved : l.room ≤ vec_capacity l.live } };
 }
 
-// Where the activation of a number stands.
+/// Where the activation of a number stands.
 fn place_of(live: &[Activation], act: ActId) -> Option<usize>
     requires { (end : ℕ) × AreNumbered live.now end }
     ensures { MatchOption result (IsNowhere act live.now) (IsPlaceOf act live.now) }
@@ -39,7 +39,7 @@ fn place_of(live: &[Activation], act: ActId) -> Option<usize>
 
 impl<A: Allocator + Copy> Ledger<A> {
     /// An empty ledger, in which `room` activations may be live at once. All its places are taken now, so no later
-    /// call wants memory.
+    /// call wants memory. The only error is want of memory.
     pub fn with_room(alloc: A, room: u32) -> Result<Ledger<A>, OutOfMemory>
         ensures { IfOk result (λ l. l ≡ record { live = []; begun = 0; room = room }) }
     {
@@ -54,7 +54,7 @@ impl<A: Allocator + Copy> Ledger<A> {
     /// Appends an activation of this worker and operation. Its number, which is answered, is how many were begun
     /// before it.
     ///
-    /// Needs a free place, and that fewer than 4,294,967,295 were begun.
+    /// Needs a free place, and that fewer than 4,294,967,295 were begun. The cost is the same for any ledger.
     pub fn begin(&mut self, worker: u32, op: OpId) -> ActId
         requires room { length self.old.live < self.old.room }
         requires number { self.old.begun < 4294967295 }
@@ -78,7 +78,7 @@ impl<A: Allocator + Copy> Ledger<A> {
     }
 
     /// Takes the live activation of this number out, if there is one. The others keep their order, and `begun` its
-    /// number.
+    /// number. The cost is that of a search and of moving those begun later.
     pub fn end(&mut self, act: ActId) -> Option<Activation>
         ensures ended { result ≡ activation_of act self.old.live }
         ensures others { self.new ≡ record self.old { live = without act self.old.live } }

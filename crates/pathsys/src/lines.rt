@@ -8,6 +8,7 @@ use path_decl::{Decl, op_name};
 use path_model::{ActId, Attempt, Line, OpId, OutOfMemory, Reply, Verb};
 use std::alloc::Allocator;
 
+/// Appends a verb, with its number where it has one.
 fn push_verb<A: Allocator + Copy>(out: &mut String<A>, verb: Verb) -> Result<(), OutOfMemory>
     ensures { OnOk result (string_bytes out.new ≡ string_bytes out.old ++ verb_text verb) }
 {
@@ -20,7 +21,7 @@ fn push_verb<A: Allocator + Copy>(out: &mut String<A>, verb: Verb) -> Result<(),
     Ok(())
 }
 
-// The name of a declared operation, `#` and the number of any other.
+/// The name of a declared operation, `#` and the number of any other.
 fn push_operation<A: Allocator + Copy, B: Allocator + Copy>(
     out: &mut String<A>,
     decl: &Decl<B>,
@@ -38,6 +39,7 @@ fn push_operation<A: Allocator + Copy, B: Allocator + Copy>(
     Ok(())
 }
 
+/// Appends an attempt without its worker.
 fn push_attempt<A: Allocator + Copy, B: Allocator + Copy>(
     out: &mut String<A>,
     decl: &Decl<B>,
@@ -59,6 +61,7 @@ fn push_attempt<A: Allocator + Copy, B: Allocator + Copy>(
     Ok(())
 }
 
+/// Appends a reply, with its number where it has one.
 fn push_reply<A: Allocator + Copy>(out: &mut String<A>, reply: Reply) -> Result<(), OutOfMemory>
     ensures { OnOk result (string_bytes out.new ≡ string_bytes out.old ++ reply_text reply) }
 {

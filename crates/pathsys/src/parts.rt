@@ -36,7 +36,7 @@ impl<A: Allocator + Copy> Model for Core<A> {
     ghost view = { λ c. record { declaration = c.decl; standing = c.gate; book = c.ledger; cells = c.cells.items } };
 }
 
-// What a cell answers to a verb.
+/// What a cell answers to a verb.
 fn act_on(cell: &mut u64, verb: Verb) -> Reply
     ensures { Acts (outcome_of Cell verb (cell.old ∷ [])) result cell.old cell.new }
 {
@@ -51,7 +51,7 @@ fn act_on(cell: &mut u64, verb: Verb) -> Reply
     }
 }
 
-// The resource of a declared operation.
+/// The resource of a declared operation.
 fn resource_at<A: Allocator + Copy>(decl: &Decl<A>, op: OpId) -> ResId
     requires { op.0 < length decl.now.operations }
     ensures { result.0 ≡ declarations.resource_of decl.now op.0 }
@@ -61,7 +61,7 @@ fn resource_at<A: Allocator + Copy>(decl: &Decl<A>, op: OpId) -> ResId
 
 impl<A: Allocator + Copy> Core<A> {
     /// The parts before any attempt: the gate at the empty history, nothing live, 0 in each cell. All places are taken
-    /// now.
+    /// now. The only error is want of memory.
     pub fn open(alloc: A, decl: Decl<A>, room: u32) -> Result<Core<A>, OutOfMemory>
         ensures { IfOk result (λ core. AreOpened core decl room) }
     {
@@ -77,12 +77,14 @@ impl<A: Allocator + Copy> Core<A> {
         })
     }
 
+    /// The declaration.
     pub fn decl(&self) -> &Decl<A>
         ensures { result.now ≡ self.now.declaration }
     {
         &self.decl
     }
 
+    /// The number in the cell of a resource, which is declared.
     pub fn number_in(&self, resource: ResId) -> u64
         requires { resource.0 < length self.now.cells }
         ensures { result ≡ slice_index self.now.cells resource.0 }
@@ -90,6 +92,7 @@ impl<A: Allocator + Copy> Core<A> {
         self.cells[resource.0 as usize]
     }
 
+    /// Whether the activation is live and the worker's own.
     fn is_own(&self, worker: u32, act: ActId) -> bool
         ensures { result ≡ is_own_of worker (activation_of act self.now.book.live) }
     {
@@ -99,6 +102,7 @@ impl<A: Allocator + Copy> Core<A> {
         }
     }
 
+    /// A start, which there is room for.
     fn start(&mut self, worker: u32, op: OpId) -> Reply
         requires room { length self.old.book.live < self.old.book.room }
         requires number { self.old.book.begun < 4294967295 }
@@ -114,6 +118,7 @@ impl<A: Allocator + Copy> Core<A> {
         }
     }
 
+    /// A use, which there is room for.
     fn apply(&mut self, worker: u32, act: ActId, verb: Verb) -> Reply
         requires { AreReady self.old }
         ensures { MovesUse self.old worker verb (activation_of act self.old.book.live) result self.new }
@@ -130,6 +135,7 @@ impl<A: Allocator + Copy> Core<A> {
         }
     }
 
+    /// A finish, which there is room for or which needs none.
     fn finish(&mut self, worker: u32, act: ActId) -> Reply
         requires { AreReady self.old }
         ensures { MovesFinish self.old worker act (activation_of act self.old.book.live) result self.new }

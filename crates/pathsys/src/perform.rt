@@ -12,7 +12,7 @@ use std::env;
 use std::io::Write;
 use std::rt::{Env, Files};
 
-// What clap has to say: help on standard output, all else on standard error.
+/// What clap has to say: help on standard output, all else on standard error.
 fn refused<O: Write, E: Write>(error: &Error, out: &mut O, err: &mut E) -> u8 {
     if error.kind() == ErrorKind::OutOfMemory {
         return tell(err, "out of memory", NO_MEMORY);
@@ -28,6 +28,7 @@ fn refused<O: Write, E: Write>(error: &Error, out: &mut O, err: &mut E) -> u8 {
     }
 }
 
+/// Prints the declaration of a file.
 fn check<R: Files + AllocGlobal, O: Write, E: Write>(
     rt: &R,
     words: &ArgMatches<'_>,
@@ -41,6 +42,7 @@ fn check<R: Files + AllocGlobal, O: Write, E: Write>(
     }
 }
 
+/// Traces the attempts of one file under the declaration of another.
 fn trace<R: Files + AllocGlobal, O: Write, E: Write>(
     rt: &R,
     words: &ArgMatches<'_>,
@@ -59,6 +61,7 @@ fn trace<R: Files + AllocGlobal, O: Write, E: Write>(
     }
 }
 
+/// Traces what standard input holds.
 fn without_words<R: Input + AllocGlobal, O: Write, E: Write>(
     rt: &R,
     out: &mut O,
@@ -73,7 +76,9 @@ fn without_words<R: Input + AllocGlobal, O: Write, E: Write>(
     }
 }
 
-/// Does what the words of the command line ask for, and answers the exit status.
+/// Does what the words of the command line ask for, and answers the exit status: 0 where it was done or help was asked
+/// for, 1 where the declaration is refused, 2 where the words are, 3 where a file or stream failed, 4 where the attempts
+/// are refused, 6 for want of memory. Where several causes stand, the first counts: words, files, declaration, attempts.
 pub fn perform<R: Env + Files + Input + AllocGlobal, O: Write, E: Write>(
     rt: &R,
     out: &mut O,

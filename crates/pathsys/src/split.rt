@@ -20,7 +20,7 @@ pub fn after<'a>(text: &'a [u8], front: &[u8]) -> Option<&'a [u8]>
     text.strip_prefix(front)
 }
 
-// Whether a zero stands before other digits.
+/// Whether a zero stands before other digits.
 fn has_leading_zero(text: &[u8]) -> bool
     ensures { IsTrue result ↔ ((1 < length text.now) × (slice_index text.now 0 ≡ 48)) }
 {

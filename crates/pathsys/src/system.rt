@@ -79,7 +79,8 @@ fn is_no_room(reply: Reply) -> bool
 
 impl<A: Allocator + Copy> System<A> {
     /// A system of this declaration, in which each resource contains the number 0 and nothing was attempted. Its
-    /// journal has room for so many lines, 1 to 65,536. All places are taken now, so no later call wants memory.
+    /// journal has room for so many lines, 1 to 65,536; any other number is a bad room. All places are taken now, so no
+    /// later call wants memory. The cost is that of [`Gate::open`](crate::gate::Gate::open) and of the room.
     pub fn open(alloc: A, decl: Decl<A>, room: u32) -> Result<System<A>, OpenFault>
         ensures bad_room { IsErrOf result faults.BadRoom ↔ ((room ≡ 0) ⊎ (MOST_LINES < room)) }
         ensures ok { IfOk result (λ system. system ≡ record { declaration = decl; room = room; openings = opening_contents decl; journal = [] }) }
@@ -99,7 +100,8 @@ impl<A: Allocator + Copy> System<A> {
     /// One attempt of a worker. The reply is the one that the journal owes to it, and the journal gains a line with
     /// it; only for want of room it gains none.
     ///
-    /// It takes no memory.
+    /// It takes no memory. The cost is that of the gate for a start or a finish, and of a search among what is live for
+    /// a use or a finish.
     pub fn step(&mut self, worker: u32, attempt: Attempt) -> Reply
         ensures owed { Owed self.old.declaration self.old.room self.old.openings self.old.journal worker attempt result }
         ensures journal { self.new ≡ record self.old { journal = with_line self.old.journal worker attempt result } }

@@ -45,13 +45,13 @@ impl<T: Drop> From<AllocFailed<T>> for TextFault {
     }
 }
 
-// How many attempts a text may tell: no line has fewer than ten bytes with its line feed.
+/// How many attempts a text may tell: no line has fewer than ten bytes with its line feed.
 fn lines_at_most(text: &[u8]) -> usize {
     let ends = text.iter().filter(|byte| **byte == b'\n').count();
     ends.min(text.len() / 10) + 1
 }
 
-// The text fault of a line's fault.
+/// The text fault of a line's fault.
 fn fault_at(line: u32, fault: LineFault) -> TextFault
     ensures { result ≡ fault_of line fault }
 {

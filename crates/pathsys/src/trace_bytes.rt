@@ -14,7 +14,7 @@ use path_decl::read;
 use std::alloc::Allocator;
 use std::io::Write;
 
-/// Reads a declaration, and writes each attempt with its reply, as [`trace_to`] does.
+/// Reads a declaration, and writes each attempt with its reply, as [`trace_to`] does and at its cost.
 ///
 /// Statuses: 0 done; 1 the declaration is refused; 3 a writer failed, and what it took is unknown; 4 the attempts are
 /// refused; 6 want of memory. At 1 and 4 nothing was written. A fault is one line on `err`.

@@ -10,7 +10,7 @@ use crate::gate::Term;
 use path_model::{Expr, OpId, OutOfMemory, PathId};
 use std::alloc::Allocator;
 
-// How many semicolons a tree has.
+/// How many semicolons a tree has.
 fn count_semicolons<A: Allocator + Copy>(tree: &Expr<A>) -> u32
     requires { semicolons (shape tree.now) < 2 ^ 32 }
     ensures { result ≡ semicolons (shape tree.now) }
@@ -23,7 +23,7 @@ fn count_semicolons<A: Allocator + Copy>(tree: &Expr<A>) -> u32
     }
 }
 
-// Adds the terms that a tree gives to its operations. Its first semicolon has the number `next`.
+/// Adds the terms that a tree gives to its operations. Its first semicolon has the number `next`.
 fn add_terms<A: Allocator + Copy>(
     by_op: &mut Vec<Vec<Term, A>, A>,
     tree: &Expr<A>,
@@ -63,7 +63,7 @@ fn add_terms<A: Allocator + Copy>(
     Ok(())
 }
 
-// Adds a path: the semaphores that it opens, and the terms of its operations.
+/// Adds a path: the semaphores that it opens, and the terms of its operations.
 pub fn add_path<A: Allocator + Copy>(
     semaphores: &mut Vec<u64, A>,
     by_op: &mut Vec<Vec<Term, A>, A>,
@@ -89,7 +89,7 @@ pub fn add_path<A: Allocator + Copy>(
     add_terms(by_op, tree, own + 1, term)
 }
 
-// No terms, for each of so many operations.
+/// No terms, for each of so many operations.
 pub fn no_terms<A: Allocator + Copy>(
     alloc: A,
     operations: u32,
@@ -103,7 +103,7 @@ pub fn no_terms<A: Allocator + Copy>(
     Ok(by_op)
 }
 
-// No execution in progress, of so many operations.
+/// No execution in progress, of so many operations.
 pub fn no_counts<A: Allocator + Copy>(alloc: A, operations: u32) -> Result<Vec<u32, A>, OutOfMemory>
     ensures { IfOk result (λ v. v.items ≡ replicate operations 0) }
 {
