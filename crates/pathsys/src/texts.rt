@@ -106,6 +106,7 @@ mod tests {
     use path_decl::read;
     use path_model::{ActId, OpId, Verb};
     use refusing::Refusing;
+    use std::test::Fail;
 
     const DECLARATION: &[u8] = b"resource r cell operation a, b path a ; b end end";
 
@@ -128,6 +129,20 @@ mod tests {
             panic!(rt; "refused");
         };
         assert_eq!(rt; entries.as_slice(), want.as_slice());
+    }
+
+    #[test]
+    fn fault_texts(rt: HostRuntime) -> Result<(), Fail> {
+        let rows = [
+            (TextFault::TooLong, "too long"),
+            (TextFault::BadLine(3), "bad line 3"),
+            (TextFault::Undeclared(3), "undeclared in line 3"),
+            (TextFault::OutOfMemory, "out of memory"),
+        ];
+        for (fault, want) in rows {
+            assert_eq!(rt; format!(in rt.alloc(); "{fault}")?.as_str(), want);
+        }
+        Ok(())
     }
 
     #[test]
