@@ -1,9 +1,10 @@
 //! Declarations on the way.
 
 ghost use Rattle.std.specs.Prelude.{◌≡◌, ◌<◌, ◌≤◌, ◌++◌, [], ◌∷◌, ◌↔◌, length, map, Contains, IsTrue, IfOk, OnOk, IfErr};
+ghost use Rattle.path_model.specs.Trees.{shape};
 ghost use Rattle.path_decl.specs.Table.{names_of};
 ghost use Rattle.path_decl.specs.Parts.{saying, sayings, a_resource, an_operation, a_path, a_name, a_sequence, a_selection, an_end};
-ghost use Rattle.path_decl.specs.Building.{drafted, nothing, Allowed, after, AllAllowed, after_all};
+ghost use Rattle.path_decl.specs.Building.{drafted, nothing, HasTwo, Allowed, after, AllAllowed, after_all};
 ghost use Rattle.path_decl.specs.Reading.{Fails};
 
 use crate::decl::{Names, PathEntry};
@@ -135,10 +136,10 @@ impl<'a, A: Allocator + Copy> Draft<'a, A> {
         Ok(())
     }
 
-    /// The last two trees of the path, one after the other.
-    fn sequence(&mut self, alloc: A, at: u32) -> Result<(), DeclFault>
-        ensures ok { OnOk result (Allowed a_sequence (drafted self.old) × (drafted self.new ≡ after a_sequence (drafted self.old))) }
-        ensures err { IfErr result (λ e. Fails e (Allowed a_sequence (drafted self.old) → ⊥)) }
+    /// Takes the last two trees of the path.
+    fn operands(&mut self, at: u32) -> Result<(Expr<A>, Expr<A>), DeclFault>
+        ensures ok { IfOk result (λ p. drafted self.old ≡ record (drafted self.new) { open_trees = shape p.1 ∷ shape p.0 ∷ (drafted self.new).open_trees }) }
+        ensures err { IfErr result (λ e. Fails e (HasTwo (drafted self.old).open_trees → ⊥)) }
     {
         let Some(right) = self.open_trees.pop() else {
             return Err(DeclFault::Unexpected(at));
@@ -146,6 +147,15 @@ impl<'a, A: Allocator + Copy> Draft<'a, A> {
         let Some(left) = self.open_trees.pop() else {
             return Err(DeclFault::Unexpected(at));
         };
+        Ok((left, right))
+    }
+
+    /// The last two trees of the path, one after the other.
+    fn sequence(&mut self, alloc: A, at: u32) -> Result<(), DeclFault>
+        ensures ok { OnOk result (Allowed a_sequence (drafted self.old) × (drafted self.new ≡ after a_sequence (drafted self.old))) }
+        ensures err { IfErr result (λ e. Fails e (Allowed a_sequence (drafted self.old) → ⊥)) }
+    {
+        let (left, right) = self.operands(at)?;
         let left = Box::new(alloc, left)?;
         let right = Box::new(alloc, right)?;
         self.open_trees.push(Expr::Seq(left, right))?;
@@ -157,12 +167,7 @@ impl<'a, A: Allocator + Copy> Draft<'a, A> {
         ensures ok { OnOk result (Allowed a_selection (drafted self.old) × (drafted self.new ≡ after a_selection (drafted self.old))) }
         ensures err { IfErr result (λ e. Fails e (Allowed a_selection (drafted self.old) → ⊥)) }
     {
-        let Some(right) = self.open_trees.pop() else {
-            return Err(DeclFault::Unexpected(at));
-        };
-        let Some(left) = self.open_trees.pop() else {
-            return Err(DeclFault::Unexpected(at));
-        };
+        let (left, right) = self.operands(at)?;
         let left = Box::new(alloc, left)?;
         let right = Box::new(alloc, right)?;
         self.open_trees.push(Expr::Alt(left, right))?;

@@ -9,3 +9,4 @@ pub mod Inputs
 pub mod LineTexts
 pub mod AttemptTexts
 pub mod Traces
+pub mod Statuses

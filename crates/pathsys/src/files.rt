@@ -1,5 +1,7 @@
 //! Bounded files and standard input.
 
+ghost use Rattle.std.specs.Prelude.{◌≡◌, ◌⊎◌};
+
 use crate::input::read_all;
 use crate::tell::{NO_MEMORY, STREAM_FAILED, tell};
 use std::io::Write;
@@ -43,7 +45,10 @@ pub fn read_stdin<R: Input + AllocGlobal>(rt: &R) -> Result<Vec<u8>, Unread> {
 }
 
 /// Tells why the file of this name gave no text, in one line, and answers the status: 6 for want of memory, else 3.
-pub fn tell_unread<E: Write>(err: &mut E, name: &str, why: Unread) -> u8 {
+pub fn tell_unread<E: Write>(err: &mut E, name: &str, why: Unread) -> u8
+    ensures statuses { (result ≡ STREAM_FAILED) ⊎ (result ≡ NO_MEMORY) }
+    ensures memory { result ≡ NO_MEMORY → why ≡ Unread.OutOfMemory }
+{
     match why {
         Unread::Unreadable => tell(
             err,

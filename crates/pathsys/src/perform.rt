@@ -1,5 +1,7 @@
 //! What the words of the command line ask for.
 
+ghost use Rattle.pathsys.specs.Statuses.{IsStatus};
+
 use crate::check::check_to;
 use crate::command::command;
 use crate::files::{read_file, read_stdin, tell_unread};
@@ -13,7 +15,9 @@ use std::io::Write;
 use std::rt::{Env, Files};
 
 /// What clap has to say: help on standard output, all else on standard error.
-fn refused<O: Write, E: Write>(error: &Error, out: &mut O, err: &mut E) -> u8 {
+fn refused<O: Write, E: Write>(error: &Error, out: &mut O, err: &mut E) -> u8
+    ensures { IsStatus result }
+{
     if error.kind() == ErrorKind::OutOfMemory {
         return tell(err, "out of memory", NO_MEMORY);
     }
@@ -34,7 +38,9 @@ fn check<R: Files + AllocGlobal, O: Write, E: Write>(
     words: &ArgMatches<'_>,
     out: &mut O,
     err: &mut E,
-) -> u8 {
+) -> u8
+    ensures { IsStatus result }
+{
     let name = words.get_str("DECL").unwrap_or("");
     match read_file(rt, name) {
         Ok(text) => check_to(rt.alloc(), &text, out, err),
@@ -48,7 +54,9 @@ fn trace<R: Files + AllocGlobal, O: Write, E: Write>(
     words: &ArgMatches<'_>,
     out: &mut O,
     err: &mut E,
-) -> u8 {
+) -> u8
+    ensures { IsStatus result }
+{
     let name = words.get_str("DECL").unwrap_or("");
     let declaration = match read_file(rt, name) {
         Ok(text) => text,
@@ -62,11 +70,9 @@ fn trace<R: Files + AllocGlobal, O: Write, E: Write>(
 }
 
 /// Traces what standard input holds.
-fn without_words<R: Input + AllocGlobal, O: Write, E: Write>(
-    rt: &R,
-    out: &mut O,
-    err: &mut E,
-) -> u8 {
+fn without_words<R: Input + AllocGlobal, O: Write, E: Write>(rt: &R, out: &mut O, err: &mut E) -> u8
+    ensures { IsStatus result }
+{
     match read_stdin(rt) {
         Ok(input) => {
             let (declaration, attempts) = whole(&input);
@@ -83,7 +89,9 @@ pub fn perform<R: Env + Files + Input + AllocGlobal, O: Write, E: Write>(
     rt: &R,
     out: &mut O,
     err: &mut E,
-) -> u8 {
+) -> u8
+    ensures { IsStatus result }
+{
     let Ok(words) = env::args(rt) else {
         return tell(err, "arguments: cannot read", COMMAND_REFUSED);
     };
