@@ -1,12 +1,1 @@
-pub mod Standings
-pub mod Rows
-pub mod Translation
-pub mod Ledgers
-pub mod Accounts
-pub mod Parts
-pub mod Splits
-pub mod Inputs
-pub mod LineTexts
-pub mod AttemptTexts
-pub mod Traces
 pub mod Statuses

@@ -2,14 +2,13 @@
 
 ghost use Rattle.pathsys.specs.Statuses.{IsStatus};
 
-use crate::check::check_to;
 use crate::command::command;
-use crate::files::{read_file, read_stdin, tell_unread};
-use crate::tell::{COMMAND_REFUSED, NO_MEMORY, STREAM_FAILED, tell};
-use crate::trace_bytes::trace_bytes;
-use crate::whole::whole;
+use crate::files::{read_file, read_stdin};
 use clap::error::ErrorKind;
 use clap::{ArgMatches, Error};
+use path_commands::{
+    COMMAND_REFUSED, NO_MEMORY, STREAM_FAILED, check_to, tell, tell_unread, trace_bytes, whole,
+};
 use std::env;
 use std::io::Write;
 use std::rt::{Env, Files};

@@ -1,0 +1,6 @@
+-- So many operations have no terms so far.
+use Rattle.std.proofs.Common.{◌≡◌, map, replicate, []}
+use Rattle.path_gate.proofs.gate.table.no_terms.Given as goal
+
+abbrev pub invariant-loop : goal.invariant-loop
+invariant-loop g l = map (λ terms. terms.items) l.by_op.items ≡ replicate l.counter []

@@ -1,0 +1,6 @@
+//! The live activations of a system, in order of start.
+#![tactic(auto)]
+
+mod ledger;
+
+pub use ledger::Ledger;

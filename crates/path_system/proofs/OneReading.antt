@@ -1,0 +1,171 @@
+-- A text tells one list of attempts: each line has one worker and one attempt.
+use Rattle.std.proofs.Common.{◌≡◌, ℕ, ◌<◌, ◌^◌, List, [], ◌∷◌, ◌++◌, length, inl, inr, refl, sym, ap, ◌∙◌, subst, append_assoc, arith, decimal, All, get_or}
+use Rattle.std.proofs.lemmas.List.{append_cancel_right, length-map}
+use Rattle.std.proofs.lemmas.List.Elements.{All-head, All-tail}
+use Rattle.std.proofs.lemmas.Bool.{cases_lt}
+use Rattle.std.proofs.lemmas.Option.{slice_get-get_or}
+use Rattle.std.proofs.lemmas.Fmt.{decimal_injective}
+use Rattle.path_model.specs.declared.ids.OpId.{OpId}
+use Rattle.path_model.specs.declared.ids.ActId.{ActId}
+use Rattle.path_model.specs.declared.journal.Verb.{Verb}
+use Rattle.path_model.specs.declared.journal.Verb.TheVariants.{Put, Take, Look, Add}
+use Rattle.path_model.specs.declared.journal.Attempt.{Attempt}
+use Rattle.path_model.specs.declared.journal.Attempt.TheVariants.{Start, Apply, Finish}
+use Rattle.path_model.specs.Declarations.{Declaration}
+use Rattle.path_decl.specs.Lawful.{AreDistinctNames}
+use Rattle.path_decl.specs.Names.{IsName}
+use Rattle.path_decl.specs.Rules.{IsDistinct}
+use Rattle.path_fields.specs.Splits.{HasNone}
+use Rattle.path_system.specs.LineTexts.{verb_text, use_text, operation_text, operation_names, name_or_number, attempt_text, line_text, AttemptFits, VerbFits}
+use Rattle.path_system.specs.AttemptTexts.{Entry, EntryFits, entries_text, IsAttemptsText}
+use Rattle.path_fields.proofs.SplitLemmas.{cut_once, cut_none}
+use Rattle.path_system.proofs.EntryLemmas.{number_cut, none_in_number}
+use Rattle.path_system.proofs.AttemptLemmas.{line_is_line, Spells, first_entry, spells_cut}
+
+same_head : {x y : ℕ} {xs ys : List ℕ} → x ∷ xs ≡ y ∷ ys → x ≡ y
+same_head e = cc
+
+tail_three : {a b c a' b' c' : ℕ} {xs ys : List ℕ} → a ∷ b ∷ c ∷ xs ≡ a' ∷ b' ∷ c' ∷ ys → xs ≡ ys
+tail_three e = cc
+
+tail_four : {a b c d a' b' c' d' : ℕ} {xs ys : List ℕ} → a ∷ b ∷ c ∷ d ∷ xs ≡ a' ∷ b' ∷ c' ∷ d' ∷ ys → xs ≡ ys
+tail_four e = cc
+
+verb_once : (u v : Verb) → VerbFits u → VerbFits v → verb_text u ≡ verb_text v → u ≡ v
+verb_once (Put x) (Put y) h k e = ap Put (decimal_injective x y h k (tail_four e))
+verb_once (Put x) Take h k e = let i = same_head e in absurd (omega arith)
+verb_once (Put x) Look h k e = let i = same_head e in absurd (omega arith)
+verb_once (Put x) (Add y) h k e = let i = same_head e in absurd (omega arith)
+verb_once Take (Put y) h k e = let i = same_head e in absurd (omega arith)
+verb_once Take Take h k e = refl
+verb_once Take Look h k e = let i = same_head e in absurd (omega arith)
+verb_once Take (Add y) h k e = let i = same_head e in absurd (omega arith)
+verb_once Look (Put y) h k e = let i = same_head e in absurd (omega arith)
+verb_once Look Take h k e = let i = same_head e in absurd (omega arith)
+verb_once Look Look h k e = refl
+verb_once Look (Add y) h k e = let i = same_head e in absurd (omega arith)
+verb_once (Add x) (Put y) h k e = let i = same_head e in absurd (omega arith)
+verb_once (Add x) Take h k e = let i = same_head e in absurd (omega arith)
+verb_once (Add x) Look h k e = let i = same_head e in absurd (omega arith)
+verb_once (Add x) (Add y) h k e = ap Add (decimal_injective x y h k (tail_four e))
+
+use_once : (m n : ℕ) (u v : Verb) → m < 2 ^ 64 → n < 2 ^ 64 → VerbFits u → VerbFits v → use_text m u ≡ use_text n v → (m ≡ n) × (u ≡ v)
+use_once m n u v hm hn hu hv e =
+    let p = number_cut (use_text m u) (decimal m) (verb_text u) n (verb_text v) refl (none_in_number 32 m (omega arith) hm) hn e in
+    (decimal_injective m n hm hn p.0, verb_once u v hu hv p.1)
+
+-- names that differ stand at different places
+place_once : (ns : List (List ℕ)) (i j : ℕ) → IsDistinct ns → i < length ns → j < length ns → get_or ns i [] ≡ get_or ns j [] → i ≡ j
+place_once ns i j distinct hi hj e = elim (cases_lt i j) [
+  | inl lt ↦ absurd (distinct i j [] lt hj e)
+  | inr ge ↦ elim (cases_lt j i) [
+    | inl lt ↦ absurd (distinct j i [] lt hi (sym e))
+    | inr le ↦ omega arith
+  ]
+]
+
+operation_is : (d : Declaration) (a : OpId) → a.0 < length d.operations → (a.0 < length (operation_names d)) × (operation_text d a ≡ get_or (operation_names d) a.0 [])
+operation_is d a h =
+    let within : a.0 < length (operation_names d) = let n : length (operation_names d) ≡ length d.operations = length-map d.operations (λ o. o.name) in omega arith in
+    (within, ap (λ o. name_or_number o a.0) (slice_get-get_or (operation_names d) a.0 [] within))
+
+operation_once : (d : Declaration) (a b : OpId) → IsDistinct (operation_names d) → a.0 < length d.operations → b.0 < length d.operations → operation_text d a ≡ operation_text d b → a ≡ b
+operation_once d a b distinct ha hb e =
+    let p = operation_is d a ha in
+    let q = operation_is d b hb in
+    let same : a.0 ≡ b.0 = place_once (operation_names d) a.0 b.0 distinct p.0 q.0 (sym p.1 ∙ e ∙ q.1) in
+    ap (λ (n : ℕ). let o : OpId = record { 0 = n } in o) same
+
+act_once : (m n : ActId) → m.0 ≡ n.0 → m ≡ n
+act_once m n e = ap (λ (k : ℕ). let o : ActId = record { 0 = k } in o) e
+
+attempt_once : (d : Declaration) (a b : Attempt) → IsDistinct (operation_names d) → AttemptFits d a → AttemptFits d b → attempt_text d a ≡ attempt_text d b → a ≡ b
+attempt_once d (Start a) (Start b) distinct h k e = ap Start (operation_once d a b distinct h k (tail_three (tail_three e)))
+attempt_once d (Start a) (Apply n v) distinct h k e = let i = same_head e in absurd (omega arith)
+attempt_once d (Start a) (Finish n) distinct h k e = let i = same_head e in absurd (omega arith)
+attempt_once d (Apply m u) (Start b) distinct h k e = let i = same_head e in absurd (omega arith)
+attempt_once d (Apply m u) (Apply n v) distinct h k e =
+    let p = use_once m.0 n.0 u v h.0 k.0 h.1 k.1 (tail_four e) in
+    let same : m ≡ n = act_once m n p.0 in
+    ap (λ (x : ActId). Apply x u) same ∙ ap (λ (x : Verb). Apply n x) p.1
+attempt_once d (Apply m u) (Finish n) distinct h k e = let i = same_head e in absurd (omega arith)
+attempt_once d (Finish m) (Start b) distinct h k e = let i = same_head e in absurd (omega arith)
+attempt_once d (Finish m) (Apply n v) distinct h k e = let i = same_head e in absurd (omega arith)
+attempt_once d (Finish m) (Finish n) distinct h k e = ap Finish (act_once m n (decimal_injective m.0 n.0 h k (tail_three (tail_four e))))
+
+entry_once : (d : Declaration) (e f : Entry) → IsDistinct (operation_names d) → EntryFits d e → EntryFits d f → line_text d e.0 e.1 ≡ line_text d f.0 f.1 → e ≡ f
+entry_once d e f distinct h k same =
+    let small : e.0 < 2 ^ 64 = let i = h.0 in omega arith in
+    let other : f.0 < 2 ^ 64 = let i = k.0 in omega arith in
+    let p = number_cut (line_text d e.0 e.1) (decimal e.0) (attempt_text d e.1) f.0 (attempt_text d f.1) refl (none_in_number 32 e.0 (omega arith) small) other same in
+    ap (λ (w : ℕ). let x : Entry = (w, e.1) in x) (decimal_injective e.0 f.0 small other p.0) ∙ ap (λ (a : Attempt). let x : Entry = (f.0, a) in x) (attempt_once d e.1 f.1 distinct h.1 k.1 p.1)
+
+-- an empty text tells nothing
+nonempty_line : (line rest : List ℕ) → line ++ 10 ∷ rest ≡ [] → ⊥
+nonempty_line [] rest e = cc
+nonempty_line (x ∷ line) rest e = cc
+
+number_is_some : (n : ℕ) (rest : List ℕ) → decimal n ++ (32 ∷ rest) ≡ [] → ⊥
+number_is_some n rest e = some (decimal n) e
+  where
+    some : (ds : List ℕ) → ds ++ (32 ∷ rest) ≡ [] → ⊥
+    some [] e = cc
+    some (x ∷ ds) e = cc
+
+nothing_spelled : (d : Declaration) (es : List Entry) → Spells d [] es → es ≡ []
+nothing_spelled d [] s = refl
+nothing_spelled d (e ∷ es) (inl s) = absurd (nonempty_line (line_text d e.0 e.1) (entries_text d es) (sym (s ∙ first_entry d e es)))
+nothing_spelled d (e ∷ es) (inr s) = absurd (one_byte (line_text d e.0 e.1) (number_is_some e.0 (attempt_text d e.1)) (s ∙ first_entry d e es))
+  where
+    one_byte : (line : List ℕ) → (line ≡ [] → ⊥) → 10 ∷ [] ≡ line ++ 10 ∷ entries_text d es → ⊥
+    one_byte [] some e = some refl
+    one_byte (x ∷ []) some e = cc
+    one_byte (x ∷ y ∷ line) some e = cc
+
+-- attempts end with a line feed
+ends_in_feed : (d : Declaration) (e : Entry) (es : List Entry) → (x : List ℕ) × (entries_text d (e ∷ es) ≡ x ++ 10 ∷ [])
+ends_in_feed d e [] = (line_text d e.0 e.1, first_entry d e [])
+ends_in_feed d e (f ∷ es) =
+    let p = ends_in_feed d f es in
+    (line_text d e.0 e.1 ++ 10 ∷ p.0, first_entry d e (f ∷ es) ∙ ap (λ x. line_text d e.0 e.1 ++ 10 ∷ x) p.1 ∙ sym (append_assoc (line_text d e.0 e.1) (10 ∷ p.0) (10 ∷ [])))
+
+-- one line without its line feed tells one attempt
+last_once : (d : Declaration) (e : Entry) (fs : List Entry) → All IsName (operation_names d) → IsDistinct (operation_names d) → EntryFits d e → All (EntryFits d) fs → Spells d (line_text d e.0 e.1) fs → e ∷ [] ≡ fs
+last_once d e [] names distinct h k (inl s) = absurd (number_is_some e.0 (attempt_text d e.1) s)
+last_once d e [] names distinct h k (inr s) = absurd (nonempty_line (line_text d e.0 e.1) [] s)
+last_once d e (f ∷ fs) names distinct h k (inl s) = absurd (cut_none 10 (line_text d f.0 f.1) (entries_text d fs) (subst (HasNone 10) (s ∙ first_entry d f fs) (line_is_line d e names h)))
+last_once d e (f ∷ fs) names distinct h k (inr s) =
+    let fit = All-head (EntryFits d) f fs k in
+    let p = cut_once 10 (line_text d e.0 e.1) (line_text d f.0 f.1) [] (entries_text d fs) (line_is_line d e names h) (line_is_line d f names fit) (s ∙ first_entry d f fs) in
+    let none : fs ≡ [] = nothing_spelled d fs (inl p.1) in
+    let same : e ≡ f = entry_once d e f distinct h fit p.0 in
+    cc
+
+spells_once : (d : Declaration) (es fs : List Entry) (text : List ℕ) → All IsName (operation_names d) → IsDistinct (operation_names d) → All (EntryFits d) es → All (EntryFits d) fs → Spells d text es → Spells d text fs → es ≡ fs
+spells_once d [] fs text names distinct h k (inl s) t = sym (nothing_spelled d fs (subst (λ x. Spells d x fs) s t))
+spells_once d [] fs text names distinct h k (inr s) t = absurd (nonempty_line text [] s)
+spells_once d (e ∷ es) fs text names distinct h k (inl s) t =
+    let fit = All-head (EntryFits d) e es h in
+    let p = spells_cut d (line_text d e.0 e.1) (entries_text d es) fs names k (line_is_line d e names fit) (subst (λ x. Spells d x fs) (s ∙ first_entry d e es) t) in
+    let fits : All (EntryFits d) (p.0 ∷ p.1) = subst (All (EntryFits d)) p.2 k in
+    let same : e ≡ p.0 = entry_once d e p.0 distinct fit (All-head (EntryFits d) p.0 p.1 fits) p.3 in
+    let rest : es ≡ p.1 = spells_once d es p.1 (entries_text d es) names distinct (All-tail (EntryFits d) e es h) (All-tail (EntryFits d) p.0 p.1 fits) (inl refl) p.4 in
+    let is = p.2 in cc
+spells_once d (e ∷ []) fs text names distinct h k (inr s) t =
+    let fit = All-head (EntryFits d) e [] h in
+    let is : text ≡ line_text d e.0 e.1 = append_cancel_right text (line_text d e.0 e.1) (10 ∷ []) (s ∙ first_entry d e []) in
+    last_once d e fs names distinct fit k (subst (λ x. Spells d x fs) is t)
+spells_once d (e ∷ (g ∷ es)) fs text names distinct h k (inr s) t =
+    let fit = All-head (EntryFits d) e (g ∷ es) h in
+    let q = ends_in_feed d g es in
+    let regroup : line_text d e.0 e.1 ++ 10 ∷ (q.0 ++ 10 ∷ []) ≡ (line_text d e.0 e.1 ++ 10 ∷ q.0) ++ 10 ∷ [] = sym (append_assoc (line_text d e.0 e.1) (10 ∷ q.0) (10 ∷ [])) in
+    let cut : text ≡ line_text d e.0 e.1 ++ 10 ∷ q.0 = append_cancel_right text (line_text d e.0 e.1 ++ 10 ∷ q.0) (10 ∷ []) (s ∙ first_entry d e (g ∷ es) ∙ ap (λ x. line_text d e.0 e.1 ++ 10 ∷ x) q.1 ∙ regroup) in
+    let p = spells_cut d (line_text d e.0 e.1) q.0 fs names k (line_is_line d e names fit) (subst (λ x. Spells d x fs) cut t) in
+    let fits : All (EntryFits d) (p.0 ∷ p.1) = subst (All (EntryFits d)) p.2 k in
+    let same : e ≡ p.0 = entry_once d e p.0 distinct fit (All-head (EntryFits d) p.0 p.1 fits) p.3 in
+    let rest : g ∷ es ≡ p.1 = spells_once d (g ∷ es) p.1 q.0 names distinct (All-tail (EntryFits d) e (g ∷ es) h) (All-tail (EntryFits d) p.0 p.1 fits) (inr (sym q.1)) p.4 in
+    let is = p.2 in cc
+
+-- any attempts of a text are these
+pub one_reading : (d : Declaration) (text : List ℕ) (es : List Entry) → AreDistinctNames (operation_names d) → IsAttemptsText d text es → (fs : List Entry) → IsAttemptsText d text fs → fs ≡ es
+one_reading d text es names t fs u = spells_once d fs es text names.each names.distinct u.fits t.fits u.spelled t.spelled

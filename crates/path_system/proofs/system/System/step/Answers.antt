@@ -1,0 +1,62 @@
+-- The reply is owed, and the parts are what the journal tells with its line.
+use Rattle.std.proofs.Common.{◌≡◌, ◌≢◌, ℕ, length, arith, ◌∙◌, subst}
+use Rattle.path_model.specs.declared.journal.Reply.TheVariants.{NoRoom}
+use Rattle.path_system.specs.Accounts.{opening_contents}
+use Rattle.path_system.specs.Parts.{Answers}
+use Rattle.path_system.proofs.Answered.{ready, owed_is}
+use Rattle.path_system.proofs.Stepped.{fits, begun_few, admitted_few, true_more, true_still, place_left}
+use Rattle.path_system.proofs.system.System.step.Goals as goal
+use Rattle.path_system.proofs.system.System.step.Goals.{After-is_no_room}
+use Rattle.path_system.proofs.system.System.step.Given.{Over}
+
+pub answer-reply-requires-clause-ready : goal.answer-reply-requires-clause-ready
+answer-reply-requires-clause-ready g c = ready _ _ _ _ c.self.invariant.told
+
+pub answer-reply-requires-clause-few : goal.answer-reply-requires-clause-few
+answer-reply-requires-clause-few g c = let k = fits _ _ _ c.self.invariant.told in omega (arith, k, c.len.ensures, c.self.inside.journal.ok.0)
+
+pub answer-reply-requires-clause-number : goal.answer-reply-requires-clause-number
+answer-reply-requires-clause-number g c = let k = begun_few _ _ _ c.self.invariant.told in omega (arith, k, c.len.ensures, c.self.inside.journal.ok.0)
+
+pub answer-reply-requires-clause-admitted : goal.answer-reply-requires-clause-admitted
+answer-reply-requires-clause-admitted g c = let k = admitted_few _ _ _ c.self.invariant.told in omega (arith, k, c.len.ensures, c.self.inside.journal.ok.0)
+
+-- what was answered, after the lines of the journal
+answered : (g : Over) (c : After-is_no_room g) → Answers c.self.inside.core c.self.inside.room (length c.self.inside.journal.items) c.args.worker c.args.attempt c.answer-reply.result c.answer-reply.new.self
+answered g c =
+    let e : c.len.result ≡ length c.self.inside.journal.items = c.len.ensures ∙ c.self.inside.journal.ok.0 in
+    subst (λ (n : ℕ). Answers c.self.inside.core c.self.inside.room n c.args.worker c.args.attempt c.answer-reply.result c.answer-reply.new.self) e c.answer-reply.ensures
+
+pub push_reserved-requires : goal.push_reserved-requires
+push_reserved-requires g c =
+    let other : c.answer-reply.result ≢ NoRoom = λ h. cc (c.is_no_room.ensures.1 h, c.if-not-is_no_room.true) in
+    let k = place_left c.self.inside.core c.self.inside.room c.self.inside.journal.items c.self.invariant.told c.answer-reply.new.self c.args.worker c.args.attempt c.answer-reply.result
+    (answered g ((goal.at.push_reserved-requires g c).After-is_no_room)) other in
+    omega (arith, k, c.self.invariant.reserved, c.self.inside.journal.ok.0)
+
+pub invariant_of-self : goal.invariant_of-self
+invariant_of-self g c =
+    let other : c.answer-reply.result ≢ NoRoom = λ h. cc (c.is_no_room.ensures.1 h, c.if-not-is_no_room.true) in
+    record {
+      told = rw c.push_reserved.ensures.items (true_more c.self.inside.core c.self.inside.room c.self.inside.journal.items c.self.invariant.told c.answer-reply.new.self c.args.worker c.args.attempt c.answer-reply.result
+          (answered g ((goal.at.invariant_of-self g c).After-is_no_room)) other);
+      reserved = omega (arith, c.push_reserved.ensures.capacity, c.self.invariant.reserved);
+    }
+
+pub invariant_of-self-else-not-is_no_room : goal.invariant_of-self-else-not-is_no_room
+invariant_of-self-else-not-is_no_room g c =
+    record {
+      told = true_still c.self.inside.core c.self.inside.room c.self.inside.journal.items c.self.invariant.told c.answer-reply.new.self c.args.worker c.args.attempt c.answer-reply.result
+          (answered g ((goal.at.invariant_of-self-else-not-is_no_room g c).After-is_no_room)) (c.is_no_room.ensures.0 c.if-not-is_no_room.false);
+      reserved = c.self.invariant.reserved;
+    }
+
+pub returns-then-not-is_no_room-clause-owed : goal.returns-then-not-is_no_room-clause-owed
+returns-then-not-is_no_room-clause-owed g c =
+    rw (← c.self.view_is) (owed_is c.self.inside.core c.self.inside.room (opening_contents c.self.inside.core.declaration) c.self.inside.journal.items c.self.invariant.told c.args.worker c.args.attempt c.answer-reply.result c.answer-reply.new.self
+    (answered g ((goal.at.returns-then-not-is_no_room-clause-owed g c).After-is_no_room)))
+
+pub returns-else-not-is_no_room-clause-owed : goal.returns-else-not-is_no_room-clause-owed
+returns-else-not-is_no_room-clause-owed g c =
+    rw (← c.self.view_is) (owed_is c.self.inside.core c.self.inside.room (opening_contents c.self.inside.core.declaration) c.self.inside.journal.items c.self.invariant.told c.args.worker c.args.attempt c.answer-reply.result c.answer-reply.new.self
+    (answered g ((goal.at.returns-else-not-is_no_room-clause-owed g c).After-is_no_room)))

@@ -1,0 +1,103 @@
+//! Texts of attempts, one a line.
+
+ghost use Rattle.std.specs.Prelude.{◌≡◌, ◌≢◌, ◌<◌, ◌↔◌, ℕ, List, length, IfOk, IfErr, OnErr, IsErrOf};
+ghost use Rattle.path_system.specs.declared.texts.TextFault.TheVariants.{OutOfMemory};
+ghost use Rattle.path_system.specs.AttemptTexts.{Entry, IsAttemptsText, IsTextFault, fault_of};
+
+use crate::entry::{LineFault, read_entry};
+use path_decl::{Decl, counts};
+use path_fields::cut;
+use path_model::Attempt;
+use std::alloc::{AllocError, AllocFailed, Allocator};
+use thiserror::Error;
+
+/// The most bytes that a text of attempts may have.
+pub const LIMIT: usize = 134_217_728;
+
+/// Why a text is no text of attempts. Lines count from 0.
+#[derive(Clone, Copy, Debug, PartialEq, Eq, Error)]
+pub enum TextFault {
+    /// It has more than 134,217,728 bytes.
+    #[error("too long")]
+    TooLong,
+    /// The first faulty line has none of the forms.
+    #[error("bad line {0}")]
+    BadLine(u32),
+    /// The first faulty line is right but for its name, which is no operation's.
+    #[error("undeclared in line {0}")]
+    Undeclared(u32),
+    /// A growth of memory was refused.
+    #[error("out of memory")]
+    OutOfMemory,
+}
+
+impl From<AllocError> for TextFault {
+    ghost from_gives = { λ _ e. e ≡ OutOfMemory };
+
+    fn from(_error: AllocError) -> TextFault {
+        TextFault::OutOfMemory
+    }
+}
+
+impl<T: Drop> From<AllocFailed<T>> for TextFault {
+    ghost from_gives = { λ _ e. e ≡ OutOfMemory };
+
+    fn from(_error: AllocFailed<T>) -> TextFault {
+        TextFault::OutOfMemory
+    }
+}
+
+/// How many attempts a text may tell: no line has fewer than ten bytes with its line feed.
+fn lines_at_most(text: &[u8]) -> usize {
+    let ends = text.iter().filter(|byte| **byte == b'\n').count();
+    ends.min(text.len() / 10) + 1
+}
+
+/// The text fault of a line's fault.
+fn fault_at(line: u32, fault: LineFault) -> TextFault
+    ensures { result ≡ fault_of line fault }
+{
+    match fault {
+        LineFault::Bad => TextFault::BadLine(line),
+        LineFault::Undeclared => TextFault::Undeclared(line),
+    }
+}
+
+/// The workers and attempts of a text, one a line, in order. The line feed after the last line may be missing, and an
+/// empty text has no lines. A fault names the first line that is no attempt. One pass over the text; the list is
+/// allocated once.
+pub fn read_attempts<A: Allocator + Copy, B: Allocator + Copy>(
+    alloc: B,
+    decl: &Decl<A>,
+    text: &[u8],
+) -> Result<Vec<(u32, Attempt), B>, TextFault>
+    ensures ok { IfOk result (λ v. IsAttemptsText decl.now text.now v.items) }
+    // A text tells one list.
+    ensures one { IfOk result (λ v. (es : List Entry) → IsAttemptsText decl.now text.now es → es ≡ v.items) }
+    ensures err { IfErr result (λ e. IsTextFault decl.now text.now e) }
+    ensures too_long { IsErrOf result TextFault.TooLong ↔ (LIMIT < length text.now) }
+    // What is refused, but for its length or want of memory, is the text of no attempts.
+    ensures none { IfErr result (λ e. e ≢ TextFault.TooLong → e ≢ TextFault.OutOfMemory → (es : List Entry) → IsAttemptsText decl.now text.now es → ⊥) }
+{
+    if text.len() > LIMIT {
+        return Err(TextFault::TooLong);
+    }
+    let _names = counts(decl);
+    let mut entries = Vec::with_capacity(alloc, lines_at_most(text))?;
+    let mut rest = text;
+    while let Some((line, after)) = cut(rest, b'\n') {
+        match read_entry(decl, line) {
+            Ok(entry) => entries.push(entry)?,
+            Err(fault) => return Err(fault_at(entries.len() as u32, fault)),
+        }
+        rest = after;
+    }
+    if rest.is_empty() {
+        return Ok(entries);
+    }
+    match read_entry(decl, rest) {
+        Ok(entry) => entries.push(entry)?,
+        Err(fault) => return Err(fault_at(entries.len() as u32, fault)),
+    }
+    Ok(entries)
+}

@@ -1,0 +1,114 @@
+//! Texts of lines.
+
+use path_decl::read;
+use path_model::{ActId, Attempt, Line, OpId, OutOfMemory, PathId, Reply, Verb};
+use path_system::write_line;
+use refusing::Refusing;
+
+#[test]
+fn each_reply_has_its_text(rt: HostRuntime) {
+    let Ok(decl) = read(rt.alloc(), b"resource r cell operation a end") else {
+        panic!(rt; "no declaration");
+    };
+    let rows = [
+        (
+            Attempt::Start(OpId(0)),
+            Reply::Started(ActId(12)),
+            "7 start a: started 12",
+        ),
+        (
+            Attempt::Start(OpId(0)),
+            Reply::Blocked(PathId(3)),
+            "7 start a: blocked 3",
+        ),
+        (
+            Attempt::Start(OpId(256)),
+            Reply::UnknownOperation,
+            "7 start #256: unknown operation",
+        ),
+        (
+            Attempt::Apply(ActId(0), Verb::Put(9)),
+            Reply::Full,
+            "7 use 0 put 9: full",
+        ),
+        (
+            Attempt::Apply(ActId(0), Verb::Take),
+            Reply::Empty,
+            "7 use 0 take: empty",
+        ),
+        (
+            Attempt::Apply(ActId(0), Verb::Look),
+            Reply::Used(u64::MAX),
+            "7 use 0 look: used 18446744073709551615",
+        ),
+        (
+            Attempt::Apply(ActId(0), Verb::Add(1)),
+            Reply::Overflow,
+            "7 use 0 add 1: overflow",
+        ),
+        (
+            Attempt::Apply(ActId(0), Verb::Add(0)),
+            Reply::NotOffered,
+            "7 use 0 add 0: not offered",
+        ),
+        (
+            Attempt::Apply(ActId(0), Verb::Look),
+            Reply::DeviceFailed,
+            "7 use 0 look: device failed",
+        ),
+        (
+            Attempt::Finish(ActId(1)),
+            Reply::Finished,
+            "7 finish 1: finished",
+        ),
+        (Attempt::Finish(ActId(1)), Reply::Stale, "7 finish 1: stale"),
+        (
+            Attempt::Finish(ActId(1)),
+            Reply::NotYours,
+            "7 finish 1: not yours",
+        ),
+        (
+            Attempt::Finish(ActId(1)),
+            Reply::NoRoom,
+            "7 finish 1: no room",
+        ),
+    ];
+    for (attempt, reply, want) in rows {
+        let line = Line {
+            worker: 7,
+            attempt,
+            reply,
+        };
+        let Ok(text) = write_line(rt.alloc(), &decl, &line) else {
+            panic!(rt; "no memory");
+        };
+        assert_eq!(rt; text.as_str(), want);
+    }
+}
+
+#[test]
+fn each_request_of_a_line_is_refused(rt: HostRuntime) {
+    let Ok(decl) = read(rt.alloc(), b"resource r cell operation a end") else {
+        panic!(rt; "no declaration");
+    };
+    let line = Line {
+        worker: 4_000_000_000,
+        attempt: Attempt::Apply(ActId(u64::MAX), Verb::Put(u64::MAX)),
+        reply: Reply::UnknownOperation,
+    };
+    for k in 1..50u64 {
+        let refusing = Refusing::new(rt.alloc(), k);
+        match write_line(&refusing, &decl, &line) {
+            Ok(text) => {
+                assert!(rt; !refusing.has_refused());
+                assert_eq!(rt;
+                    text.as_str(),
+                    "4000000000 use 18446744073709551615 put 18446744073709551615: unknown operation"
+                );
+                return;
+            }
+            Err(OutOfMemory) => assert!(rt; refusing.has_refused()),
+        }
+    }
+    panic!(rt; "never passed");
+}

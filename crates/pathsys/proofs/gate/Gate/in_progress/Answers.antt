@@ -1,7 +1,0 @@
--- What no path names is not counted.
-use Rattle.std.proofs.Common.{◌≡◌, get_or, arith}
-use Rattle.std.proofs.lemmas.Grind.{common_steps}
-use Rattle.pathsys.proofs.gate.Gate.in_progress.Goals as goal
-
-pub returns-in-Some-clause-unnamed : goal.returns-in-Some-clause-unnamed
-returns-in-Some-clause-unnamed g c = rw (← c.self.view_is) (λ none. let idle : get_or c.self.inside.in_progress.items c.args.op.0 0 ≡ 0 = c.self.invariant.idle c.args.op none in grind (arith, common_steps))
