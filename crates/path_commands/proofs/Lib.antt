@@ -1,5 +1,5 @@
 pub mod WholeLemmas
 pub mod InputLemmas
 pub mod PutLemmas
+pub mod FaultLemmas
 pub mod TraceLemmas
-pub mod DeclarationLemmas

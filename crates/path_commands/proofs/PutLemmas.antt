@@ -1,8 +1,9 @@
 -- What has been written so far.
-use Rattle.std.proofs.Common.{◌≡◌, ◌⊎◌, inl, inr, ℕ, ◌-◌, List, [], ◌++◌, length, take, drop, Option, Some, None, refl, sym, ap, ◌∙◌, append_assoc, arith}
-use Rattle.std.proofs.lemmas.List.{append-nil, take-append-drop, nil_from_length, take_all}
+use Rattle.std.proofs.Common.{◌≡◌, inl, inr, subst, ℕ, ◌-◌, List, [], ◌++◌, length, take, drop, Option, Some, None, refl, sym, ap, ◌∙◌, append_assoc, arith}
+use Rattle.std.proofs.lemmas.List.{append-nil, take-append-drop, take_all}
 use Rattle.std.proofs.Common.{length-drop, Bor}
 use Rattle.std.specs.Io.KnownBytes.{Appends, Keeps}
+use Rattle.path_commands.specs.Writes.{AppendsSome, IsFrontOf}
 
 pub appends_more : (a b c : Option (List ℕ)) (x y z : List ℕ) → Appends a b x → Appends b c y → z ≡ x ++ y → Appends a c z
 appends_more None b c x y z h k e = tt
@@ -26,10 +27,6 @@ pub record PutSoFar (old new : Option (List ℕ)) (bytes rest : List ℕ) : Type
   pub parts : bytes ≡ front ++ rest
   pub wrote : Appends old new front
 
-pub puts_none : (old : Option (List ℕ)) (bytes : List ℕ) → PutSoFar old old bytes bytes
-puts_none None bytes = record { front = []; parts = refl; wrote = tt }
-puts_none (Some xs) bytes = record { front = []; parts = refl; wrote = sym (append-nil xs) }
-
 pub puts_more : (old now new : Option (List ℕ)) (bytes rest left : List ℕ) (n : ℕ) → left ≡ drop n rest → Appends now new (take n rest) → PutSoFar old now bytes rest → PutSoFar old new bytes left
 puts_more old now new bytes rest left n is a p = record {
   front = p.front ++ take n rest;
@@ -40,25 +37,20 @@ puts_more old now new bytes rest left n is a p = record {
 pub puts_kept : (old now new : Option (List ℕ)) (bytes rest : List ℕ) → Keeps now new → PutSoFar old now bytes rest → PutSoFar old new bytes rest
 puts_kept old now new bytes rest k p = record { front = p.front; parts = p.parts; wrote = appends_kept old now new p.front p.wrote k }
 
-pub put_all : (old new : Option (List ℕ)) (bytes rest : List ℕ) → length rest ≡ 0 → PutSoFar old new bytes rest → Appends old new bytes
-put_all old new bytes rest h p =
-    let e : p.front ≡ bytes = sym (p.parts ∙ ap (λ x. p.front ++ x) (nil_from_length rest h) ∙ append-nil p.front) in
-    appends_to old new p.front bytes e p.wrote
+-- the bytes that were written are so
+pub appends_some : (old new : Option (List ℕ)) (P : List ℕ → Type 0) (told bytes : List ℕ) → told ≡ bytes → P bytes → Appends old new told → AppendsSome old new P
+appends_some old new P told bytes e p a = (bytes, p, appends_to old new told bytes e a)
 
-pub put_front : (old new : Option (List ℕ)) (bytes rest : List ℕ) → PutSoFar old new bytes rest → (front : List ℕ) × (left : List ℕ) × (bytes ≡ front ++ left) × Appends old new front
-put_front old new bytes rest p = (p.front, rest, p.parts, p.wrote)
+front_of : (P : List ℕ → Type 0) (bytes front : List ℕ) → P bytes → IsFrontOf (λ all. all ≡ bytes) front → IsFrontOf P front
+front_of P bytes front p (inl none) = inl none
+front_of P bytes front p (inr (rest, is)) = inr (rest, subst P (sym is) p)
+
+-- of bytes that are so a front was written
+pub appends_front : (old new : Option (List ℕ)) (P : List ℕ → Type 0) (told bytes : List ℕ) → told ≡ bytes → P bytes → AppendsSome old new (IsFrontOf (λ all. all ≡ told)) → AppendsSome old new (IsFrontOf P)
+appends_front old new P told bytes e p w = (w.0, front_of P told w.0 (subst P (sym e) p) w.1, w.2)
 
 pub rest_whole : (s : List ℕ) (n : ℕ) → take (length s - n) (drop n s) ≡ drop n s
 rest_whole s n = take_all (length s - n) (drop n s) (omega (arith, length-drop n s))
 
 pub at_rest : (old new : Option (List ℕ)) (bytes : List ℕ) (r s : Bor (List ℕ)) → r ≡ s → PutSoFar old new bytes s.now → PutSoFar old new bytes r.now
 at_rest old new bytes r s e p = rw e p
-
--- 0, 3 or 6 is 0, 1, 3 or 6; so is one of the last two
-pub of_four : (n : ℕ) → (n ≡ 0) ⊎ (n ≡ 3) ⊎ (n ≡ 6) → (n ≡ 0) ⊎ (n ≡ 1) ⊎ (n ≡ 3) ⊎ (n ≡ 6)
-of_four n (inl h) = inl h
-of_four n (inr h) = inr (inr h)
-
-pub of_last : (n : ℕ) → (n ≡ 6) ⊎ (n ≡ 3) → (n ≡ 0) ⊎ (n ≡ 1) ⊎ (n ≡ 3) ⊎ (n ≡ 6)
-of_last n (inl h) = inr (inr (inr h))
-of_last n (inr h) = inr (inr (inl h))

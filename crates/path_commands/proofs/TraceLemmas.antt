@@ -1,75 +1,134 @@
--- How far attempts were answered.
-use Rattle.std.proofs.Common.{◌≡◌, ◌≢◌, ℕ, ◌+◌, ◌<◌, ◌≤◌, List, [], ◌∷◌, ◌++◌, length, take, get_or, Option, Some, None, ◌⊎◌, inl, inr, refl, sym, ap, ◌∙◌, subst, append_assoc}
-use Rattle.std.proofs.lemmas.List.{append-nil, take_more, take_all}
+-- How far attempts were read and answered.
+use Rattle.std.proofs.Common.{◌≡◌, ◌≢◌, ℕ, ◌+◌, ◌-◌, ◌<◌, ◌≤◌, List, [], ◌∷◌, ◌++◌, length, length-drop, take, drop, codes, All, Option, Some, None, ◌⊎◌, inl, inr, refl, sym, ap, ◌∙◌, subst, append_assoc, arith, length-append}
+use Rattle.std.proofs.lemmas.List.{append-nil, drop_all, take_all}
+use Rattle.std.proofs.Math.Seq.{drop-append-add, take-append_seam}
+use Rattle.std.proofs.lemmas.List.Elements.{All-push, All-nil}
+use Rattle.std.proofs.lemmas.Grind.{flat_map-append}
 use Rattle.std.specs.Io.KnownBytes.{Keeps}
 use Rattle.path_model.specs.declared.journal.Attempt.{Attempt}
 use Rattle.path_model.specs.declared.journal.Reply.{Reply}
 use Rattle.path_model.specs.Declarations.{Declaration}
 use Rattle.path_model.specs.Journals.{with_line}
 use Rattle.path_model.specs.Owed.{Owed}
-use Rattle.path_system.specs.Accounts.{Account, opening_contents}
-use Rattle.path_system.specs.AttemptTexts.{Entry, IsAttemptsText, IsTextFault}
-use Rattle.path_system.specs.declared.texts.TextFault.{TextFault}
-use Rattle.path_system.specs.declared.texts.TextFault.TheVariants as faults
-use Rattle.path_commands.specs.Traces.{Traced, at_end, answers, reply_line, IsAnswered, IsTraceOf, IsFrontOfTrace}
+use Rattle.path_system.specs.Accounts.{Account}
+use Rattle.path_system.specs.LineTexts.{line_text, reply_text}
+use Rattle.path_system.specs.AttemptTexts.{Entry, EntryFits, entry_line, entries_text, IsAttemptsText, IsFirstLine, IsNoRest}
+use Rattle.path_commands.specs.Traces.{Traced, at_end, answers, reply_line, IsAnswered, IsTraceBy}
 
--- a system that was opened so
-abbrev pub opened : Declaration → ℕ → Account
-opened d room = record { declaration = d; room = room; openings = opening_contents d; journal = [] }
+-- the text goes on with this after these attempts; or it ended with them, and had no last line feed
+abbrev pub GoesOn : Declaration → List ℕ → List Entry → List ℕ → Type 0
+GoesOn d text done rest = (text ≡ entries_text d done ++ rest) ⊎ ((rest ≡ []) × (text ++ 10 ∷ [] ≡ entries_text d done))
 
--- the first of the attempts were answered by these bytes, and only the journal has changed
-pub record AnswersSoFar (d : Declaration) (room : ℕ) (now : Account) (done : List Entry) (bytes : List ℕ) : Type 0 where
-  pub rest_stays : now ≡ record (opened d room) { journal = now.journal }
-  pub forth : (es : List Entry) (bs : List ℕ) → Traced d room (opening_contents d) now.journal es bs → Traced d room (opening_contents d) [] (done ++ es) (bytes ++ bs)
+-- the first attempts of a text were answered by these bytes, and only the journal has changed
+pub record AnswersSoFar (start now : Account) (text rest bytes : List ℕ) (number : ℕ) : Type 0 where
+  pub done : List Entry
+  pub few : number + length rest ≤ length text
+  pub fits : All EntryFits done
+  pub parts : GoesOn start.declaration text done rest
+  pub rest_stays : now ≡ record start { journal = now.journal }
+  pub forth : (es : List Entry) (bs : List ℕ) → Traced start.declaration start.room start.openings now.journal es bs → Traced start.declaration start.room start.openings start.journal (done ++ es) (bytes ++ bs)
 
-pub answers_none : (d : Declaration) (room : ℕ) (now : Account) (bytes : List ℕ) → now ≡ opened d room → bytes ≡ [] → AnswersSoFar d room now [] bytes
-answers_none d room now bytes e none = record {
-  rest_stays = let j : now.journal ≡ [] = ap (λ a. a.journal) e in e ∙ ap (λ x. record (opened d room) { journal = x }) (sym j);
-  forth = λ es bs t.
-      let j : now.journal ≡ [] = ap (λ a. a.journal) e in
-      subst (λ x. Traced d room (opening_contents d) [] es (x ++ bs)) (sym none) (subst (λ x. Traced d room (opening_contents d) x es bs) j t);
+pub answers_none : (start : Account) (text bytes : List ℕ) → bytes ≡ [] → AnswersSoFar start start text text bytes 0
+answers_none start text bytes none = record {
+  done = [];
+  few = omega arith;
+  fits = All-nil EntryFits;
+  parts = inl refl;
+  rest_stays = refl;
+  forth = λ es bs t. subst (λ x. Traced start.declaration start.room start.openings start.journal es (x ++ bs)) (sym none) t;
 }
 
 owed_at : (a b : Account) (w : ℕ) (t : Attempt) (r : Reply) → a ≡ b → Owed a.declaration a.room a.openings a.journal w t r → Owed b.declaration b.room b.openings b.journal w t r
 owed_at a b w t r e h = subst (λ x. Owed x.declaration x.room x.openings x.journal w t r) e h
 
-pub answers_more : (d : Declaration) (room : ℕ) (old new : Account) (done : List Entry) (e : Entry) (bytes more : List ℕ) → IsAnswered old new e.0 e.1 bytes more → AnswersSoFar d room old done bytes → AnswersSoFar d room new (done ++ e ∷ []) more
-answers_more d room old new done e bytes more one s =
+-- one attempt more is answered
+forth_more : (start old new : Account) (done : List Entry) (e : Entry) (bytes line more : List ℕ) → line ≡ line_text start.declaration e.0 e.1 → IsAnswered old new e.0 e.1 line bytes more → old ≡ record start { journal = old.journal }
+    → ((es : List Entry) (bs : List ℕ) → Traced start.declaration start.room start.openings old.journal es bs → Traced start.declaration start.room start.openings start.journal (done ++ es) (bytes ++ bs))
+    → (es : List Entry) (bs : List ℕ) → Traced start.declaration start.room start.openings new.journal es bs → Traced start.declaration start.room start.openings start.journal ((done ++ e ∷ []) ++ es) (more ++ bs)
+forth_more start old new done e bytes line more is one stays forth es bs t =
     let j : new.journal ≡ with_line old.journal e.0 e.1 one.reply = ap (λ a. a.journal) one.stepped in
-    let d_is : old.declaration ≡ d = ap (λ a. a.declaration) s.rest_stays in
-    let is : more ≡ bytes ++ reply_line d e.0 e.1 one.reply = one.grown ∙ ap (λ x. bytes ++ reply_line x e.0 e.1 one.reply) d_is in
+    let reply : List ℕ = reply_line start.declaration e.0 e.1 one.reply in
+    let grown : more ≡ bytes ++ reply = one.grown ∙ ap (λ x. bytes ++ ((x ++ (codes ": " ++ reply_text one.reply)) ++ 10 ∷ [])) is in
+    let next : Traced start.declaration start.room start.openings (with_line old.journal e.0 e.1 one.reply) es bs = subst (λ x. Traced start.declaration start.room start.openings x es bs) j t in
+    let owed : Owed start.declaration start.room start.openings old.journal e.0 e.1 one.reply = owed_at old (record start { journal = old.journal }) e.0 e.1 one.reply stays one.owed in
+    let whole = forth (e ∷ es) (reply ++ bs) (answers owed one.served next) in
+    let entries : done ++ (e ∷ es) ≡ (done ++ e ∷ []) ++ es = sym (append_assoc done (e ∷ []) es) in
+    let text : bytes ++ (reply ++ bs) ≡ more ++ bs = sym (append_assoc bytes reply bs) ∙ ap (λ x. x ++ bs) (sym grown) in
+    subst (λ x. Traced start.declaration start.room start.openings start.journal ((done ++ e ∷ []) ++ es) x) text (subst (λ x. Traced start.declaration start.room start.openings start.journal x (bytes ++ (reply ++ bs))) entries whole)
+
+entries_push : (d : Declaration) (es : List Entry) (e : Entry) → entries_text d (es ++ e ∷ []) ≡ entries_text d es ++ entry_line d e
+entries_push d es e = flat_map-append (entry_line d) es (e ∷ []) ∙ ap (λ x. entries_text d es ++ x) (append-nil (entry_line d e))
+
+drop_line : (line rest : List ℕ) → drop (length line + 1) (line ++ 10 ∷ rest) ≡ rest
+drop_line line rest = drop-append-add line (10 ∷ rest) 1
+
+-- the text goes on behind its next line
+goes_on : (d : Declaration) (text rest : List ℕ) (done : List Entry) (e : Entry) → rest ≢ [] → IsFirstLine (line_text d e.0 e.1) rest → GoesOn d text done rest → GoesOn d text (done ++ e ∷ []) (drop (length (line_text d e.0 e.1) + 1) rest)
+goes_on d text rest done e more first (inr (none, is)) = absurd (more none)
+goes_on d text rest done e more (h, inl last) (inl is) = inr (
+  ap (λ x. drop (length (line_text d e.0 e.1) + 1) x) last ∙ drop_all (length (line_text d e.0 e.1) + 1) (line_text d e.0 e.1) (omega arith),
+  ap (λ x. x ++ 10 ∷ []) (is ∙ ap (λ x. entries_text d done ++ x) last) ∙ append_assoc (entries_text d done) (line_text d e.0 e.1) (10 ∷ []) ∙ sym (entries_push d done e),
+)
+goes_on d text rest done e more (h, inr (after, next)) (inl is) =
+    let left : drop (length (line_text d e.0 e.1) + 1) rest ≡ after = ap (λ x. drop (length (line_text d e.0 e.1) + 1) x) next ∙ drop_line (line_text d e.0 e.1) after in
+    let regroup : entries_text d done ++ (line_text d e.0 e.1 ++ 10 ∷ after) ≡ (entries_text d done ++ entry_line d e) ++ after = simp append_assoc in
+    inl (is ∙ ap (λ x. entries_text d done ++ x) next ∙ regroup ∙ ap (λ x. x ++ after) (sym (entries_push d done e)) ∙ ap (λ x. entries_text d (done ++ e ∷ []) ++ x) (sym left))
+
+-- what stands before the end of the first line is the line
+first_is : (line rest : List ℕ) → IsFirstLine line rest → take (length line) rest ≡ line
+first_is line rest (h, inl is) = ap (λ x. take (length line) x) is ∙ take_all (length line) line (omega arith)
+first_is line rest (h, inr (after, is)) = ap (λ x. take (length line) x) is ∙ take-append_seam line (10 ∷ after)
+
+-- the next line is read, answered and passed
+pub answers_more : (start old new : Account) (d : Declaration) (text rest line after bytes more : List ℕ) (number n w : ℕ) (a : Attempt) → d ≡ old.declaration → 0 < length rest
+    → IsFirstLine (line_text d w a) rest → EntryFits (w, a) → n ≡ length (line_text d w a) → line ≡ take n rest → after ≡ drop (n + 1) rest
+    → IsAnswered old new w a line bytes more → AnswersSoFar start old text rest bytes number → AnswersSoFar start new text after more (number + 1)
+answers_more start old new d text rest line after bytes more number n w a is some first fits count copied left one s =
+    let same : d ≡ start.declaration = is ∙ ap (λ a. a.declaration) s.rest_stays in
+    let first_here : IsFirstLine (line_text start.declaration w a) rest = subst (λ x. IsFirstLine (line_text x w a) rest) same first in
+    let count_here : n ≡ length (line_text start.declaration w a) = subst (λ x. n ≡ length (line_text x w a)) same count in
+    let line_is : line ≡ line_text start.declaration w a = copied ∙ ap (λ x. take x rest) count_here ∙ first_is (line_text start.declaration w a) rest first_here in
+    let after_is : after ≡ drop (length (line_text start.declaration w a) + 1) rest = left ∙ ap (λ x. drop (x + 1) rest) count_here in
+    let j : new.journal ≡ with_line old.journal w a one.reply = ap (λ a. a.journal) one.stepped in
     record {
-      rest_stays = one.stepped ∙ ap (λ (a : Account). record a { journal = with_line old.journal e.0 e.1 one.reply }) s.rest_stays ∙ ap (λ x. record (opened d room) { journal = x }) (sym j);
-      forth = λ es bs t.
-          let next : Traced d room (opening_contents d) (with_line old.journal e.0 e.1 one.reply) es bs = subst (λ x. Traced d room (opening_contents d) x es bs) j t in
-          let owed : Owed d room (opening_contents d) old.journal e.0 e.1 one.reply = owed_at old (record (opened d room) { journal = old.journal }) e.0 e.1 one.reply s.rest_stays one.owed in
-          let whole = s.forth (e ∷ es) (reply_line d e.0 e.1 one.reply ++ bs) (answers owed one.served next) in
-          let entries : done ++ (e ∷ es) ≡ (done ++ e ∷ []) ++ es = sym (append_assoc done (e ∷ []) es) in
-          let text : bytes ++ (reply_line d e.0 e.1 one.reply ++ bs) ≡ more ++ bs = sym (append_assoc bytes (reply_line d e.0 e.1 one.reply) bs) ∙ ap (λ x. x ++ bs) (sym is) in
-          subst (λ x. Traced d room (opening_contents d) [] ((done ++ e ∷ []) ++ es) x) text (subst (λ x. Traced d room (opening_contents d) [] x (bytes ++ (reply_line d e.0 e.1 one.reply ++ bs))) entries whole);
+      done = s.done ++ (w, a) ∷ [];
+      few = let few = s.few in let short : length after ≡ length rest - (n + 1) = ap length left ∙ length-drop (n + 1) rest in omega arith;
+      fits = All-push EntryFits s.done (w, a) s.fits fits;
+      parts = subst (λ x. GoesOn start.declaration text (s.done ++ (w, a) ∷ []) x) (sym after_is) (goes_on start.declaration text rest s.done (w, a) (λ e. let none : length rest ≡ 0 = ap length e in omega arith) first_here s.parts);
+      rest_stays = one.stepped ∙ ap (λ (x : Account). record x { journal = with_line old.journal w a one.reply }) s.rest_stays ∙ ap (λ x. record start { journal = x }) (sym j);
+      forth = forth_more start old new s.done (w, a) bytes line more line_is one s.rest_stays s.forth;
     }
 
--- the next of the attempts is answered
-pub answers_next : (d : Declaration) (room : ℕ) (old new : Account) (es : List Entry) (i : ℕ) (default : Entry) (bytes more : List ℕ) → i < length es → IsAnswered old new (get_or es i default).0 (get_or es i default).1 bytes more → AnswersSoFar d room old (take i es) bytes → AnswersSoFar d room new (take (i + 1) es) more
-answers_next d room old new es i default bytes more h one s =
-    subst (λ x. AnswersSoFar d room new x more) (sym (take_more es i default h)) (answers_more d room old new (take i es) (get_or es i default) bytes more one s)
+spelled_whole : (d : Declaration) (text : List ℕ) (done : List Entry) (rest : List ℕ) → rest ≡ [] → GoesOn d text done rest → (text ≡ entries_text d done) ⊎ (text ++ 10 ∷ [] ≡ entries_text d done)
+spelled_whole d text done rest none (inl is) = inl (is ∙ ap (λ x. entries_text d done ++ x) none ∙ append-nil (entries_text d done))
+spelled_whole d text done rest none (inr (last, is)) = inr is
 
-pub answers_all : (d : Declaration) (room : ℕ) (now : Account) (es : List Entry) (n : ℕ) (bytes : List ℕ) → length es ≤ n → AnswersSoFar d room now (take n es) bytes → Traced d room (opening_contents d) [] es bytes
-answers_all d room now es n bytes h s =
-    let whole = s.forth [] [] at_end in
-    let entries : take n es ++ [] ≡ es = append-nil (take n es) ∙ take_all n es h in
-    subst (λ x. Traced d room (opening_contents d) [] es x) (append-nil bytes) (subst (λ x. Traced d room (opening_contents d) [] x (bytes ++ [])) entries whole)
+-- all attempts of a text are answered
+pub answers_all : (start now : Account) (text rest bytes : List ℕ) (number : ℕ) → rest ≡ [] → AnswersSoFar start now text rest bytes number → IsTraceBy start text bytes
+answers_all start now text rest bytes number none s = record {
+  entries = s.done;
+  attempts = record { fits = s.fits; spelled = spelled_whole start.declaration text s.done rest none s.parts };
+  traced =
+      let whole = s.forth [] [] at_end in
+      subst (λ x. Traced start.declaration start.room start.openings start.journal s.done x) (append-nil bytes) (subst (λ x. Traced start.declaration start.room start.openings start.journal x (bytes ++ [])) (append-nil s.done) whole);
+}
 
--- what refuses a text, but for want of memory
-pub refusal : (d : Declaration) (text : List ℕ) (f : TextFault) → IsTextFault d text f → (f ≢ faults.TooLong → f ≢ faults.OutOfMemory → (es : List Entry) → IsAttemptsText d text es → ⊥) → f ≢ faults.OutOfMemory → (134217728 < length text) ⊎ ((es : List Entry) → IsAttemptsText d text es → ⊥)
-refusal d text faults.TooLong long none known = inl long
-refusal d text (faults.BadLine n) at none known = inr (none (λ e. cc) (λ e. cc))
-refusal d text (faults.Undeclared n) at none known = inr (none (λ e. cc) (λ e. cc))
-refusal d text faults.OutOfMemory at none known = absurd (known refl)
+refuted : (d : Declaration) (text : List ℕ) (done : List Entry) (rest : List ℕ) → rest ≢ [] → IsNoRest d rest → All EntryFits done → GoesOn d text done rest → (es : List Entry) → IsAttemptsText d text es → ⊥
+refuted d text done rest more none fits (inl is) es t = none done fits es (subst (λ x. IsAttemptsText d x es) is t)
+refuted d text done rest more none fits (inr (last, is)) es t = more last
+
+-- the next line is no attempt
+pub answers_refuted : (start now : Account) (d : Declaration) (text rest bytes : List ℕ) (number : ℕ) → d ≡ now.declaration → 0 < length rest → (rest ≢ [] → IsNoRest d rest) → AnswersSoFar start now text rest bytes number → (es : List Entry) → IsAttemptsText start.declaration text es → ⊥
+answers_refuted start now d text rest bytes number is some none s =
+    let same : d ≡ start.declaration = is ∙ ap (λ a. a.declaration) s.rest_stays in
+    let more : rest ≢ [] = λ e. let l : length rest ≡ 0 = ap length e in omega arith in
+    refuted start.declaration text s.done rest more (subst (λ x. IsNoRest x rest) same (none more)) s.fits s.parts
+
+-- a first line is no longer than its text
+pub first_fits : (line rest : List ℕ) → IsFirstLine line rest → length line ≤ length rest
+first_fits line rest (h, inl is) = let l : length rest ≡ length line = ap length is in omega arith
+first_fits line rest (h, inr (after, is)) = let l : length rest ≡ length line + length (10 ∷ after) = ap length is ∙ length-append line (10 ∷ after) in omega arith
 
 pub keeps_same : (a : Option (List ℕ)) → Keeps a a
 keeps_same None = tt
 keeps_same (Some a) = refl
-
-pub front_of_trace : (d : Declaration) (room : ℕ) (text bytes front rest : List ℕ) → bytes ≡ front ++ rest → IsTraceOf d room text bytes → IsFrontOfTrace d room text front
-front_of_trace d room text bytes front rest e t = inr (rest, rw e at t)

@@ -4,16 +4,13 @@ use Rattle.std.proofs.lemmas.List.{append-nil}
 use Rattle.std.proofs.Math.Seq.{take-append_seam}
 use Rattle.path_fields.specs.Splits.{HasNone}
 use Rattle.path_commands.specs.Inputs.{Cuts, at_mark, at_last_mark, past_line, past_last}
-use Rattle.path_fields.proofs.SplitLemmas.{cut_once, cut_none}
+use Rattle.path_fields.proofs.CallerLemmas.{cut_once, cut_none}
 
 pub record Passed (s : List ℕ) (at : ℕ) (rest : List ℕ) : Type 0 where
   pub front : List ℕ
   pub parts : s ≡ front ++ rest
   pub len : length front ≡ at
   pub cuts : (a b : List ℕ) → Cuts rest a b → Cuts s (front ++ a) b
-
-pub starts : (s : List ℕ) → Passed s 0 s
-starts s = record { front = []; parts = refl; len = refl; cuts = λ a b c. c }
 
 pub passes : (s line rest after : List ℕ) (at end : ℕ) → rest ≡ line ++ 10 ∷ after → HasNone 10 line → line ≢ 37 ∷ [] → end ≡ at + (length line + 1) → Passed s at rest → Passed s end after
 passes s line rest after at end e h other is p =

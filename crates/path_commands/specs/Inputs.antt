@@ -9,5 +9,6 @@ pub data Cuts : List ℕ → List ℕ → List ℕ → Type 0 where
   at_mark : {after : List ℕ} → Cuts (37 ∷ 10 ∷ after) [] after
   at_last_mark : Cuts (37 ∷ []) [] []
   -- another line
-  past_line : {line rest before after : List ℕ} → HasNone 10 line → line ≢ 37 ∷ [] → Cuts rest before after → Cuts (line ++ 10 ∷ rest) (line ++ 10 ∷ before) after
+  past_line : {line rest before after : List ℕ} → HasNone 10 line → line ≢ 37 ∷ [] → Cuts rest before after
+      → Cuts (line ++ 10 ∷ rest) (line ++ 10 ∷ before) after
   past_last : {line : List ℕ} → HasNone 10 line → line ≢ 37 ∷ [] → Cuts line line []

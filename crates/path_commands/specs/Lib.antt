@@ -1,2 +1,5 @@
+pub mod Statuses
+pub mod Writes
 pub mod Inputs
+pub mod Prints
 pub mod Traces

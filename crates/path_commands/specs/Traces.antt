@@ -1,5 +1,5 @@
 -- What a trace is: each attempt with a reply that was owed to it.
-use Rattle.std.specs.Prelude.{◌≡◌, ◌≢◌, ℕ, List, [], ◌∷◌, ◌++◌, ◌⊎◌}
+use Rattle.std.specs.Prelude.{◌≡◌, ◌≢◌, ◌<◌, ℕ, List, [], ◌∷◌, ◌++◌, ◌⊎◌, length, codes}
 use Rattle.path_model.specs.declared.journal.Attempt.{Attempt}
 use Rattle.path_model.specs.declared.journal.Reply.{Reply}
 use Rattle.path_model.specs.declared.journal.Reply.TheVariants.{DeviceFailed}
@@ -7,9 +7,14 @@ use Rattle.path_model.specs.declared.journal.Line.{Line}
 use Rattle.path_model.specs.Declarations.{Declaration}
 use Rattle.path_model.specs.Journals.{with_line}
 use Rattle.path_model.specs.Owed.{Owed}
+use Rattle.path_decl.specs.Text.{IsDeclarationText}
+use Rattle.path_system.specs.declared.system.TheConstants.{MOST_LINES}
+use Rattle.path_system.specs.declared.texts.TheConstants.{LIMIT}
 use Rattle.path_system.specs.Accounts.{Account, opening_contents}
-use Rattle.path_system.specs.LineTexts.{journal_line_text}
+use Rattle.path_system.specs.LineTexts.{journal_line_text, reply_text}
 use Rattle.path_system.specs.AttemptTexts.{Entry, IsAttemptsText}
+use Rattle.path_commands.specs.declared.status.Status.{Status}
+use Rattle.path_commands.specs.declared.status.Status.TheVariants.{CommandRefused, TextRefused, NoMemory}
 
 -- the text of the reply to an attempt, and a line feed
 abbrev pub reply_line : Declaration → ℕ → Attempt → Reply → List ℕ
@@ -23,20 +28,47 @@ pub data Traced (d : Declaration) (room : ℕ) (openings : List (List ℕ)) : Li
       → Owed d room openings ls w a r → r ≢ DeviceFailed → Traced d room openings (with_line ls w a r) es bytes
       → Traced d room openings ls ((w, a) ∷ es) (reply_line d w a r ++ bytes)
 
--- one attempt is answered: the system has stepped, and the text has grown by the attempt with its reply
-pub record IsAnswered (old new : Account) (w : ℕ) (a : Attempt) (before after : List ℕ) : Type 0 where
+-- one attempt is answered: the system has stepped, and the text has grown by the attempt's own line with its reply
+pub record IsAnswered (old new : Account) (w : ℕ) (a : Attempt) (line before after : List ℕ) : Type 0 where
   pub reply : Reply
   pub owed : Owed old.declaration old.room old.openings old.journal w a reply
   pub served : reply ≢ DeviceFailed
   pub stepped : new ≡ record old { journal = with_line old.journal w a reply }
-  pub grown : after ≡ before ++ reply_line old.declaration w a reply
+  pub grown : after ≡ before ++ ((line ++ (codes ": " ++ reply_text reply)) ++ 10 ∷ [])
 
--- the bytes are the answers to the attempts of a text, from an empty journal on; each cell opens with 0
-pub record IsTraceOf (d : Declaration) (room : ℕ) (text bytes : List ℕ) : Type 0 where
+-- the bytes are a system's answers to the attempts of a text
+pub record IsTraceBy (system : Account) (text bytes : List ℕ) : Type 0 where
   pub entries : List Entry
-  pub attempts : IsAttemptsText d text entries
-  pub traced : Traced d room (opening_contents d) [] entries bytes
+  pub attempts : IsAttemptsText system.declaration text entries
+  pub traced : Traced system.declaration system.room system.openings system.journal entries bytes
 
--- the answers break off here, maybe before the first
-abbrev pub IsFrontOfTrace : Declaration → ℕ → List ℕ → List ℕ → Type 0
-IsFrontOfTrace d room text front = (front ≡ []) ⊎ ((rest : List ℕ) × IsTraceOf d room text (front ++ rest))
+-- a system before any attempt; each cell opens with 0
+abbrev pub opened : Declaration → ℕ → Account
+opened d room = record { declaration = d; room = room; openings = opening_contents d; journal = [] }
+
+-- the bytes are the answers to the attempts of a text, from an empty journal on
+abbrev pub IsTraceOf : Declaration → ℕ → List ℕ → List ℕ → Type 0
+IsTraceOf d room text bytes = IsTraceBy (opened d room) text bytes
+
+-- the bytes are the answers to a text of attempts, under the declaration that another text is
+abbrev pub IsTraceOfTexts : List ℕ → ℕ → List ℕ → List ℕ → Type 0
+IsTraceOfTexts declaration room attempts bytes = (d : Declaration) × IsDeclarationText declaration d × IsTraceOf d room attempts bytes
+
+-- no system has such a room
+abbrev pub IsBadRoom : ℕ → Type 0
+IsBadRoom room = (room ≡ 0) ⊎ (MOST_LINES < room)
+
+-- the text is too long, or tells no attempts
+abbrev pub IsBadText : Declaration → List ℕ → Type 0
+IsBadText d text = (LIMIT < length text) ⊎ ((es : List Entry) → IsAttemptsText d text es → ⊥)
+
+-- the text is too long, or tells no attempts, under the declaration that another text is
+abbrev pub IsBadTextUnder : List ℕ → List ℕ → Type 0
+IsBadTextUnder declaration attempts = (d : Declaration) × IsDeclarationText declaration d × IsBadText d attempts
+
+-- what a trace is refused for that ends so before anything is written
+abbrev pub IsRefused : Declaration → ℕ → List ℕ → Status → Type 0
+IsRefused d room text CommandRefused = IsBadRoom room
+IsRefused d room text TextRefused = IsBadText d text
+IsRefused d room text NoMemory = Unit {0}
+IsRefused d room text status = ⊥

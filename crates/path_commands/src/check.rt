@@ -1,39 +1,51 @@
 //! From a declaration to its print.
 
-ghost use Rattle.std.specs.Prelude.{◌≡◌, ◌⊎◌};
-ghost use Rattle.std.specs.Io.KnownBytes.{Appends, Keeps};
-ghost use Rattle.path_model.specs.Declarations.{Declaration};
-ghost use Rattle.path_decl.specs.Text.{IsDeclarationText};
-ghost use Rattle.path_decl.specs.Printed.{printed};
+ghost use Rattle.std.specs.Prelude.{◌≡◌, ◌≢◌, IfOk, IfErr};
+ghost use Rattle.std.specs.String.{string_bytes};
+ghost use Rattle.std.specs.Io.KnownBytes.{Keeps};
+ghost use Rattle.path_commands.specs.Statuses.{status_of};
+ghost use Rattle.path_commands.specs.Writes.{AppendsSome, IsFrontOf};
+ghost use Rattle.path_commands.specs.Prints.{IsNoDeclaration, IsPrintOf, IsUndeclared};
 
+use crate::fault::{Fault, tell};
 use crate::put::put_text;
-use crate::status::{NO_MEMORY, tell, tell_declaration_fault};
-use path_decl::{print, read};
+use crate::status::Status;
+use path_decl::read;
+use path_print::print;
 use std::alloc::Allocator;
 use std::io::Write;
 
+/// The print of the declaration that a text is.
+fn reprinted<A: Allocator + Copy>(alloc: A, text: &[u8]) -> Result<String<A>, Fault<'static>>
+    ensures ok { IfOk result (λ print. IsPrintOf text.now (string_bytes print)) }
+    ensures err { IfErr result (λ fault. IsUndeclared text.now (status_of fault)) }
+{
+    match read(alloc, text) {
+        Ok(decl) => Ok(print(alloc, &decl)?),
+        Err(fault) => Err(Fault::Declaration(fault)),
+    }
+}
+
 /// Reads a declaration and writes it as it is printed. The cost is that of the text.
 ///
-/// Statuses: 0 done; 1 the text is refused, and nothing was written; 3 a writer failed, and what it took is unknown; 6
-/// want of memory. A fault is one line on `err`.
+/// `DeclarationRefused`: the text is refused, and nothing was written. `StreamFailed`: a writer failed, and what it took is
+/// unknown. `NoMemory`: memory is wanting, and a front of the print was written. A fault is one line on `err`.
 pub fn check_to<A: Allocator + Copy, O: Write, E: Write>(
     alloc: A,
     text: &[u8],
     out: &mut O,
     err: &mut E,
-) -> u8
+) -> Status
     // The text is a declaration, and its print was written.
-    ensures done { result ≡ 0 → (d : Declaration) × IsDeclarationText text.now d × Appends (O.contents out.old) (O.contents out.new) (printed d) }
+    ensures done { result ≡ Status.Done → AppendsSome (O.contents out.old) (O.contents out.new) (IsPrintOf text.now) }
     // The text is none, and nothing was written.
-    ensures refused { result ≡ 1 → Keeps (O.contents out.old) (O.contents out.new) × ((d : Declaration) → IsDeclarationText text.now d → ⊥) }
-    ensures statuses { (result ≡ 0) ⊎ (result ≡ 1) ⊎ (result ≡ 3) ⊎ (result ≡ 6) }
+    ensures refused { result ≡ Status.DeclarationRefused → Keeps (O.contents out.old) (O.contents out.new) × IsNoDeclaration text.now }
+    // Only a front of the print was written.
+    ensures memory { result ≡ Status.NoMemory → AppendsSome (O.contents out.old) (O.contents out.new) (IsFrontOf (IsPrintOf text.now)) }
+    ensures statuses { (result ≢ Status.CommandRefused) × (result ≢ Status.TextRefused) }
 {
-    let decl = match read(alloc, text) {
-        Ok(decl) => decl,
-        Err(fault) => return tell_declaration_fault(err, fault),
-    };
-    match print(alloc, &decl) {
-        Ok(printed) => put_text(out, err, printed.as_bytes()),
-        Err(_) => tell(err, "out of memory", NO_MEMORY),
+    match reprinted(alloc, text) {
+        Ok(print) => put_text(out, err, print.as_bytes()),
+        Err(fault) => tell(err, fault),
     }
 }

@@ -1,25 +1,27 @@
 //! Bounded input.
 
-ghost use Rattle.std.specs.Prelude.{◌≡◌, ◌<◌, ◌≤◌, length, IfOk, IfSome, MatchOption};
+ghost use Rattle.std.specs.Prelude.{◌≡◌, ◌<◌, ◌≤◌, length, IfOk, IfSome, IsErrOf};
 
-use path_system::LIMIT;
+use crate::fault::Fault;
 use std::alloc::Allocator;
-use std::io;
 use std::io::Read;
 
-/// All bytes of a reader, or nothing where there are more than [`LIMIT`]. Reads at most one byte past the limit. An
-/// error is the reader's own, or want of memory.
-pub fn read_all<A: Allocator + Copy, R: Read + Drop>(
+/// All bytes of a reader, which is told by its name in a fault: `TooLong` where it has more than the limit, `Unreadable`
+/// where it fails, `OutOfMemory` for want of memory. Reads at most one byte past the limit.
+pub fn read_all<'a, A: Allocator + Copy, R: Read + Drop>(
     alloc: A,
     reader: R,
-) -> io::Result<Option<Vec<u8, A>>>
-    ensures { IfOk result (λ r. IfSome (R.remaining reader) (λ bytes.
-        MatchOption r (LIMIT < length bytes) (λ v. (v.items ≡ bytes) × (length bytes ≤ LIMIT)))) }
+    limit: usize,
+    name: &'a str,
+) -> Result<Vec<u8, A>, Fault<'a>>
+    ensures ok { IfOk result (λ v. (length v.items ≤ limit) × IfSome (R.remaining reader) (λ bytes. v.items ≡ bytes)) }
+    ensures too_long { IsErrOf result (Fault.TooLong name.entry) → IfSome (R.remaining reader) (λ bytes. limit < length bytes) }
 {
     let mut bytes = Vec::new(alloc);
-    reader.take(LIMIT as u64 + 1).read_to_end(&mut bytes)?;
-    if bytes.len() > LIMIT {
-        return Ok(None);
+    let most = (limit as u64).saturating_add(1);
+    match reader.take(most).read_to_end(&mut bytes) {
+        Ok(_) if bytes.len() > limit => Err(Fault::TooLong(name)),
+        Ok(_) => Ok(bytes),
+        Err(error) => Err(Fault::of_reading(name, &error)),
     }
-    Ok(Some(bytes))
 }

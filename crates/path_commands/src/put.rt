@@ -1,24 +1,19 @@
 //! Writing bytes, and knowing what was written where it fails.
 
-ghost use Rattle.std.specs.Prelude.{◌≡◌, ◌++◌, ◌⊎◌, List, OnOk, OnErr, ℕ};
+ghost use Rattle.std.specs.Prelude.{◌≡◌, ◌⊎◌, OnOk, OnErr, IfErr};
 ghost use Rattle.std.specs.Io.KnownBytes.{Appends};
+ghost use Rattle.path_commands.specs.Writes.{AppendsSome, IsFrontOf};
 
-use crate::status::{NO_MEMORY, STREAM_FAILED, tell};
+use crate::fault::{Fault, tell};
+use crate::status::Status;
 use std::io::{ErrorKind, Write};
 
-/// Why writing stopped.
-#[derive(Clone, Copy, Debug, PartialEq, Eq)]
-pub enum Stop {
-    /// The writer wanted memory.
-    Memory,
-    /// The writer failed, or took nothing.
-    Output,
-}
-
-/// Writes all of the bytes; where the writer fails, a front of them. What is interrupted is tried again.
-pub fn put<O: Write>(out: &mut O, bytes: &[u8]) -> Result<(), Stop>
+/// Writes all of the bytes; where the writer fails, a front of them. What is interrupted is tried again, and a writer
+/// that takes nothing can't be written.
+pub fn put<O: Write>(out: &mut O, bytes: &[u8]) -> Result<(), Fault<'static>>
     ensures ok { OnOk result (Appends (O.contents out.old) (O.contents out.new) bytes.now) }
-    ensures err { OnErr result ((front : List ℕ) × (rest : List ℕ) × (bytes.now ≡ front ++ rest) × Appends (O.contents out.old) (O.contents out.new) front) }
+    ensures err { OnErr result (AppendsSome (O.contents out.old) (O.contents out.new) (IsFrontOf (λ all. all ≡ bytes.now))) }
+    ensures fault { IfErr result (λ fault. (fault ≡ Fault.Unwritable) ⊎ (fault ≡ Fault.OutOfMemory)) }
 {
     let mut rest = bytes;
     for _ in 0..u64::MAX {
@@ -26,33 +21,31 @@ pub fn put<O: Write>(out: &mut O, bytes: &[u8]) -> Result<(), Stop>
             return Ok(());
         }
         match out.write(rest) {
-            Ok(0) => return Err(Stop::Output),
+            Ok(0) => return Err(Fault::Unwritable),
             Ok(n) => rest = &rest[n..],
-            Err(error) => match error.kind() {
-                ErrorKind::Interrupted => {}
-                ErrorKind::OutOfMemory => return Err(Stop::Memory),
-                _ => return Err(Stop::Output),
-            },
+            Err(error) => {
+                if error.kind() != ErrorKind::Interrupted {
+                    return Err(Fault::of_writing(&error));
+                }
+            }
         }
     }
-    Err(Stop::Output)
+    Err(Fault::Unwritable)
 }
 
-/// Writes all of the text and flushes it. Answers 0; 3 where the writer failed, and what it took is unknown; 6 where it
-/// wanted memory. A fault is one line on `err`.
-pub fn put_text<O: Write, E: Write>(out: &mut O, err: &mut E, text: &[u8]) -> u8
-    ensures done { result ≡ 0 → Appends (O.contents out.old) (O.contents out.new) text.now }
+/// Writes all of the text and flushes it. Where the writer fails, what it took is unknown; where it wants memory, it took a
+/// front. A fault is one line on `err`.
+pub fn put_text<O: Write, E: Write>(out: &mut O, err: &mut E, text: &[u8]) -> Status
+    ensures done { result ≡ Status.Done → Appends (O.contents out.old) (O.contents out.new) text.now }
     // Only a front of the text was written.
-    ensures memory { result ≡ NO_MEMORY → (front : List ℕ) × (rest : List ℕ) × (text.now ≡ front ++ rest) × Appends (O.contents out.old) (O.contents out.new) front }
-    ensures statuses { (result ≡ 0) ⊎ (result ≡ STREAM_FAILED) ⊎ (result ≡ NO_MEMORY) }
+    ensures memory { result ≡ Status.NoMemory → AppendsSome (O.contents out.old) (O.contents out.new) (IsFrontOf (λ all. all ≡ text.now)) }
+    ensures statuses { (result ≡ Status.Done) ⊎ (result ≡ Status.StreamFailed) ⊎ (result ≡ Status.NoMemory) }
 {
-    match put(out, text) {
-        Ok(()) => {}
-        Err(Stop::Memory) => return tell(err, "out of memory", NO_MEMORY),
-        Err(Stop::Output) => return tell(err, "output: cannot write", STREAM_FAILED),
+    if let Err(fault) = put(out, text) {
+        return tell(err, fault);
     }
     match out.flush() {
-        Ok(()) => 0,
-        Err(_) => tell(err, "output: cannot write", STREAM_FAILED),
+        Ok(()) => Status::Done,
+        Err(error) => tell(err, Fault::of_writing(&error)),
     }
 }

@@ -1,55 +1,36 @@
-//! Fault texts on standard error.
+//! How a command ends.
 
-ghost use Rattle.std.specs.Prelude.{◌≡◌, ◌≢◌, ◌⊎◌};
-
-use path_decl::DeclFault;
-use path_system::TextFault;
-use std::fmt::Display;
-use std::io::Write;
-
-/// The exit status where the declaration is refused.
-pub const DECLARATION_REFUSED: u8 = 1;
-/// The exit status where the command line is refused.
-pub const COMMAND_REFUSED: u8 = 2;
-/// The exit status where a file or stream failed.
-pub const STREAM_FAILED: u8 = 3;
-/// The exit status where the attempts are refused.
-pub const TEXT_REFUSED: u8 = 4;
-/// The exit status for want of memory.
-pub const NO_MEMORY: u8 = 6;
-
-/// Writes a line to standard error, and answers the status, or 3 where it can't be written.
-pub fn tell<E: Write>(err: &mut E, text: impl Display + Drop, status: u8) -> u8
-    ensures { (result ≡ status) ⊎ (result ≡ STREAM_FAILED) }
-{
-    match writeln!(err, "{text}") {
-        Ok(()) => status,
-        Err(_) => STREAM_FAILED,
-    }
+/// The exit status of a command. Its number is given by `u8::from`.
+#[derive(Clone, Copy, Debug, PartialEq, Eq)]
+pub enum Status {
+    /// 0: done, or help was asked for.
+    Done,
+    /// 1: the declaration is refused.
+    DeclarationRefused,
+    /// 2: the words of the command line are refused, or a system can't be opened with them.
+    CommandRefused,
+    /// 3: a file or stream failed.
+    StreamFailed,
+    /// 4: the attempts are refused.
+    TextRefused,
+    /// 6: memory is wanting.
+    NoMemory,
 }
 
-/// Tells why a declaration is refused, and answers the status.
-pub fn tell_declaration_fault<E: Write>(err: &mut E, fault: DeclFault) -> u8
-    ensures statuses { (result ≡ DECLARATION_REFUSED) ⊎ (result ≡ STREAM_FAILED) ⊎ (result ≡ NO_MEMORY) }
-    ensures refused { result ≡ DECLARATION_REFUSED → fault ≢ DeclFault.OutOfMemory }
-{
-    match fault {
-        DeclFault::OutOfMemory => tell(err, "out of memory", NO_MEMORY),
-        fault => tell(
-            err,
-            format_args!("declaration: {fault}"),
-            DECLARATION_REFUSED,
-        ),
-    }
-}
+impl From<Status> for u8 {
+    ghost use Rattle.std.specs.Prelude.{◌≡◌};
+    ghost use Rattle.path_commands.specs.Statuses.{status_number};
 
-/// Tells why a text of attempts is refused, and answers the status.
-pub fn tell_text_fault<E: Write>(err: &mut E, fault: TextFault) -> u8
-    ensures statuses { (result ≡ TEXT_REFUSED) ⊎ (result ≡ STREAM_FAILED) ⊎ (result ≡ NO_MEMORY) }
-    ensures refused { result ≡ TEXT_REFUSED → fault ≢ TextFault.OutOfMemory }
-{
-    match fault {
-        TextFault::OutOfMemory => tell(err, "out of memory", NO_MEMORY),
-        fault => tell(err, format_args!("text: {fault}"), TEXT_REFUSED),
+    ghost from_gives = { λ status number. number ≡ status_number status };
+
+    fn from(status: Status) -> u8 {
+        match status {
+            Status::Done => 0,
+            Status::DeclarationRefused => 1,
+            Status::CommandRefused => 2,
+            Status::StreamFailed => 3,
+            Status::TextRefused => 4,
+            Status::NoMemory => 6,
+        }
     }
 }

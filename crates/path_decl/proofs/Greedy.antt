@@ -1,8 +1,8 @@
 -- What the reader reads is the grammar: in a whole file each list goes on as long as its separator follows.
 use Rattle.std.proofs.Common.{ℕ, List, ◌∷◌}
-use Rattle.path_decl.specs.declared.token.Sign.TheVariants as signs
-use Rattle.path_decl.specs.declared.token.Reserved.TheVariants as words
-use Rattle.path_decl.specs.Spelling.{Piece, sign, reserved, name}
+use Rattle.path_lex.specs.declared.token.Sign.TheVariants as signs
+use Rattle.path_lex.specs.declared.token.Reserved.TheVariants as words
+use Rattle.path_lex.specs.Spelling.{Piece, sign, reserved, name}
 use Rattle.path_decl.specs.Forms.{Form, ResourceForm}
 use Rattle.path_decl.specs.Grammar as plain
 use Rattle.path_decl.specs.Grammar.{IsUnit, IsAlt, MoreUnits, IsSeq, MoreAlts, IsPath, ArePaths, AreNames, IsResource, IsFile}

@@ -1,6 +1,5 @@
 pub mod TableLemmas
-pub mod Cut
-pub mod Lengths
+pub mod CallerLemmas
 pub mod Once
 pub mod Reached
 pub mod Unit
@@ -9,16 +8,9 @@ pub mod Greedy
 pub mod Taken
 pub mod Noted
 pub mod Files
+pub mod FormRules
 pub mod Ruled
 pub mod Made
+pub mod FromLawful
 pub mod Whole
 pub mod Unique
-pub mod PrintedAgain
-pub mod PrintedBytes
-pub mod PrintedForms
-pub mod PrintedGroups
-pub mod PrintedLaid
-pub mod PrintedLoop
-pub mod PrintedNames
-pub mod PrintedText
-pub mod PrintedWalk

@@ -1,14 +1,14 @@
 -- How far the loops over names, paths and resources have come.
 use Rattle.std.proofs.Common.{◌≡◌, ℕ, List, [], ◌∷◌, ◌++◌, map, refl, sym, ap, ◌∙◌, subst, append_assoc, arith, ◌⊎◌, inl, inr, Result, Ok, Err, IfOk, IfErr}
 use Rattle.std.proofs.lemmas.List.{append-nil, map-append}
-use Rattle.path_decl.specs.declared.token.Sign.TheVariants as signs
-use Rattle.path_decl.specs.declared.token.Reserved.TheVariants as words
+use Rattle.path_lex.specs.declared.token.Sign.TheVariants as signs
+use Rattle.path_lex.specs.declared.token.Reserved.TheVariants as words
 use Rattle.std.proofs.Common.{Bool, true, false, length}
 use Rattle.std.specs.Prelude.{nat_eq}
 use Rattle.std.proofs.lemmas.Bool.Decides.{nat_tests}
-use Rattle.path_decl.specs.declared.token.Token.{Token}
+use Rattle.path_lex.specs.declared.token.Token.{Token}
 use Rattle.path_decl.specs.Reading.{told}
-use Rattle.path_decl.specs.Spelling.{Piece, sign, reserved, name}
+use Rattle.path_lex.specs.Spelling.{Piece, sign, reserved, name}
 use Rattle.path_decl.specs.Forms.{Form, ResourceForm}
 use Rattle.path_decl.specs.Parts.{Saying, a_resource, an_operation, a_path, an_end, form_parts, body_parts, path_parts, inner_parts, resource_parts, file_parts}
 use Rattle.path_decl.specs.Reading.{Begins, Adds, ReadsSeq, ReadsPath, by_path, ReadsPaths, no_path, one_path, ReadsMore, no_name, one_name, ReadsNames, by_names, ReadsBody, by_body, ReadsResource, by_resource, ReadsResources, no_resource, one_resource, ReadsFile, by_file}

@@ -8,18 +8,18 @@ use Rattle.path_model.specs.declared.ids.OpId.{OpId}
 use Rattle.path_model.specs.declared.resource.Law.TheVariants.{Cell}
 use Rattle.path_model.specs.Trees.{Tree, Names, NoRepeats, NoBraces, NoNesting, WellFormed}
 use Rattle.path_model.specs.Legal.{numbered, Every}
-use Rattle.path_model.specs.Machine.{semicolons}
 use Rattle.path_model.specs.Declarations.{Resource, Operation, Path, Declaration}
-use Rattle.path_decl.specs.declared.token.Reserved.{Reserved}
-use Rattle.path_decl.specs.Bytes.{is_word_byte}
-use Rattle.path_decl.specs.Names.{reserved_of, IsWordText, IsName}
-use Rattle.path_decl.specs.Spelling.{Piece, sign, reserved, name, number, Placed, pieces, word_or, Spells, by_end, by_space, by_mark, by_word, by_number, IsWithinPiece, AreWithin, AreTokensOf}
+use Rattle.path_lex.specs.declared.token.Reserved.{Reserved}
+use Rattle.path_lex.specs.Bytes.{is_word_byte}
+use Rattle.path_lex.specs.Names.{reserved_of, IsWordText, IsName}
+use Rattle.path_lex.specs.Spelling.{Piece, sign, reserved, name, number, Placed, pieces, word_or, Spells, by_end, by_space, by_mark, by_word, by_number, IsWithinPiece, AreWithin, AreTokensOf}
 use Rattle.path_decl.specs.Forms.{Form, once, sequence, selection, ResourceForm, names_in, all_operations, all_paths}
 use Rattle.path_decl.specs.Grammar.{IsUnit, by_name, by_group, IsAlt, by_units, MoreUnits, no_unit, one_unit, IsSeq, by_alts, MoreAlts, no_alt, one_alt, by_path, ArePaths, no_path, one_path, AreNames, last_name, one_name, IsResource, by_resource, IsFile, last_resource, one_resource}
-use Rattle.path_decl.specs.Rules.{IsDistinct, KeepsRules}
+use Rattle.path_decl.specs.Lawful.{IsDistinct}
+use Rattle.path_decl.proofs.FormRules.{KeepsRules}
 use Rattle.path_decl.specs.Declares.{resource_from, operations_from}
 use Rattle.path_decl.specs.Building.{operation_names}
-use Rattle.path_decl.specs.Lawful.{NamesOwn, AreDistinctNames, Lawful}
+use Rattle.path_decl.specs.Lawful.{names_count, NamesOwn, AreDistinctNames, Lawful}
 use Rattle.path_decl.proofs.Taken.{each-append, each_front, each_back, each_then, tree_in, IsOwn, FormFits, fresh_distinct}
 use Rattle.path_decl.proofs.Files.{owned, made_path, made_paths, PathsFit, FileFits, names_owned}
 use Rattle.path_decl.proofs.Ruled.{distinct_front, distinct_tail}
@@ -107,10 +107,10 @@ tree_flat O (once n) = tt
 tree_flat O (sequence s t) = (tree_flat O s, tree_flat O t)
 tree_flat O (selection s t) = (tree_flat O s, tree_flat O t)
 
-tree_semicolons : (O : List Operation) (f : Form) → semicolons (tree_in O f) + 1 ≤ length (names_in f)
-tree_semicolons O (once n) = omega arith
-tree_semicolons O (sequence s t) = simp length-append (omega (arith, tree_semicolons O s, tree_semicolons O t))
-tree_semicolons O (selection s t) = simp length-append (omega (arith, tree_semicolons O s, tree_semicolons O t))
+tree_names : (O : List Operation) (f : Form) → names_count (tree_in O f) ≡ length (names_in f)
+tree_names O (once n) = refl
+tree_names O (sequence s t) = simp length-append (omega (arith, tree_names O s, tree_names O t))
+tree_names O (selection s t) = simp length-append (omega (arith, tree_names O s, tree_names O t))
 
 -- an operation of a tree, by its name
 pub record IsNamed (O : List Operation) (k : ℕ) (ns : List (List ℕ)) (a : OpId) : Type 0 where
@@ -164,7 +164,7 @@ pub record PathFacts (all : List Operation) (n : ℕ) (p : Path) : Type 0 where
   pub plain : NoBraces p.tree
   pub flat : NoNesting p.tree
   pub once : NoRepeats p.tree
-  pub few : semicolons p.tree ≤ 63
+  pub few : names_count p.tree ≤ 64
   pub within : p.resource < n
   pub own : (a : OpId) → Names p.tree a → (m : List ℕ) × (slice_get all a.0 ≡ Some (record { name = m; resource = p.resource }))
 
@@ -181,7 +181,7 @@ one_made all O rest n k f e lt h =
       plain = tree_plain O f;
       flat = tree_flat O f;
       once = tree_once O k f h.0 r.0;
-      few = omega (arith, tree_semicolons O f, r.1);
+      few = omega (arith, tree_names O f, r.1);
       within = lt;
       own = λ a x. let m = tree_named O k f h.0 a x in (m.called, ap (λ os. slice_get os a.0) e ∙ got_front O rest a.0 (record { name = m.called; resource = k }) m.stands);
     }
@@ -205,11 +205,11 @@ operations_within : (n : ℕ) (qs : List ResourceForm) (k : ℕ) → k + length 
 operations_within n [] k le = tt
 operations_within n (q ∷ qs) k le = each-append (λ o. o.resource < n) (owned k q.operations) (operations_from (k + 1) qs) (owned_within n k q.operations (omega arith)) (operations_within n qs (k + 1) (omega arith))
 
-operations_named : (qs : List ResourceForm) (k : ℕ) → operation_names (operations_from k qs) ≡ all_operations qs
+pub operations_named : (qs : List ResourceForm) (k : ℕ) → operation_names (operations_from k qs) ≡ all_operations qs
 operations_named [] k = refl
 operations_named (q ∷ qs) k = map-append (λ o. o.name) (owned k q.operations) (operations_from (k + 1) qs) ∙ ap (λ x. x ++ operation_names (operations_from (k + 1) qs)) (names_owned k q.operations) ∙ ap (λ x. q.operations ++ x) (operations_named qs (k + 1))
 
-resources_named : (qs : List ResourceForm) → map (λ r. r.name) (map resource_from qs) ≡ map (λ q. q.name) qs
+pub resources_named : (qs : List ResourceForm) → map (λ r. r.name) (map resource_from qs) ≡ map (λ q. q.name) qs
 resources_named [] = refl
 resources_named (q ∷ qs) = ap (λ x. q.name ∷ x) (resources_named qs)
 
@@ -258,7 +258,7 @@ made_lawful qs r h rn on =
       few_resources = few_r;
       few_operations = omega (arith, r.few_operations);
       few_paths = subst (λ m. m ≤ 256) (sym (made_length qs [] 0)) r.few_paths;
-      few_semicolons = All-from_recursion (λ p. semicolons p.tree ≤ 63) ps (each_then (PathFacts all n) (λ p. semicolons p.tree ≤ 63) (λ p f. f.few) ps facts);
+      few_names = All-from_recursion (λ p. names_count p.tree ≤ 64) ps (each_then (PathFacts all n) (λ p. names_count p.tree ≤ 64) (λ p f. f.few) ps facts);
       operation_names = subst AreDistinctNames (sym (operations_named qs 0)) (record { each = All-from_recursion IsName (all_operations qs) on; distinct = r.operations });
       resource_names = subst AreDistinctNames (sym (resources_named qs)) (record { each = All-from_recursion IsName (map (λ q. q.name) qs) rn; distinct = r.resources });
     }

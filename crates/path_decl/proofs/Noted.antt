@@ -9,7 +9,7 @@ use Rattle.path_model.specs.declared.ids.OpId.{OpId}
 use Rattle.path_model.specs.declared.ids.PathId.{PathId}
 use Rattle.path_model.specs.Trees.{Tree, op, seq, alt, burst, has, NoRepeats}
 use Rattle.path_model.specs.Legal.{numbered}
-use Rattle.path_model.proofs.Upward.{names_has}
+use Rattle.path_model.proofs.CallerLemmas.{names_has}
 use Rattle.path_decl.specs.Table.{noted, times, naming_from}
 
 set_other : {X : Type 0} (xs : List X) (i j : ℕ) (x : X) → (j ≡ i → ⊥) → slice_get (set xs i x) j ≡ slice_get xs j

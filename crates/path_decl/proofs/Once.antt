@@ -1,6 +1,6 @@
 -- What is read is read in one way at most.
 use Rattle.std.proofs.Common.{◌≡◌, ℕ, List, ◌∷◌, refl, sym, ap, subst}
-use Rattle.path_decl.specs.Spelling.{Piece}
+use Rattle.path_lex.specs.Spelling.{Piece}
 use Rattle.path_decl.specs.Forms.{Form, sequence, selection}
 use Rattle.path_decl.specs.Reading.{ReadsUnit, by_name, by_group, ReadsAlt, by_units, ReadsUnits, no_unit, one_unit, ReadsSeq, by_alts, ReadsAlts, no_alt, one_alt}
 

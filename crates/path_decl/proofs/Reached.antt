@@ -1,7 +1,7 @@
 -- How far the loops over alternatives and over steps have come.
 use Rattle.std.proofs.Common.{◌≡◌, ℕ, List, [], ◌∷◌, ◌++◌, refl, sym, ap, ◌∙◌, subst, append_assoc}
-use Rattle.path_decl.specs.declared.token.Sign.TheVariants as signs
-use Rattle.path_decl.specs.Spelling.{Piece, sign}
+use Rattle.path_lex.specs.declared.token.Sign.TheVariants as signs
+use Rattle.path_lex.specs.Spelling.{Piece, sign}
 use Rattle.path_decl.specs.Forms.{Form, sequence, selection}
 use Rattle.path_decl.specs.Parts.{Saying, a_sequence, a_selection, form_parts}
 use Rattle.path_decl.specs.Reading.{Begins, Adds, ReadsUnit, ReadsAlt, by_units, ReadsUnits, no_unit, one_unit, ReadsSeq, by_alts, ReadsAlts, no_alt, one_alt}

@@ -5,10 +5,12 @@ use Rattle.std.specs.Str.{bytes_eq}
 use Rattle.std.proofs.lemmas.Slice.Eq.{bytes_eq-Decides}
 use Rattle.std.proofs.lemmas.List.{length-map, length-append, get_or_append_left}
 use Rattle.std.proofs.lemmas.Option.{slice_get-map, slice_get-get_or, slice_get_within, get_or_from_slice_get, same_Some}
+use Rattle.path_model.specs.declared.ids.OpId.{OpId}
 use Rattle.path_model.specs.Declarations.{Operation, Path}
 use Rattle.path_decl.specs.Forms.{Form, once, sequence, selection, ResourceForm, names_in, all_operations}
 use Rattle.path_decl.specs.Parts.{file_parts}
-use Rattle.path_decl.specs.Rules.{IsDistinct, KeepsPathRules, PathsKeepRules, KeepsRules}
+use Rattle.path_decl.specs.Lawful.{IsDistinct}
+use Rattle.path_decl.proofs.FormRules.{KeepsPathRules, PathsKeepRules, KeepsRules}
 use Rattle.path_decl.specs.Declares.{Numbers, paths_from, ArePathsOf, Declares}
 use Rattle.path_decl.specs.Building.{Drafted, nothing, declared_by, operation_names, number_of, place_of, AllAllowed, after_all}
 use Rattle.path_decl.proofs.Taken.{each-append, each_front, each_back, each_then, fresh_distinct, distinct_fresh, tree_in, IsOwn, FormFits}
@@ -19,7 +21,7 @@ get_front [] ys i x e = absurd (cc)
 get_front (y ∷ xs) ys zero x e = e
 get_front (y ∷ xs) ys (suc i) x e = get_front xs ys i x e
 
-get_either : {X : Type 0} (xs ys : List X) (i : ℕ) (x : X) → slice_get (xs ++ ys) i ≡ Some x → (slice_get xs i ≡ Some x) ⊎ ((j : ℕ) × (slice_get ys j ≡ Some x))
+pub get_either : {X : Type 0} (xs ys : List X) (i : ℕ) (x : X) → slice_get (xs ++ ys) i ≡ Some x → (slice_get xs i ≡ Some x) ⊎ ((j : ℕ) × (slice_get ys j ≡ Some x))
 get_either [] ys i x e = inr (i, e)
 get_either (y ∷ xs) ys zero x e = inl e
 get_either (y ∷ xs) ys (suc i) x e = get_either xs ys i x e
@@ -47,10 +49,10 @@ below_owned : (k : ℕ) (os : List (List ℕ)) → Below (k + 1) (owned k os)
 below_owned k [] = tt
 below_owned k (n ∷ os) = (omega arith, below_owned k os)
 
-below_more : (O : List Operation) (k : ℕ) (os : List (List ℕ)) → Below k O → Below (k + 1) (O ++ owned k os)
+pub below_more : (O : List Operation) (k : ℕ) (os : List (List ℕ)) → Below k O → Below (k + 1) (O ++ owned k os)
 below_more O k os b = each-append (λ o. o.resource < k + 1) O (owned k os) (each_then (λ o. o.resource < k) (λ o. o.resource < k + 1) (λ o h. omega arith) O b) (below_owned k os)
 
-owned_has : (k : ℕ) (os : List (List ℕ)) (j : ℕ) (n : List ℕ) → slice_get (owned k os) j ≡ Some (record { name = n; resource = k }) → Contains os n
+pub owned_has : (k : ℕ) (os : List (List ℕ)) (j : ℕ) (n : List ℕ) → slice_get (owned k os) j ≡ Some (record { name = n; resource = k }) → Contains os n
 owned_has k os j n e =
     let names : slice_get (operation_names (owned k os)) j ≡ Some n = slice_get-map (λ o. o.name) (owned k os) j ∙ ap (option_map (λ o. o.name)) e in
     has_got os j n (ap (λ x. slice_get x j) (sym (names_owned k os)) ∙ names)
@@ -80,6 +82,10 @@ place_at [] i n d e = absurd (cc)
 place_at (m ∷ ns) zero n d e = let t = (bytes_eq-Decides n m).1 (sym (same_Some m n e)) in rw t refl
 place_at (m ∷ ns) (suc i) n d e = place_later (bytes_eq n m) (place_of n ns) i (not_same m n (bytes_eq n m) refl (first_apart m n ns i d e)) (place_at ns i n (distinct_tail m ns d) e)
 
+-- a name has one number
+pub one_number : (ns : List (List ℕ)) (n : List ℕ) (a b : OpId) → IsDistinct ns → slice_get ns a.0 ≡ Some n → slice_get ns b.0 ≡ Some n → a ≡ b
+one_number ns n a b d e f = let same : a.0 ≡ b.0 = sym (place_at ns a.0 n d e) ∙ place_at ns b.0 n d f in ap (λ (i : ℕ). record { 0 = i }) same
+
 pub distinct_front : (ms ns : List (List ℕ)) → IsDistinct (ms ++ ns) → IsDistinct ms
 distinct_front ms ns d = λ i j x lt le e.
     let long : j < length (ms ++ ns) = simp length-append (omega arith) in
@@ -95,7 +101,7 @@ own_allowed O k os d n c =
     let name : slice_get (operation_names all) b.0 ≡ Some n = slice_get-map (λ x. x.name) all b.0 ∙ ap (option_map (λ x. x.name)) b.1 in
     ap (slice_get all) (place_at (operation_names all) b.0 n d name) ∙ b.1
 
-none_distinct : IsDistinct []
+pub none_distinct : IsDistinct []
 none_distinct = λ i j x lt le. absurd (omega arith)
 
 path_kept : (O : List Operation) (k : ℕ) (os : List (List ℕ)) → Below k O → (f : Form) → FormFits (O ++ owned k os) k [] (names_in f) → KeepsPathRules os f

@@ -9,7 +9,7 @@ use Rattle.path_model.specs.Declarations.{Operation}
 use Rattle.path_decl.specs.Forms.{Form, once, sequence, selection, names_in}
 use Rattle.path_decl.specs.declared.part.PlacedPart.{PlacedPart}
 use Rattle.path_decl.specs.Parts.{Saying, saying, sayings, a_resource, an_operation, a_path, a_name, a_sequence, a_selection, an_end, form_parts}
-use Rattle.path_decl.specs.Rules.{IsDistinct}
+use Rattle.path_decl.specs.Lawful.{IsDistinct}
 use Rattle.path_decl.specs.Building.{Drafted, number_of, Allowed, after, AllAllowed, after_all}
 
 pub after_all-append : (xs ys : List Saying) (d : Drafted) → after_all (xs ++ ys) d ≡ after_all ys (after_all xs d)

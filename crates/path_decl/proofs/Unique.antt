@@ -1,18 +1,18 @@
 -- A text declares one thing at most.
-use Rattle.std.proofs.Common.{◌≡◌, ℕ, List, [], ◌∷◌, refl, sym, ap, ◌∙◌, subst, slice_get, Some}
-use Rattle.path_model.specs.declared.ids.OpId.{OpId}
+use Rattle.std.proofs.Common.{◌≡◌, ℕ, List, [], ◌∷◌, refl, sym, ap, ◌∙◌, subst}
 use Rattle.path_model.specs.Trees.{Tree, op, seq, alt, burst}
 use Rattle.path_model.specs.Declarations.{Path, Declaration}
-use Rattle.path_decl.specs.Spelling.{Placed, pieces, Spells, by_end, by_space, by_mark, by_word, by_number}
+use Rattle.path_lex.specs.Spelling.{Placed, pieces, Spells, by_end, by_space, by_mark, by_word, by_number}
 use Rattle.path_decl.specs.Forms.{Form, once, sequence, selection, ResourceForm, all_operations}
 use Rattle.path_decl.specs.Grammar.{IsFile}
-use Rattle.path_decl.specs.Rules.{IsDistinct}
+use Rattle.path_decl.specs.Lawful.{IsDistinct}
 use Rattle.path_decl.specs.Declares.{Numbers, paths_from, ArePathsOf, Declares}
 use Rattle.path_decl.specs.Text.{IsDeclarationText}
-use Rattle.path_decl.proofs.Cut.{end_only, space_only, mark_only, word_only, number_only}
+use Rattle.path_lex.proofs.CallerLemmas.{end_only, space_only, mark_only, word_only, number_only}
 use Rattle.path_decl.proofs.Lists.{file_once}
 use Rattle.path_decl.proofs.Greedy.{reads_file}
-use Rattle.path_decl.proofs.Ruled.{place_at}
+use Rattle.path_decl.proofs.Ruled.{one_number}
+use Rattle.path_decl.proofs.FromLawful.{distinct_operations}
 use Rattle.path_decl.proofs.Whole.{same_lists}
 
 with_first : (t : Placed) (ts us vs : List Placed) → ts ≡ us → vs ≡ t ∷ us → t ∷ ts ≡ vs
@@ -25,10 +25,6 @@ spells_once (by_space e r) q = spells_once r (space_only e q)
 spells_once (by_mark e r) q = let f = mark_only e q in with_first _ _ _ _ (spells_once r f.2) f.1
 spells_once (by_word e r) q = let f = word_only e q in with_first _ _ _ _ (spells_once r f.2) f.1
 spells_once (by_number e r) q = let f = number_only e q in with_first _ _ _ _ (spells_once r f.2) f.1
-
--- a name has one number
-one_number : (ns : List (List ℕ)) (n : List ℕ) (a b : OpId) → IsDistinct ns → slice_get ns a.0 ≡ Some n → slice_get ns b.0 ≡ Some n → a ≡ b
-one_number ns n a b d e f = let same : a.0 ≡ b.0 = sym (place_at ns a.0 n d e) ∙ place_at ns b.0 n d f in ap (λ (i : ℕ). record { 0 = i }) same
 
 one_tree : (ns : List (List ℕ)) → IsDistinct ns → (f : Form) (s t : Tree) → Numbers ns f s → Numbers ns f t → s ≡ t
 one_tree ns d (once n) (op a) (op b) x y = ap op (one_number ns n a b d x y)
@@ -75,4 +71,5 @@ declares_once text d e x y =
     let ts : x.tokens ≡ y.tokens = spells_once x.cut.spelled y.cut.spelled in
     let f : IsFile (pieces y.tokens) x.forms = subst (λ z. IsFile (pieces z) x.forms) ts x.file in
     let same : x.forms ≡ y.forms = file_once (reads_file f) (reads_file y.file) in
-    same_declared y.forms d e y.rules.operations (subst (λ z. Declares z d) same x.declares) y.declares
+    let names : IsDistinct (all_operations y.forms) = distinct_operations y.forms e y.declares y.lawful in
+    same_declared y.forms d e names (subst (λ z. Declares z d) same x.declares) y.declares

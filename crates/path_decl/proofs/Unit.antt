@@ -1,9 +1,9 @@
 -- What one unit is.
 use Rattle.std.proofs.Common.{◌≡◌, ℕ, suc, ◌-◌, List, [], ◌∷◌, ◌++◌, refl, sym, subst, arith}
-use Rattle.path_decl.specs.declared.token.Sign.TheVariants as signs
-use Rattle.path_decl.specs.declared.fault.DeclFault.{DeclFault}
-use Rattle.path_decl.specs.declared.fault.DeclFault.TheVariants as faults
-use Rattle.path_decl.specs.Spelling.{Piece, sign, name}
+use Rattle.path_lex.specs.declared.token.Sign.TheVariants as signs
+use Rattle.path_lex.specs.declared.fault.DeclFault.{DeclFault}
+use Rattle.path_lex.specs.declared.fault.DeclFault.TheVariants as faults
+use Rattle.path_lex.specs.Spelling.{Piece, sign, name}
 use Rattle.path_decl.specs.Forms.{Form, once}
 use Rattle.path_decl.specs.Parts.{Saying, a_name, form_parts}
 use Rattle.path_decl.specs.Reading.{Begins, Fails, Adds, ReadsUnit, by_name, by_group, ReadsSeq}

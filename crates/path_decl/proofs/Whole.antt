@@ -4,24 +4,25 @@ use Rattle.path_model.specs.Trees.{NoRepeats, WellFormed, shape}
 use Rattle.path_model.specs.Legal.{numbered, Every}
 use Rattle.path_model.specs.Declarations.{Resource, Operation, Path, Declaration}
 use Rattle.path_decl.specs.declared.decl.PathEntry.{PathEntry}
-use Rattle.path_decl.specs.declared.fault.DeclFault.{DeclFault}
-use Rattle.path_decl.specs.declared.fault.DeclFault.TheVariants as faults
-use Rattle.path_decl.specs.Spelling.{Placed, pieces, AreTokensOf}
+use Rattle.path_lex.specs.declared.fault.DeclFault.{DeclFault}
+use Rattle.path_lex.specs.declared.fault.DeclFault.TheVariants as faults
+use Rattle.path_lex.specs.Spelling.{Placed, pieces, AreTokensOf}
 use Rattle.path_decl.specs.Forms.{ResourceForm}
 use Rattle.path_decl.specs.Grammar.{IsFile}
-use Rattle.path_decl.specs.Rules.{KeepsRules}
+use Rattle.path_decl.proofs.FormRules.{KeepsRules}
 use Rattle.path_decl.specs.Parts.{Saying, file_parts}
 use Rattle.path_decl.specs.Reading.{Fails}
 use Rattle.path_decl.specs.Refused.{Refuses}
 use Rattle.path_decl.specs.Text.{IsDeclarationText}
 use Rattle.path_decl.specs.Lawful.{Lawful}
-use Rattle.path_decl.specs.Kept.{path_of}
+use Rattle.path_decl.specs.Table.{path_of}
 use Rattle.path_decl.specs.Building.{Drafted, nothing, declared_by, AllAllowed, after_all}
 use Rattle.path_decl.proofs.Lists.{file_once}
 use Rattle.path_decl.proofs.Greedy.{reads_file}
 use Rattle.path_decl.proofs.Files.{after_file, file_kept}
 use Rattle.path_decl.proofs.Ruled.{rules_kept, rules_allow, made_declares}
 use Rattle.path_decl.proofs.Made.{good_names, made, made_lawful}
+use Rattle.path_decl.proofs.FromLawful.{forms_keep_rules}
 
 -- no path of a lawful declaration repeats a name
 pub each_once : {Y : Type 0} (ps : List (PathEntry Y)) (n : ℕ) → Every WellFormed (numbered n (map (λ p. p.tree) (map path_of ps))) → (k : ℕ) (d : PathEntry Y) → k < length ps → NoRepeats (shape (get_or ps k d).tree)
@@ -36,9 +37,9 @@ trees_shown (p ∷ ps) = ap (λ x. shape p.tree ∷ x) (trees_shown ps)
 pub same_lists : (r r' : List Resource) (o o' : List Operation) (p p' : List Path) → r ≡ r' → o ≡ o' → p ≡ p' → ◌≡◌ {A = Declaration} (record { resources = r; operations = o; paths = p }) (record { resources = r'; operations = o'; paths = p' })
 same_lists r r' o o' p p' e f g = cc
 
--- what is built of a text is lawful, and what the text declares
+-- what is built of a text is what the text declares
 pub is_read : (s : List ℕ) (ts : List Placed) (rs : List ResourceForm) (ps : List Saying) (d : Drafted) → AreTokensOf s ts → IsFile (pieces ts) rs → ps ≡ file_parts rs → AllAllowed ps nothing → d ≡ after_all ps nothing
-    → Lawful (declared_by d) × IsDeclarationText s (declared_by d)
+    → IsDeclarationText s (declared_by d)
 is_read s ts rs ps d t f e a b =
     let allowed : AllAllowed (file_parts rs) nothing = subst (λ x. AllAllowed x nothing) e a in
     let is : d ≡ after_all (file_parts rs) nothing = b ∙ ap (λ x. after_all x nothing) e in
@@ -47,7 +48,14 @@ is_read s ts rs ps d t f e a b =
     let m = after_file rs [] [] [] 0 in
     let whole : declared_by d ≡ made rs = same_lists _ _ _ _ _ _ (ap (λ x. x.resources) is ∙ m.resources) (ap (λ x. x.operations) is ∙ m.operations) (ap (λ x. x.paths) is ∙ m.paths) in
     let names = good_names s ts rs t f in
-    (subst Lawful (sym whole) (made_lawful rs rules kept.paths names.0 names.1), record { tokens = ts; cut = t; forms = rs; file = f; rules = rules; declares = made_declares rs d allowed is })
+    record {
+      tokens = ts;
+      cut = t;
+      forms = rs;
+      file = f;
+      declares = made_declares rs d allowed is;
+      lawful = subst Lawful (sym whole) (made_lawful rs rules kept.paths names.0 names.1);
+    }
 
 -- tokens that are no file
 pub no_file_text : (s : List ℕ) (ts : List Placed) → ((us : List Placed) → AreTokensOf s us → us ≡ ts) → ((rs : List ResourceForm) → IsFile (pieces ts) rs → ⊥) → (d : Declaration) → IsDeclarationText s d → ⊥
@@ -58,7 +66,7 @@ pub no_rules_text : (s : List ℕ) (ts : List Placed) (rs : List ResourceForm) (
 no_rules_text s ts rs ps only f e none d t =
     let g : IsFile (pieces ts) t.forms = subst (λ x. IsFile (pieces x) t.forms) (only t.tokens t.cut) t.file in
     let same : t.forms ≡ rs = file_once (reads_file g) (reads_file f) in
-    none (subst (λ x. AllAllowed x nothing) (sym e) (rules_allow rs (subst KeepsRules same t.rules)))
+    none (subst (λ x. AllAllowed x nothing) (sym e) (rules_allow rs (subst KeepsRules same (forms_keep_rules t.forms d t.declares t.lawful))))
 
 pub refuses_then : (s : List ℕ) (e : DeclFault) {P : Type 0} → (P → (d : Declaration) → IsDeclarationText s d → ⊥) → Fails e P → Refuses s e
 refuses_then s faults.OutOfMemory f h = tt

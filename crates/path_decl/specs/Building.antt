@@ -5,9 +5,8 @@ use Rattle.path_model.specs.declared.resource.Law.TheVariants.{Cell}
 use Rattle.path_model.specs.Trees.{Tree, op, seq, alt, shape}
 use Rattle.path_model.specs.Declarations.{Resource, Operation, Path, Declaration}
 use Rattle.path_decl.specs.declared.draft.Draft.{Draft}
-use Rattle.path_decl.specs.Kept.{path_of}
 use Rattle.path_decl.specs.Parts.{Saying, a_resource, an_operation, a_path, a_name, a_sequence, a_selection, an_end}
-use Rattle.path_decl.specs.Table.{resources_of, operations_of}
+use Rattle.path_decl.specs.Table.{resources_of, operations_of, path_of}
 
 -- what was declared so far, the last resource, and of the path so far the trees, the last first, and the names
 pub record Drafted : Type 0 where

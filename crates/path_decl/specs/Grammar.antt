@@ -1,8 +1,8 @@
 -- The grammar. The pieces, up to those of the rest, are a unit, an alternative, a sequence, .. with this form.
 use Rattle.std.specs.Prelude.{ℕ, suc, List, [], ◌∷◌}
-use Rattle.path_decl.specs.declared.token.Sign.TheVariants as signs
-use Rattle.path_decl.specs.declared.token.Reserved.TheVariants as words
-use Rattle.path_decl.specs.Spelling.{Piece, sign, reserved, name}
+use Rattle.path_lex.specs.declared.token.Sign.TheVariants as signs
+use Rattle.path_lex.specs.declared.token.Reserved.TheVariants as words
+use Rattle.path_lex.specs.Spelling.{Piece, sign, reserved, name}
 use Rattle.path_decl.specs.Forms.{Form, once, sequence, selection, ResourceForm}
 
 -- At most d parentheses are open at once.
@@ -10,7 +10,8 @@ mutual
   -- unit = NAME | "(" seq ")"
   pub data IsUnit : ℕ → List Piece → List Piece → Form → Type 0 where
     by_name : {d : ℕ} {n : List ℕ} {rest : List Piece} → IsUnit d (name n ∷ rest) rest (once n)
-    by_group : {d : ℕ} {ts rest : List Piece} {t : Form} → IsSeq d ts (sign signs.CloseParen ∷ rest) t → IsUnit (suc d) (sign signs.OpenParen ∷ ts) rest t
+    by_group : {d : ℕ} {ts rest : List Piece} {t : Form} → IsSeq d ts (sign signs.CloseParen ∷ rest) t
+        → IsUnit (suc d) (sign signs.OpenParen ∷ ts) rest t
 
   -- alt = unit {"," unit}, to the left
   pub data IsAlt : ℕ → List Piece → List Piece → Form → Type 0 where
@@ -18,7 +19,8 @@ mutual
 
   pub data MoreUnits : ℕ → Form → List Piece → List Piece → Form → Type 0 where
     no_unit : {d : ℕ} {rest : List Piece} {s : Form} → MoreUnits d s rest rest s
-    one_unit : {d : ℕ} {ts mid rest : List Piece} {s u t : Form} → IsUnit d ts mid u → MoreUnits d (selection s u) mid rest t → MoreUnits d s (sign signs.Comma ∷ ts) rest t
+    one_unit : {d : ℕ} {ts mid rest : List Piece} {s u t : Form} → IsUnit d ts mid u → MoreUnits d (selection s u) mid rest t
+        → MoreUnits d s (sign signs.Comma ∷ ts) rest t
 
   -- seq = alt {";" alt}, to the left
   pub data IsSeq : ℕ → List Piece → List Piece → Form → Type 0 where
@@ -26,7 +28,8 @@ mutual
 
   pub data MoreAlts : ℕ → Form → List Piece → List Piece → Form → Type 0 where
     no_alt : {d : ℕ} {rest : List Piece} {s : Form} → MoreAlts d s rest rest s
-    one_alt : {d : ℕ} {ts mid rest : List Piece} {s u t : Form} → IsAlt d ts mid u → MoreAlts d (sequence s u) mid rest t → MoreAlts d s (sign signs.Semicolon ∷ ts) rest t
+    one_alt : {d : ℕ} {ts mid rest : List Piece} {s u t : Form} → IsAlt d ts mid u → MoreAlts d (sequence s u) mid rest t
+        → MoreAlts d s (sign signs.Semicolon ∷ ts) rest t
 
 -- path = "path" seq "end"
 pub data IsPath : List Piece → List Piece → Form → Type 0 where
@@ -40,14 +43,18 @@ pub data ArePaths : List Piece → List Piece → List Form → Type 0 where
 -- NAME {"," NAME}
 pub data AreNames : List Piece → List Piece → List (List ℕ) → Type 0 where
   last_name : {n : List ℕ} {rest : List Piece} → AreNames (name n ∷ rest) rest (n ∷ [])
-  one_name : {n : List ℕ} {ts rest : List Piece} {ns : List (List ℕ)} → AreNames ts rest ns → AreNames (name n ∷ sign signs.Comma ∷ ts) rest (n ∷ ns)
+  one_name : {n : List ℕ} {ts rest : List Piece} {ns : List (List ℕ)} → AreNames ts rest ns
+      → AreNames (name n ∷ sign signs.Comma ∷ ts) rest (n ∷ ns)
 
 -- resource = "resource" NAME "cell" "operation" NAME {"," NAME} {path} "end"
 pub data IsResource : List Piece → List Piece → ResourceForm → Type 0 where
-  by_resource : {n : List ℕ} {ts mid rest : List Piece} {os : List (List ℕ)} {ps : List Form} → AreNames ts mid os → ArePaths mid (reserved words.End ∷ rest) ps
-      → IsResource (reserved words.Resource ∷ name n ∷ reserved words.Cell ∷ reserved words.Operation ∷ ts) rest (record { name = n; operations = os; paths = ps })
+  by_resource : {n : List ℕ} {ts mid rest : List Piece} {os : List (List ℕ)} {ps : List Form} → AreNames ts mid os
+      → ArePaths mid (reserved words.End ∷ rest) ps
+      → IsResource (reserved words.Resource ∷ name n ∷ reserved words.Cell ∷ reserved words.Operation ∷ ts) rest
+      (record { name = n; operations = os; paths = ps })
 
 -- file = resource {resource}
 pub data IsFile : List Piece → List ResourceForm → Type 0 where
   last_resource : {ts : List Piece} {r : ResourceForm} → IsResource ts [] r → IsFile ts (r ∷ [])
-  one_resource : {ts mid : List Piece} {r : ResourceForm} {rs : List ResourceForm} → IsResource ts mid r → IsFile mid rs → IsFile ts (r ∷ rs)
+  one_resource : {ts mid : List Piece} {r : ResourceForm} {rs : List ResourceForm} → IsResource ts mid r → IsFile mid rs
+      → IsFile ts (r ∷ rs)

@@ -1,13 +1,11 @@
-pub mod Bytes
-pub mod Names
-pub mod Spelling
 pub mod Forms
 pub mod Grammar
-pub mod Rules
 pub mod Declares
-pub mod Text
 pub mod Lawful
+pub mod Text
 pub mod Stored
+pub mod LawfulOnce
+pub mod Known
 pub mod Table
 pub mod Kept
 pub mod Refused
@@ -15,5 +13,3 @@ pub mod Parts
 pub mod Reading
 pub mod Building
 pub mod Once
-pub mod Printed
-pub mod PrintedSteps

@@ -64,16 +64,23 @@ abbrev pub law_code : Coded Law
 law_code = code_by (ℕ × ℕ) (coded× coded_ℕ coded_ℕ) law_mark (λ m. law_from m.0 m.1) law_from-law_mark
 
 abbrev pub resource_code : Coded Resource
-resource_code = code_by (List ℕ × Law) (coded× (coded_list coded_ℕ) law_code) (λ r. (r.name, r.law)) (λ p. record { name = p.0; law = p.1 }) (λ _. refl)
+resource_code =
+    code_by (List ℕ × Law) (coded× (coded_list coded_ℕ) law_code)
+    (λ r. (r.name, r.law)) (λ p. record { name = p.0; law = p.1 }) (λ _. refl)
 
 abbrev pub operation_code : Coded Operation
-operation_code = code_by (List ℕ × ℕ) (coded× (coded_list coded_ℕ) coded_ℕ) (λ o. (o.name, o.resource)) (λ p. record { name = p.0; resource = p.1 }) (λ _. refl)
+operation_code =
+    code_by (List ℕ × ℕ) (coded× (coded_list coded_ℕ) coded_ℕ)
+    (λ o. (o.name, o.resource)) (λ p. record { name = p.0; resource = p.1 }) (λ _. refl)
 
 abbrev pub path_code : Coded Path
-path_code = code_by (ℕ × Tree) (coded× coded_ℕ tree_code) (λ p. (p.resource, p.tree)) (λ p. record { resource = p.0; tree = p.1 }) (λ _. refl)
+path_code =
+    code_by (ℕ × Tree) (coded× coded_ℕ tree_code)
+    (λ p. (p.resource, p.tree)) (λ p. record { resource = p.0; tree = p.1 }) (λ _. refl)
 
 -- a declaration is stored as the lists that it holds
 abbrev pub declaration_code : Coded Declaration
 declaration_code =
-    code_by (List Resource × (List Operation × List Path)) (coded× (coded_list resource_code) (coded× (coded_list operation_code) (coded_list path_code)))
+    code_by (List Resource × (List Operation × List Path))
+    (coded× (coded_list resource_code) (coded× (coded_list operation_code) (coded_list path_code)))
     (λ d. (d.resources, (d.operations, d.paths))) (λ p. record { resources = p.0; operations = p.1.0; paths = p.1.1 }) (λ _. refl)

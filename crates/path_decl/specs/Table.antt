@@ -6,9 +6,10 @@ use Rattle.path_model.specs.declared.ids.OpId.{OpId}
 use Rattle.path_model.specs.declared.ids.PathId.{PathId}
 use Rattle.path_model.specs.declared.ids.ResId.{ResId}
 use Rattle.path_model.specs.declared.resource.Law.{Law}
-use Rattle.path_model.specs.Trees.{Tree, op, seq, alt, burst, has}
+use Rattle.path_model.specs.Trees.{Tree, op, seq, alt, burst, has, shape}
 use Rattle.path_model.specs.Legal.{numbered}
-use Rattle.path_model.specs.Declarations.{Resource, Operation, Declaration, paths_of}
+use Rattle.path_model.specs.Declarations.{Resource, Operation, Path, Declaration, paths_of}
+use Rattle.path_decl.specs.declared.decl.PathEntry.{PathEntry}
 
 -- the names of a table, in order
 abbrev pub names_of : {Y V : Type 0} → List (String Y × V) → List (List ℕ)
@@ -25,6 +26,13 @@ operation_shown e = record { name = string_bytes e.0; resource = e.1.0 }
 
 abbrev pub operations_of : {Y : Type 0} → List (String Y × ResId) → List Operation
 operations_of es = map operation_shown es
+
+abbrev pub path_of : {Y : Type 0} → PathEntry Y → Path
+path_of p = record { resource = p.resource.0; tree = shape p.tree }
+
+-- the declaration that has these resources, operations and paths
+abbrev pub declaration_of : {Y : Type 0} → List (String Y × Law) → List (String Y × ResId) → List (PathEntry Y) → Declaration
+declaration_of rs os ps = record { resources = resources_of rs; operations = operations_of os; paths = map path_of ps }
 
 -- the numbers of the trees that name the operation, in order, where the first has the number n
 abbrev pub naming_from : ℕ → List Tree → OpId → List PathId

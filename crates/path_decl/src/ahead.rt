@@ -1,11 +1,10 @@
 //! The next tokens.
 
 ghost use Rattle.std.specs.Prelude.{◌≡◌, ℕ, ◌<◌, List, ◌∷◌, length, IfOk, IfErr, IfSome, IfNone};
-ghost use Rattle.path_decl.specs.Spelling.{sign as a_sign, reserved as a_word, name as a_name};
+ghost use Rattle.path_lex.specs.Spelling.{sign as a_sign, reserved as a_word, name as a_name};
 ghost use Rattle.path_decl.specs.Reading.{told, Begins, Fails};
 
-use crate::fault::DeclFault;
-use crate::token::{Kind, Reserved, Sign, Token};
+use path_lex::{DeclFault, Kind, Reserved, Sign, Token};
 
 /// Where the next token stands, or the text ends.
 pub(crate) fn place(tokens: &[Token<'_>], end: u32) -> u32 {

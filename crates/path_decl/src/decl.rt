@@ -4,7 +4,8 @@ ghost use Rattle.std.specs.Prelude.{◌≡◌, ◌<◌, ◌↔◌, length, map, 
 ghost use Rattle.path_model.specs.Trees.{shape};
 ghost use Rattle.path_decl.specs.Lawful.{Lawful};
 ghost use Rattle.path_decl.specs.Text.{IsDeclared};
-ghost use Rattle.path_decl.specs.Table.{naming};
+ghost use Rattle.path_decl.specs.Table.{naming, declaration_of};
+ghost use Rattle.path_decl.specs.Known.{Lawful-prop};
 
 use crate::totals::Counts;
 use indexmap::IndexMap;
@@ -23,22 +24,23 @@ pub(crate) struct PathEntry<A: Allocator + Copy> {
     pub(crate) tree: Expr<A>,
 }
 
-/// A declaration: resources, operations and paths, numbered in the order of the text. Contracts see these three lists.
+/// A declaration: resources, operations and paths, numbered in the order of the text. Contracts see these three lists as
+/// its `declaration`, and beside them what always holds of them, `lawful`.
 #[derive(Drop)]
 pub struct Decl<A: Allocator + Copy = Global> {
     pub(crate) resources: Names<Law, A>,
     pub(crate) operations: Names<ResId, A>,
     pub(crate) paths: Vec<PathEntry<A>, A>,
     pub(crate) naming: Vec<Vec<PathId, A>, A>,
+    ghost lawful: { Lawful (declaration_of resources.entries operations.entries paths.items) } by { Lawful-prop _ },
 }
 
 impl<A: Allocator + Copy> Model for Decl<A> {
-    ghost use Rattle.path_model.specs.Declarations.{Declaration};
-    ghost use Rattle.path_decl.specs.Stored.{declaration_code};
+    ghost use Rattle.path_decl.specs.Known.{KnownDeclaration, known_code};
 
-    ghost Value = { Declaration };
+    ghost Value = { KnownDeclaration };
 
-    ghost coded = { declaration_code };
+    ghost coded = { known_code };
 
     ghost use Rattle.path_decl.specs.Kept.{shown, IsKept};
 
@@ -47,89 +49,88 @@ impl<A: Allocator + Copy> Model for Decl<A> {
     ghost invariant = { IsKept };
 }
 
-/// The operation with this name. A look-up in a hash table.
+/// The operation with this name; `None` where none has it. A look-up in a hash table.
 pub fn operation<A: Allocator + Copy>(decl: &Decl<A>, name: &str) -> Option<OpId>
-    ensures some { IfSome result (λ a. slice_get (map (λ o. o.name) decl.now.operations) a.0 ≡ Some name.now) }
-    ensures none { IfNone result (Contains (map (λ o. o.name) decl.now.operations) name.now → ⊥) }
+    ensures some { IfSome result (λ a. slice_get (map (λ o. o.name) decl.now.declaration.operations) a.0 ≡ Some name.now) }
+    ensures none { IfNone result (Contains (map (λ o. o.name) decl.now.declaration.operations) name.now → ⊥) }
 {
     let place = decl.operations.get_index_of(name)?;
     Some(OpId(place as u32))
 }
 
-/// The resource with this name. A look-up in a hash table.
+/// The resource with this name; `None` where none has it. A look-up in a hash table.
 pub fn resource<A: Allocator + Copy>(decl: &Decl<A>, name: &str) -> Option<ResId>
-    ensures some { IfSome result (λ r. slice_get (map (λ r. r.name) decl.now.resources) r.0 ≡ Some name.now) }
-    ensures none { IfNone result (Contains (map (λ r. r.name) decl.now.resources) name.now → ⊥) }
+    ensures some { IfSome result (λ r. slice_get (map (λ r. r.name) decl.now.declaration.resources) r.0 ≡ Some name.now) }
+    ensures none { IfNone result (Contains (map (λ r. r.name) decl.now.declaration.resources) name.now → ⊥) }
 {
     let place = decl.resources.get_index_of(name)?;
     Some(ResId(place as u32))
 }
 
-/// The numbers of the paths that name the operation, ascending; `None` where it isn't declared.
+/// The numbers of the paths that name the operation, ascending; `None` where it isn't declared. A look-up by number.
 pub fn paths_of<A: Allocator + Copy>(decl: &Decl<A>, op: OpId) -> Option<&[PathId]>
-    ensures declared { IsSome result ↔ (op.0 < length decl.now.operations) }
-    ensures paths { IfSome result (λ ps. ps.now ≡ naming decl.now op) }
+    ensures declared { IsSome result ↔ (op.0 < length decl.now.declaration.operations) }
+    ensures paths { IfSome result (λ ps. ps.now ≡ naming decl.now.declaration op) }
 {
     let paths = decl.naming.get(op.0 as usize)?;
     Some(paths.as_slice())
 }
 
-/// The law of the resource; `None` where it isn't declared.
+/// The law of the resource; `None` where it isn't declared. A look-up by number.
 pub fn law_of<A: Allocator + Copy>(decl: &Decl<A>, resource: ResId) -> Option<Law>
-    ensures { result ≡ option_map (λ r. r.law) (slice_get decl.now.resources resource.0) }
+    ensures { result ≡ option_map (λ r. r.law) (slice_get decl.now.declaration.resources resource.0) }
 {
     let (_, law) = decl.resources.get_index(resource.0 as usize)?;
     Some(*law)
 }
 
-/// The resource of the operation; `None` where it isn't declared.
+/// The resource of the operation; `None` where it isn't declared. A look-up by number.
 pub fn resource_of<A: Allocator + Copy>(decl: &Decl<A>, op: OpId) -> Option<ResId>
-    ensures { option_map (λ r. r.0) result ≡ option_map (λ o. o.resource) (slice_get decl.now.operations op.0) }
+    ensures { option_map (λ r. r.0) result ≡ option_map (λ o. o.resource) (slice_get decl.now.declaration.operations op.0) }
 {
     let (_, resource) = decl.operations.get_index(op.0 as usize)?;
     Some(*resource)
 }
 
-/// The resource of the path; `None` where it isn't declared.
+/// The resource of the path; `None` where it isn't declared. A look-up by number.
 pub fn path_resource<A: Allocator + Copy>(decl: &Decl<A>, path: PathId) -> Option<ResId>
-    ensures { option_map (λ r. r.0) result ≡ option_map (λ p. p.resource) (slice_get decl.now.paths path.0) }
+    ensures { option_map (λ r. r.0) result ≡ option_map (λ p. p.resource) (slice_get decl.now.declaration.paths path.0) }
 {
     let entry = decl.paths.get(path.0 as usize)?;
     Some(entry.resource)
 }
 
-/// The tree of the path; `None` where it isn't declared.
+/// The tree of the path; `None` where it isn't declared. A look-up by number.
 pub fn tree_of<A: Allocator + Copy>(decl: &Decl<A>, path: PathId) -> Option<&Expr<A>>
-    ensures { option_map (λ t. shape t.now) result ≡ option_map (λ p. p.tree) (slice_get decl.now.paths path.0) }
+    ensures { option_map (λ t. shape t.now) result ≡ option_map (λ p. p.tree) (slice_get decl.now.declaration.paths path.0) }
 {
     let entry = decl.paths.get(path.0 as usize)?;
     Some(&entry.tree)
 }
 
-/// The name of the operation; `None` where it isn't declared.
+/// The name of the operation; `None` where it isn't declared. A look-up by number.
 pub fn op_name<A: Allocator + Copy>(decl: &Decl<A>, op: OpId) -> Option<&str>
-    ensures { option_map (λ s. s.now) result ≡ option_map (λ o. o.name) (slice_get decl.now.operations op.0) }
+    ensures { option_map (λ s. s.now) result ≡ option_map (λ o. o.name) (slice_get decl.now.declaration.operations op.0) }
 {
     let (name, _) = decl.operations.get_index(op.0 as usize)?;
     Some(name.as_str())
 }
 
-/// The name of the resource; `None` where it isn't declared.
+/// The name of the resource; `None` where it isn't declared. A look-up by number.
 pub fn resource_name<A: Allocator + Copy>(decl: &Decl<A>, resource: ResId) -> Option<&str>
-    ensures { option_map (λ s. s.now) result ≡ option_map (λ r. r.name) (slice_get decl.now.resources resource.0) }
+    ensures { option_map (λ s. s.now) result ≡ option_map (λ r. r.name) (slice_get decl.now.declaration.resources resource.0) }
 {
     let (name, _) = decl.resources.get_index(resource.0 as usize)?;
     Some(name.as_str())
 }
 
-/// How many resources, operations and paths there are.
+/// How many resources, operations and paths there are. Takes the same time however many.
 pub fn counts<A: Allocator + Copy>(decl: &Decl<A>) -> Counts
-    ensures resources { result.resources ≡ length decl.now.resources }
-    ensures operations { result.operations ≡ length decl.now.operations }
-    ensures paths { result.paths ≡ length decl.now.paths }
-    // What always holds of a declaration.
-    ensures lawful { Lawful decl.now }
-    ensures declared { IsDeclared decl.now }
+    ensures resources { result.resources ≡ length decl.now.declaration.resources }
+    ensures operations { result.operations ≡ length decl.now.declaration.operations }
+    ensures paths { result.paths ≡ length decl.now.declaration.paths }
+    // Some text declares it.
+    ensures declared { IsDeclared decl.now.declaration }
 {
     Counts {
         resources: decl.resources.len() as u32,

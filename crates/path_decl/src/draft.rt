@@ -8,9 +8,9 @@ ghost use Rattle.path_decl.specs.Building.{drafted, nothing, HasTwo, Allowed, af
 ghost use Rattle.path_decl.specs.Reading.{Fails};
 
 use crate::decl::{Names, PathEntry};
-use crate::fault::DeclFault;
 use crate::part::{Part, PlacedPart};
 use indexmap::IndexMap;
+use path_lex::DeclFault;
 use path_model::{Expr, Law, OpId, ResId};
 use std::alloc::Allocator;
 
@@ -71,7 +71,8 @@ impl<'a, A: Allocator + Copy> Draft<'a, A> {
 
     /// A resource has this name.
     fn resource(&mut self, alloc: A, name: &str, at: u32) -> Result<(), DeclFault>
-        ensures ok { OnOk result (Allowed (a_resource name.now) (drafted self.old) × (drafted self.new ≡ after (a_resource name.now) (drafted self.old))) }
+        ensures ok { OnOk result (Allowed (a_resource name.now) (drafted self.old)
+            × (drafted self.new ≡ after (a_resource name.now) (drafted self.old))) }
         ensures err { IfErr result (λ e. Fails e (Allowed (a_resource name.now) (drafted self.old) → ⊥)) }
     {
         if has_name(&self.resources, name) {
@@ -88,7 +89,8 @@ impl<'a, A: Allocator + Copy> Draft<'a, A> {
 
     /// The last resource has an operation of this name.
     fn operation(&mut self, alloc: A, name: &str, at: u32) -> Result<(), DeclFault>
-        ensures ok { OnOk result (Allowed (an_operation name.now) (drafted self.old) × (drafted self.new ≡ after (an_operation name.now) (drafted self.old))) }
+        ensures ok { OnOk result (Allowed (an_operation name.now) (drafted self.old)
+            × (drafted self.new ≡ after (an_operation name.now) (drafted self.old))) }
         ensures err { IfErr result (λ e. Fails e (Allowed (an_operation name.now) (drafted self.old) → ⊥)) }
     {
         if has_name(&self.operations, name) {
@@ -116,7 +118,8 @@ impl<'a, A: Allocator + Copy> Draft<'a, A> {
     /// An operation of the path has this name.
     fn name(&mut self, name: &'a str, at: u32) -> Result<(), DeclFault>
         requires { length self.old.operations.entries ≤ 256 }
-        ensures ok { OnOk result (Allowed (a_name name.now) (drafted self.old) × (drafted self.new ≡ after (a_name name.now) (drafted self.old))) }
+        ensures ok { OnOk result (Allowed (a_name name.now) (drafted self.old)
+            × (drafted self.new ≡ after (a_name name.now) (drafted self.old))) }
         ensures err { IfErr result (λ e. Fails e (Allowed (a_name name.now) (drafted self.old) → ⊥)) }
     {
         let Some((place, _, owner)) = self.operations.get_full(name) else {
@@ -138,7 +141,8 @@ impl<'a, A: Allocator + Copy> Draft<'a, A> {
 
     /// Takes the last two trees of the path.
     fn operands(&mut self, at: u32) -> Result<(Expr<A>, Expr<A>), DeclFault>
-        ensures ok { IfOk result (λ p. drafted self.old ≡ record (drafted self.new) { open_trees = shape p.1 ∷ shape p.0 ∷ (drafted self.new).open_trees }) }
+        ensures ok { IfOk result (λ p. drafted self.old
+            ≡ record (drafted self.new) { open_trees = shape p.1 ∷ shape p.0 ∷ (drafted self.new).open_trees }) }
         ensures err { IfErr result (λ e. Fails e (HasTwo (drafted self.old).open_trees → ⊥)) }
     {
         let Some(right) = self.open_trees.pop() else {
@@ -194,7 +198,8 @@ impl<'a, A: Allocator + Copy> Draft<'a, A> {
     /// Takes a part.
     pub(crate) fn take(&mut self, alloc: A, part: PlacedPart<'a>) -> Result<(), DeclFault>
         requires { length self.old.operations.entries ≤ 256 }
-        ensures ok { OnOk result (Allowed (saying part.entry.part) (drafted self.old) × (drafted self.new ≡ after (saying part.entry.part) (drafted self.old))) }
+        ensures ok { OnOk result (Allowed (saying part.entry.part) (drafted self.old)
+            × (drafted self.new ≡ after (saying part.entry.part) (drafted self.old))) }
         ensures err { IfErr result (λ e. Fails e (Allowed (saying part.entry.part) (drafted self.old) → ⊥)) }
     {
         match part.part {

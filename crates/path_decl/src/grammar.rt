@@ -1,15 +1,14 @@
 //! Paths: from tokens to parts, by the grammar.
 
 ghost use Rattle.std.specs.Prelude.{ℕ, ◌<◌, List, length, IfOk, IfErr};
-ghost use Rattle.path_decl.specs.Spelling.{Piece};
+ghost use Rattle.path_lex.specs.Spelling.{Piece};
 ghost use Rattle.path_decl.specs.Forms.{Form};
 ghost use Rattle.path_decl.specs.Parts.{sayings, form_parts};
 ghost use Rattle.path_decl.specs.Reading.{told, Fails, Adds, ReadsUnit, ReadsAlt, ReadsSeq};
 
 use crate::ahead::{after_sign, place, split_name};
-use crate::fault::DeclFault;
 use crate::part::{Part, PlacedPart};
-use crate::token::{Sign, Token};
+use path_lex::{DeclFault, Sign, Token};
 use std::alloc::Allocator;
 
 /// Reads a name, or a sequence in parentheses, of which at most `depth` may be open, and adds its parts. Answers the
@@ -21,7 +20,8 @@ fn unit<'t, 'a, A: Allocator + Copy>(
     end: u32,
     depth: u32,
 ) -> Result<&'t [Token<'a>], DeclFault>
-    ensures found { IfOk result (λ rest. Adds form_parts (ReadsUnit depth (told tokens.now) (told rest.now)) (sayings out.old.items) (sayings out.new.items)) }
+    ensures found { IfOk result (λ rest.
+        Adds form_parts (ReadsUnit depth (told tokens.now) (told rest.now)) (sayings out.old.items) (sayings out.new.items)) }
     ensures shorter { IfOk result (λ rest. length rest.now < length tokens.now) }
     ensures none { IfErr result (λ e. Fails e ((rest : List Piece) (f : Form) → ReadsUnit depth (told tokens.now) rest f → ⊥)) }
 {
@@ -53,7 +53,8 @@ fn alt<'t, 'a, A: Allocator + Copy>(
     end: u32,
     depth: u32,
 ) -> Result<&'t [Token<'a>], DeclFault>
-    ensures found { IfOk result (λ rest. Adds form_parts (ReadsAlt depth (told tokens.now) (told rest.now)) (sayings out.old.items) (sayings out.new.items)) }
+    ensures found { IfOk result (λ rest.
+        Adds form_parts (ReadsAlt depth (told tokens.now) (told rest.now)) (sayings out.old.items) (sayings out.new.items)) }
     ensures shorter { IfOk result (λ rest. length rest.now < length tokens.now) }
     ensures none { IfErr result (λ e. Fails e ((rest : List Piece) (f : Form) → ReadsAlt depth (told tokens.now) rest f → ⊥)) }
 {
@@ -76,7 +77,8 @@ pub(crate) fn seq<'t, 'a, A: Allocator + Copy>(
     end: u32,
     depth: u32,
 ) -> Result<&'t [Token<'a>], DeclFault>
-    ensures found { IfOk result (λ rest. Adds form_parts (ReadsSeq depth (told tokens.now) (told rest.now)) (sayings out.old.items) (sayings out.new.items)) }
+    ensures found { IfOk result (λ rest.
+        Adds form_parts (ReadsSeq depth (told tokens.now) (told rest.now)) (sayings out.old.items) (sayings out.new.items)) }
     ensures shorter { IfOk result (λ rest. length rest.now < length tokens.now) }
     ensures none { IfErr result (λ e. Fails e ((rest : List Piece) (f : Form) → ReadsSeq depth (told tokens.now) rest f → ⊥)) }
 {

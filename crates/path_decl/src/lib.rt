@@ -7,27 +7,18 @@
 mod ahead;
 mod decl;
 mod draft;
-mod fault;
 mod grammar;
-mod lex;
 mod naming;
 mod outline;
 mod part;
-mod printer;
 mod reader;
 pub mod theorems;
-mod token;
 mod totals;
 
 pub use decl::{
     Decl, counts, law_of, op_name, operation, path_resource, paths_of, resource, resource_name,
     resource_of, tree_of,
 };
-pub use fault::DeclFault;
-pub use lex::is_name;
-pub use printer::print;
+pub use path_lex::{DeclFault, is_name};
 pub use reader::read;
 pub use totals::Counts;
-
-#[cfg(test)]
-mod tests;

@@ -15,7 +15,8 @@ fn note<A: Allocator + Copy>(
     path: PathId,
 ) -> Result<(), OutOfMemory>
     ensures len { length naming.new.items ≡ length naming.old.items }
-    ensures noted { OnOk result ((a : ℕ) → noted naming.new.items a ≡ option_map (λ ps. ps ++ replicate (times (shape tree.now) (record { 0 = a })) path) (noted naming.old.items a)) }
+    ensures noted { OnOk result ((a : ℕ) → noted naming.new.items a
+        ≡ option_map (λ ps. ps ++ replicate (times (shape tree.now) (record { 0 = a })) path) (noted naming.old.items a)) }
 {
     match tree {
         Expr::Op(op) => {
@@ -56,7 +57,8 @@ pub(crate) fn naming_paths<A: Allocator + Copy>(
     requires few { length paths.now ≤ 256 }
     requires distinct { All (λ p. NoRepeats (shape p.tree)) paths.now }
     ensures len { IfOk result (λ v. length v.items ≡ operations) }
-    ensures named { IfOk result (λ v. (a : ℕ) → a < operations → noted v.items a ≡ Some (naming_from 0 (map (λ p. shape p.tree) paths.now) (record { 0 = a }))) }
+    ensures named { IfOk result (λ v.
+        (a : ℕ) → a < operations → noted v.items a ≡ Some (naming_from 0 (map (λ p. shape p.tree) paths.now) (record { 0 = a }))) }
 {
     let mut naming = unnamed(alloc, operations)?;
     for (number, entry) in paths.iter().enumerate() {

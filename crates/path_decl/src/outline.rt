@@ -1,17 +1,16 @@
 //! Files: from tokens to parts, by the grammar.
 
 ghost use Rattle.std.specs.Prelude.{◌≡◌, ℕ, ◌<◌, List, length, map, IfOk, IfErr};
-ghost use Rattle.path_decl.specs.Spelling.{Piece};
+ghost use Rattle.path_lex.specs.Spelling.{Piece};
 ghost use Rattle.path_decl.specs.Forms.{Form, ResourceForm};
 ghost use Rattle.path_decl.specs.Grammar.{IsFile};
 ghost use Rattle.path_decl.specs.Parts.{an_operation, sayings, body_parts, inner_parts, resource_parts, file_parts};
 ghost use Rattle.path_decl.specs.Reading.{told, Fails, Adds, ReadsNames, ReadsPath, ReadsBody, ReadsResource};
 
 use crate::ahead::{after_sign, after_word, expect_name, expect_word, place};
-use crate::fault::DeclFault;
 use crate::grammar::seq;
 use crate::part::{Part, PlacedPart};
-use crate::token::{Reserved, Sign, Token};
+use path_lex::{DeclFault, Reserved, Sign, Token};
 use std::alloc::Allocator;
 
 /// How many parentheses may be open at once.
@@ -23,7 +22,8 @@ fn path<'t, 'a, A: Allocator + Copy>(
     tokens: &'t [Token<'a>],
     end: u32,
 ) -> Result<&'t [Token<'a>], DeclFault>
-    ensures found { IfOk result (λ rest. Adds body_parts (ReadsPath (told tokens.now) (told rest.now)) (sayings out.old.items) (sayings out.new.items)) }
+    ensures found { IfOk result (λ rest.
+        Adds body_parts (ReadsPath (told tokens.now) (told rest.now)) (sayings out.old.items) (sayings out.new.items)) }
     ensures shorter { IfOk result (λ rest. length rest.now < length tokens.now) }
     ensures none { IfErr result (λ e. Fails e ((rest : List Piece) (f : Form) → ReadsPath (told tokens.now) rest f → ⊥)) }
 {
@@ -44,7 +44,8 @@ fn operations<'t, 'a, A: Allocator + Copy>(
     tokens: &'t [Token<'a>],
     end: u32,
 ) -> Result<&'t [Token<'a>], DeclFault>
-    ensures found { IfOk result (λ rest. Adds (map an_operation) (ReadsNames (told tokens.now) (told rest.now)) (sayings out.old.items) (sayings out.new.items)) }
+    ensures found { IfOk result (λ rest.
+        Adds (map an_operation) (ReadsNames (told tokens.now) (told rest.now)) (sayings out.old.items) (sayings out.new.items)) }
     ensures shorter { IfOk result (λ rest. length rest.now < length tokens.now) }
     ensures none { IfErr result (λ e. Fails e ((rest : List Piece) (ns : List (List ℕ)) → ReadsNames (told tokens.now) rest ns → ⊥)) }
 {
@@ -70,9 +71,11 @@ fn body<'t, 'a, A: Allocator + Copy>(
     tokens: &'t [Token<'a>],
     end: u32,
 ) -> Result<&'t [Token<'a>], DeclFault>
-    ensures found { IfOk result (λ rest. Adds inner_parts (λ b. ReadsBody (told tokens.now) (told rest.now) b.0 b.1) (sayings out.old.items) (sayings out.new.items)) }
+    ensures found { IfOk result (λ rest.
+        Adds inner_parts (λ b. ReadsBody (told tokens.now) (told rest.now) b.0 b.1) (sayings out.old.items) (sayings out.new.items)) }
     ensures shorter { IfOk result (λ rest. length rest.now < length tokens.now) }
-    ensures none { IfErr result (λ e. Fails e ((rest : List Piece) (ns : List (List ℕ)) (fs : List Form) → ReadsBody (told tokens.now) rest ns fs → ⊥)) }
+    ensures none { IfErr result (λ e.
+        Fails e ((rest : List Piece) (ns : List (List ℕ)) (fs : List Form) → ReadsBody (told tokens.now) rest ns fs → ⊥)) }
 {
     let mut rest = operations(out, tokens, end)?;
     while let Some((at, left)) = after_word(rest, Reserved::Path) {
@@ -91,7 +94,8 @@ fn resource<'t, 'a, A: Allocator + Copy>(
     tokens: &'t [Token<'a>],
     end: u32,
 ) -> Result<&'t [Token<'a>], DeclFault>
-    ensures found { IfOk result (λ rest. Adds resource_parts (ReadsResource (told tokens.now) (told rest.now)) (sayings out.old.items) (sayings out.new.items)) }
+    ensures found { IfOk result (λ rest.
+        Adds resource_parts (ReadsResource (told tokens.now) (told rest.now)) (sayings out.old.items) (sayings out.new.items)) }
     ensures shorter { IfOk result (λ rest. length rest.now < length tokens.now) }
     ensures none { IfErr result (λ e. Fails e ((rest : List Piece) (r : ResourceForm) → ReadsResource (told tokens.now) rest r → ⊥)) }
 {

@@ -1,2 +1,3 @@
 pub mod SplitLemmas
 pub mod Numbers
+pub mod CallerLemmas

@@ -1,7 +1,21 @@
--- Where a text has a byte, and where it has none.
-use Rattle.std.specs.Prelude.{◌≢◌, ℕ, List}
+-- Where a text has a byte, where it has none, and what comes next in it.
+use Rattle.std.specs.Prelude.{◌≡◌, ◌≢◌, ℕ, ◌≤◌, List, [], ◌∷◌}
 use Rattle.std.specs.List.{AllByRecursion}
 
 -- such a byte stands nowhere in the text
 abbrev pub HasNone : ℕ → List ℕ → Type 0
 HasNone byte text = AllByRecursion (λ b. b ≢ byte) text
+
+-- nothing is left, or such a byte comes next
+abbrev pub EndsAt : ℕ → List ℕ → Type 0
+EndsAt byte [] = Unit {0}
+EndsAt byte (b ∷ bs) = b ≡ byte
+
+-- 0 to 9 in ASCII
+abbrev pub IsDigit : ℕ → Type 0
+IsDigit b = (48 ≤ b) × (b ≤ 57)
+
+-- nothing is left, or what comes next is no digit
+abbrev pub HasNoDigitNext : List ℕ → Type 0
+HasNoDigitNext [] = Unit {0}
+HasNoDigitNext (b ∷ bs) = IsDigit b → ⊥

@@ -1,6 +1,8 @@
-//! Texts of fields: where they are cut, and the numbers that they write.
+//! Texts of fields: where they are cut, and the numbers that they begin with.
 #![tactic(auto)]
 
+mod digits;
 mod split;
 
-pub use split::{after, cut, number};
+pub use digits::number;
+pub use split::{cut, strip, until};

@@ -1,7 +1,17 @@
-//! Cutting texts into fields, and reading their numbers.
+//! Cutting texts into fields.
 
-ghost use Rattle.std.specs.Prelude.{◌≡◌, ◌≢◌, ◌↔◌, ℕ, ◌<◌, ◌^◌, ◌∷◌, ◌++◌, decimal, length, slice_index, IsTrue, IfSome, IfNone, MatchOption, List};
-ghost use Rattle.path_fields.specs.Splits.{HasNone};
+ghost use Rattle.std.specs.Prelude.{◌≡◌, ◌≢◌, ℕ, ◌<◌, ◌∷◌, ◌++◌, length, slice_index, take, IfSome, IfNone, MatchOption, List};
+ghost use Rattle.path_fields.specs.Splits.{HasNone, EndsAt};
+
+/// The place of the first such byte.
+fn place_of(text: &[u8], byte: u8) -> Option<usize>
+    ensures within { IfSome result (λ at. at < length text.now) }
+    ensures found { IfSome result (λ at. slice_index text.now at ≡ byte) }
+    ensures first { IfSome result (λ at. HasNone byte (take at text.now)) }
+    ensures none { IfNone result (HasNone byte text.now) }
+{
+    text.iter().position(|other| *other == byte)
+}
 
 /// The bytes before the first such byte, and those after it; nothing where there is no such byte. One pass over the text.
 pub fn cut(text: &[u8], separator: u8) -> Option<(&[u8], &[u8])>
@@ -9,43 +19,34 @@ pub fn cut(text: &[u8], separator: u8) -> Option<(&[u8], &[u8])>
     ensures first { IfSome result (λ p. HasNone separator p.0.now) }
     ensures none { IfNone result (HasNone separator text.now) }
 {
-    let at = text.iter().position(|byte| *byte == separator)?;
+    let at = place_of(text, separator)?;
     Some((&text[..at], &text[at + 1..]))
 }
 
+/// The bytes before the first such byte, and the rest of the text from that byte on: all of it and nothing where there
+/// is no such byte. One pass over what is before it.
+pub fn until(text: &[u8], separator: u8) -> (&[u8], &[u8])
+    ensures parts { text.now ≡ result.0.now ++ result.1.now }
+    ensures first { HasNone separator result.0.now }
+    ensures end { EndsAt separator result.1.now }
+{
+    match place_of(text, separator) {
+        Some(at) => (&text[..at], &text[at..]),
+        None => (text, &[]),
+    }
+}
+
 /// What follows these bytes, where the text begins with them.
-pub fn after<'a>(text: &'a [u8], front: &[u8]) -> Option<&'a [u8]>
+pub fn strip<'a>(text: &'a [u8], front: &[u8]) -> Option<&'a [u8]>
     ensures { MatchOption result ((rest : List ℕ) → text.now ≢ front.now ++ rest) (λ rest. text.now ≡ front.now ++ rest.now) }
 {
-    text.strip_prefix(front)
-}
-
-/// Whether a zero stands before other digits.
-fn has_leading_zero(text: &[u8]) -> bool
-    ensures { IsTrue result ↔ ((1 < length text.now) × (slice_index text.now 0 ≡ 48)) }
-{
-    text.len() > 1 && text[0] == b'0'
-}
-
-/// The number below 2 to the 64th that is written so: in decimal digits, with no zero before others. Nothing where the
-/// text is no such number.
-pub fn number(text: &[u8]) -> Option<u64>
-    ensures some { IfSome result (λ n. text.now ≡ decimal n) }
-    ensures none { IfNone result ((n : ℕ) → n < 2 ^ 64 → text.now ≢ decimal n) }
-{
-    if text.is_empty() {
+    if text.len() < front.len() {
         return None;
     }
-    if has_leading_zero(text) {
-        return None;
-    }
-    let mut value = 0u64;
-    for byte in text {
-        let digit = byte.wrapping_sub(b'0');
-        if digit > 9 {
+    for at in 0..front.len() {
+        if text[at] != front[at] {
             return None;
         }
-        value = value.checked_mul(10)?.checked_add(u64::from(digit))?;
     }
-    Some(value)
+    Some(&text[front.len()..])
 }

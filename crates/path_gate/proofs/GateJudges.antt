@@ -1,23 +1,19 @@
 -- The first term that blocks is of the first path that forbids, and values stay small.
-use Rattle.std.proofs.Common.{◌≡◌, ◌+◌, ◌<◌, ◌≤◌, ◌==◌, ℕ, cond, Bool, true, false, List, [], ◌∷◌, ◌++◌, get_or, arith, refl, sym, ap, ◌∙◌, subst, Option, Some, None, inl, inr}
+use Rattle.std.proofs.Common.{◌≡◌, ◌+◌, ◌<◌, ◌≤◌, ◌==◌, ℕ, cond, Bool, true, false, List, [], ◌∷◌, ◌++◌, get_or, arith, refl, sym, ◌∙◌, subst, Option, Some, None, inl, inr}
 use Rattle.std.specs.Prelude.{MatchOption}
 use Rattle.std.proofs.lemmas.Bool.{eqb-false, eqb-true, cond_both}
 use Rattle.path_model.specs.declared.ids.OpId.{OpId}
 use Rattle.path_model.specs.declared.ids.PathId.{PathId}
 use Rattle.path_model.specs.declared.history.Event.{Event}
-use Rattle.path_model.specs.declared.history.Event.TheVariants.{Began, Ended}
+use Rattle.path_model.specs.declared.history.Event.TheVariants.{Began}
 use Rattle.path_model.specs.Trees.{Tree, Names, NoBraces, WellFormed, has}
-use Rattle.path_model.specs.Histories.{op_of, starts_in}
-use Rattle.path_model.specs.Machine.{semicolons, braces, above, waits_on, signals, prologue, Values, Passes, opening, changed, values_from}
-use Rattle.path_model.specs.AmongOthers.{values_among}
-use Rattle.path_model.specs.Projection.{projection, LegalOn}
+use Rattle.path_model.specs.Histories.{starts_in}
+use Rattle.path_model.specs.Machine.{braces, above, waits_on, signals, prologue, Values, Passes}
 use Rattle.path_model.specs.Legal as legal
 use Rattle.path_model.specs.AllPaths.{Blocks, Judged}
-use Rattle.path_model.specs.Flat.{sited, flat_from, flat_opening, Shows}
-use Rattle.path_model.proofs.Upward.{has_names, names_has}
-use Rattle.path_model.proofs.AllPaths.{now, on_tree, after_placed, first_from, every_from, all_paths_judge}
-use Rattle.path_model.proofs.Flat.{one_table_shows_all}
-use Rattle.path_model.proofs.Bounds.{each_value_is_bounded}
+use Rattle.path_model.specs.Flat.{semaphores_in, sited, Table, flat_from, flat_opening, Shows}
+use Rattle.path_model.specs.BoundedValues.{BoundedInTable}
+use Rattle.path_model.proofs.CallerLemmas.{has_names, names_has, now, on_tree, after_placed, first_from, every_from, all_paths_judge, one_table_shows_all, table_values_are_bounded}
 use Rattle.path_gate.specs.Rows.{term_at, terms_at, blocking}
 use Rattle.path_gate.proofs.GateRows.{Each, plain_prologue, wait_low, signal_low}
 use Rattle.path_gate.proofs.GateMoves.{Agrees}
@@ -27,22 +23,22 @@ true_false z = cc
 
 -- the first path that has the property, or none
 abbrev IsFirst : (Tree → Type 0) → List (ℕ × Tree) → Option PathId → Type 0
-IsFirst P xs result = MatchOption result (legal.None P xs) (λ p. legal.First P xs p.0)
+IsFirst P xs result = MatchOption result (legal.NoneOf P xs) (λ p. legal.First P xs p.0)
 
 later : (P : Tree → Type 0) (x : ℕ × Tree) (xs : List (ℕ × Tree)) (result : Option PathId) → (P x.1 → ⊥) → IsFirst P xs result → IsFirst P (x ∷ xs) result
 later P x xs None n r = (n, r)
 later P x xs (Some p) n r = inr (n, r)
 
-module _ (a : OpId) (values : List ℕ) (f : Tree → Values) (v : Values) (g : Agrees values v.semaphore) where
+module _ (a : OpId) (values : List ℕ) (f : Tree → Values) (v : Table) (g : Agrees values v.semaphore) where
   blocks : (x : ℕ × Tree) (k c : ℕ) → NoBraces x.1 → Shows (record { tree = x.1; own = k; first = c }) v (f x.1) → get_or values (k + waits_on (above x.1 1 0 a)) 0 ≡ (f x.1).semaphore (waits_on (above x.1 1 0 a))
   blocks x k c p S = let w = wait_low x.1 a in g (k + waits_on (above x.1 1 0 a)) ∙ S.semaphores (waits_on (above x.1 1 0 a)) (omega arith)
 
   pub blocking_first : (xs : List (ℕ × Tree)) (k c : ℕ) → legal.Every NoBraces xs → legal.Every (λ x. Shows x v (f x.tree)) (sited k c xs) → IsFirst (λ s. Blocks a (on_tree f s)) xs (blocking (terms_at (sited k c xs) a) values)
   blocking_first [] k c p S = tt
-  blocking_first (x ∷ xs) k c p S = go (has x.1 a) refl (blocking_first xs (k + semicolons x.1 + 1) (c + braces x.1) p.1 S.1)
+  blocking_first (x ∷ xs) k c p S = go (has x.1 a) refl (blocking_first xs (k + semaphores_in x.1) (c + braces x.1) p.1 S.1)
     where
       k' : ℕ
-      k' = k + semicolons x.1 + 1
+      k' = k + semaphores_in x.1
 
       c' : ℕ
       c' = c + braces x.1
@@ -77,45 +73,24 @@ blocking_judges xs h a values wf p l g = go (blocking (terms_at (sited 0 0 xs) a
     judged = all_paths_judge xs wf h l
 
     go : (result : Option PathId) → IsFirst (λ s. Blocks a (on_tree (now h) s)) xs result → IsJudged xs h a result
-    go None r = (judged.starts a).0 (subst (λ m. legal.None (Blocks a) m) (sym (after_placed xs h)) (every_from (λ r. Blocks a r → ⊥) (now h) xs r))
+    go None r = (judged.starts a).0 (subst (λ m. legal.NoneOf (Blocks a) m) (sym (after_placed xs h)) (every_from (λ r. Blocks a r → ⊥) (now h) xs r))
     go (Some p) r = (judged.first a p.0).0 (subst (λ m. legal.First (Blocks a) m p.0) (sym (after_placed xs h)) (first_from (Blocks a) (now h) xs p.0 r))
 
--- the values of a path stay small
-starts_projection : (s : Tree) (h : List Event) → starts_in (projection s h) ≤ starts_in h
-starts_projection s [] = omega arith
-starts_projection s (Began b ∷ h) =
-    let r = starts_projection s h in
-    cond_both (has s b) (Began b ∷ projection s h) (projection s h) (λ u. starts_in u ≤ starts_in h + 1) (λ _. omega arith) (λ _. omega arith)
-starts_projection s (Ended b ∷ h) =
-    let r = starts_projection s h in
-    cond_both (has s b) (Ended b ∷ projection s h) (projection s h) (λ u. starts_in u ≤ starts_in h) (λ _. r) (λ _. r)
-
-among : (s : Tree) (v : Values) (h : List Event) → values_among s v h ≡ values_from s v (projection s h)
-among s v [] = refl
-among s v (e ∷ h) = elim (has s (op_of e)) as (λ b. values_among s (cond b (changed s e v) v) h ≡ values_from s v (cond b (e ∷ projection s h) (projection s h))) [ true ↦ among s (changed s e v) h | false ↦ among s v h ]
-
-now_small : (s : Tree) → WellFormed s → (h : List Event) → LegalOn s h → (q : ℕ) → (now h s).semaphore q ≤ 1 + starts_in h
-now_small s wf h l q =
-    let b = (each_value_is_bounded s wf (projection s h) l).semaphores q in
-    let e : (now h s).semaphore q ≡ (values_from s (opening s) (projection s h)).semaphore q = ap (λ (w : Values). w.semaphore q) (among s (opening s) h) in
-    let r = starts_projection s h in
-    omega arith
-
-signals_small : (xs : List (ℕ × Tree)) (k c : ℕ) (h : List Event) (a : OpId) (values : List ℕ) (v : Values) → Agrees values v.semaphore → legal.Every WellFormed xs → legal.Legal xs h → legal.Every (λ x. Shows x v (now h x.tree)) (sited k c xs)
-    → Each (λ t. get_or values t.signal 0 ≤ 1 + starts_in h) (terms_at (sited k c xs) a)
-signals_small [] k c h a values v g wf l S = tt
-signals_small (x ∷ xs) k c h a values v g wf l S =
-    let rest = signals_small xs (k + semicolons x.1 + 1) (c + braces x.1) h a values v g wf.1 l.1 S.1 in
-    cond_both (has x.1 a) _ _ (Each (λ t. get_or values t.signal 0 ≤ 1 + starts_in h)) (λ _. (small, rest)) (λ _. rest)
+-- the values to which finishes give stay small
+signals_small : (xs : List (ℕ × Tree)) (k c n : ℕ) (a : OpId) (values : List ℕ) (v : Table) → Agrees values v.semaphore → legal.Every (λ x. BoundedInTable x v n) (sited k c xs)
+    → Each (λ t. get_or values t.signal 0 ≤ 1 + n) (terms_at (sited k c xs) a)
+signals_small [] k c n a values v g b = tt
+signals_small (x ∷ xs) k c n a values v g b =
+    let rest = signals_small xs (k + semaphores_in x.1) (c + braces x.1) n a values v g b.1 in
+    cond_both (has x.1 a) _ _ (Each (λ t. get_or values t.signal 0 ≤ 1 + n)) (λ _. (small, rest)) (λ _. rest)
   where
-    small : get_or values (k + signals (above x.1 1 0 a)) 0 ≤ 1 + starts_in h
+    small : get_or values (k + signals (above x.1 1 0 a)) 0 ≤ 1 + n
     small =
         let w = signal_low x.1 a in
         let e = g (k + signals (above x.1 1 0 a)) in
-        let d : v.semaphore (k + signals (above x.1 1 0 a)) ≡ (now h x.1).semaphore (signals (above x.1 1 0 a)) = S.0.semaphores (signals (above x.1 1 0 a)) (omega arith) in
-        let b = now_small x.1 wf.0 h l.0 (signals (above x.1 1 0 a)) in
-        omega arith
+        let most = b.0.semaphores (signals (above x.1 1 0 a)) (omega (arith, w)) in
+        omega (arith, e, most)
 
 pub values_small : (xs : List (ℕ × Tree)) (h : List Event) (a : OpId) (values : List ℕ) → legal.Every WellFormed xs → legal.Legal xs h
     → Agrees values (flat_from (sited 0 0 xs) (flat_opening (sited 0 0 xs)) h).semaphore → Each (λ t. get_or values t.signal 0 ≤ 1 + starts_in h) (terms_at (sited 0 0 xs) a)
-values_small xs h a values wf l g = signals_small xs 0 0 h a values (flat_from (sited 0 0 xs) (flat_opening (sited 0 0 xs)) h) g wf l (one_table_shows_all xs h)
+values_small xs h a values wf l g = signals_small xs 0 0 (starts_in h) a values (flat_from (sited 0 0 xs) (flat_opening (sited 0 0 xs)) h) g (table_values_are_bounded xs wf h l)

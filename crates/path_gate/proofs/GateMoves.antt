@@ -8,9 +8,9 @@ use Rattle.path_model.specs.declared.history.Event.{Event}
 use Rattle.path_model.specs.declared.history.Event.TheVariants.{Began, Ended}
 use Rattle.path_model.specs.Trees.{Tree, NoBraces, has}
 use Rattle.path_model.specs.Histories.{begun, ended, starts_in}
-use Rattle.path_model.specs.Machine.{semicolons, braces, above, waits_on, signals, Values, put, take_one, add_one, started, finished}
+use Rattle.path_model.specs.Machine.{braces, above, waits_on, signals, put, take_one, add_one}
 use Rattle.path_model.specs.Legal as legal
-use Rattle.path_model.specs.Flat.{Sited, sited, shifted, at_site, flat_changed, flat_from}
+use Rattle.path_model.specs.Flat.{semaphores_in, Sited, sited, in_table, Table, one_taken, one_given, table_started, table_finished, at_site, flat_changed, flat_from}
 use Rattle.path_gate.specs.declared.gate.Term.{Term}
 use Rattle.path_gate.specs.Rows.{term_at, terms_at, taken, given}
 use Rattle.path_gate.proofs.GateRows.{Each, plain_prologue, plain_epilogue}
@@ -41,20 +41,20 @@ abbrev Signals : ℕ → Term → Type 0
 Signals n t = t.signal < n
 
 abbrev TakenAgrees : List (ℕ × Tree) → ℕ → ℕ → OpId → Type 0
-TakenAgrees xs k c a = (values : List ℕ) (v : Values) → Each (λ t. t.wait < length values) (terms_at (sited k c xs) a) → Agrees values v.semaphore
+TakenAgrees xs k c a = (values : List ℕ) (v : Table) → Each (λ t. t.wait < length values) (terms_at (sited k c xs) a) → Agrees values v.semaphore
     → Agrees (taken (terms_at (sited k c xs) a) values) (flat_changed (sited k c xs) (Began a) v).semaphore
 
 abbrev GivenAgrees : List (ℕ × Tree) → ℕ → ℕ → OpId → Type 0
-GivenAgrees xs k c a = (values : List ℕ) (v : Values) → Each (λ t. t.signal < length values) (terms_at (sited k c xs) a) → Agrees values v.semaphore
+GivenAgrees xs k c a = (values : List ℕ) (v : Table) → Each (λ t. t.signal < length values) (terms_at (sited k c xs) a) → Agrees values v.semaphore
     → Agrees (given (terms_at (sited k c xs) a) values) (flat_changed (sited k c xs) (Ended a) v).semaphore
 
 -- a start
 pub taken_agrees : (xs : List (ℕ × Tree)) (k c : ℕ) (a : OpId) → legal.Every NoBraces xs → TakenAgrees xs k c a
 taken_agrees [] k c a p values v w g = g
-taken_agrees (x ∷ xs) k c a p values v w g = go (has x.1 a) w (taken_agrees xs (k + semicolons x.1 + 1) (c + braces x.1) a p.1)
+taken_agrees (x ∷ xs) k c a p values v w g = go (has x.1 a) w (taken_agrees xs (k + semaphores_in x.1) (c + braces x.1) a p.1)
   where
     k' : ℕ
-    k' = k + semicolons x.1 + 1
+    k' = k + semaphores_in x.1
 
     c' : ℕ
     c' = c + braces x.1
@@ -70,8 +70,8 @@ taken_agrees (x ∷ xs) k c a p values v w g = go (has x.1 a) w (taken_agrees xs
 
     on : TakenAgrees xs k' c' a → (k + q < length values) → Each (λ t. t.wait < length values) (terms_at (sited k' c' xs) a) → Agrees (taken (terms_at (sited k' c' xs) a) next) (flat_changed (sited k' c' xs) (Began a) (at_site site (Began a) v)).semaphore
     on rest l r =
-        subst (λ t. Agrees (taken (terms_at (sited k' c' xs) a) next) (flat_changed (sited k' c' xs) (Began a) (started (shifted k c t) v)).semaphore) (sym (plain_prologue x.1 p.0 a))
-        (rest next (record v { semaphore = take_one v.semaphore (k + q) }) (still_each Waits (length values) (length next) (sym (length-set values (k + q) (get_or values (k + q) 0 - 1))) _ r) (take_agrees values v.semaphore (k + q) l g))
+        subst (λ t. Agrees (taken (terms_at (sited k' c' xs) a) next) (flat_changed (sited k' c' xs) (Began a) (table_started (in_table site t) v)).semaphore) (sym (plain_prologue x.1 p.0 a))
+        (rest next (one_taken (k + q) v) (still_each Waits (length values) (length next) (sym (length-set values (k + q) (get_or values (k + q) 0 - 1))) _ r) (take_agrees values v.semaphore (k + q) l g))
 
     go : (b : Bool) → Each (λ t. t.wait < length values) (cond b (term_at (x.0, site) a ∷ terms_at (sited k' c' xs) a) (terms_at (sited k' c' xs) a)) → TakenAgrees xs k' c' a
         → Agrees (taken (cond b (term_at (x.0, site) a ∷ terms_at (sited k' c' xs) a) (terms_at (sited k' c' xs) a)) values) (flat_changed (sited k' c' xs) (Began a) (cond b (at_site site (Began a) v) v)).semaphore
@@ -81,10 +81,10 @@ taken_agrees (x ∷ xs) k c a p values v w g = go (has x.1 a) w (taken_agrees xs
 -- a finish
 pub given_agrees : (xs : List (ℕ × Tree)) (k c : ℕ) (a : OpId) → legal.Every NoBraces xs → GivenAgrees xs k c a
 given_agrees [] k c a p values v w g = g
-given_agrees (x ∷ xs) k c a p values v w g = go (has x.1 a) w (given_agrees xs (k + semicolons x.1 + 1) (c + braces x.1) a p.1)
+given_agrees (x ∷ xs) k c a p values v w g = go (has x.1 a) w (given_agrees xs (k + semaphores_in x.1) (c + braces x.1) a p.1)
   where
     k' : ℕ
-    k' = k + semicolons x.1 + 1
+    k' = k + semaphores_in x.1
 
     c' : ℕ
     c' = c + braces x.1
@@ -100,8 +100,8 @@ given_agrees (x ∷ xs) k c a p values v w g = go (has x.1 a) w (given_agrees xs
 
     on : GivenAgrees xs k' c' a → (k + q < length values) → Each (λ t. t.signal < length values) (terms_at (sited k' c' xs) a) → Agrees (given (terms_at (sited k' c' xs) a) next) (flat_changed (sited k' c' xs) (Ended a) (at_site site (Ended a) v)).semaphore
     on rest l r =
-        subst (λ t. Agrees (given (terms_at (sited k' c' xs) a) next) (flat_changed (sited k' c' xs) (Ended a) (finished (shifted k c t) v)).semaphore) (sym (plain_epilogue x.1 p.0 a))
-        (rest next (record v { semaphore = add_one v.semaphore (k + q) }) (still_each Signals (length values) (length next) (sym (length-set values (k + q) (get_or values (k + q) 0 + 1))) _ r) (add_agrees values v.semaphore (k + q) l g))
+        subst (λ t. Agrees (given (terms_at (sited k' c' xs) a) next) (flat_changed (sited k' c' xs) (Ended a) (table_finished (in_table site t) v)).semaphore) (sym (plain_epilogue x.1 p.0 a))
+        (rest next (one_given (k + q) v) (still_each Signals (length values) (length next) (sym (length-set values (k + q) (get_or values (k + q) 0 + 1))) _ r) (add_agrees values v.semaphore (k + q) l g))
 
     go : (b : Bool) → Each (λ t. t.signal < length values) (cond b (term_at (x.0, site) a ∷ terms_at (sited k' c' xs) a) (terms_at (sited k' c' xs) a)) → GivenAgrees xs k' c' a
         → Agrees (given (cond b (term_at (x.0, site) a ∷ terms_at (sited k' c' xs) a) (terms_at (sited k' c' xs) a)) values) (flat_changed (sited k' c' xs) (Ended a) (cond b (at_site site (Ended a) v) v)).semaphore
@@ -109,7 +109,7 @@ given_agrees (x ∷ xs) k c a p values v w g = go (has x.1 a) w (given_agrees xs
     go false r rest = rest values v r g
 
 -- one more event
-pub flat_snoc : (xs : List (ℕ × Sited)) (v : Values) (h : List Event) (e : Event) → flat_from xs v (h ++ e ∷ []) ≡ flat_changed xs e (flat_from xs v h)
+pub flat_snoc : (xs : List (ℕ × Sited)) (v : Table) (h : List Event) (e : Event) → flat_from xs v (h ++ e ∷ []) ≡ flat_changed xs e (flat_from xs v h)
 flat_snoc xs v [] e = refl
 flat_snoc xs v (d ∷ h) e = flat_snoc xs (flat_changed xs d v) h e
 

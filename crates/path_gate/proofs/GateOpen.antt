@@ -9,22 +9,28 @@ use Rattle.path_model.specs.declared.ids.OpId.{OpId}
 use Rattle.path_model.specs.Trees.{Tree, Names, NoBraces, WellFormed}
 use Rattle.path_model.specs.Machine.{semicolons, braces}
 use Rattle.path_model.specs.Legal as legal
-use Rattle.path_model.specs.Flat.{sited, owns}
+use Rattle.path_model.specs.Flat.{semaphores_in, sited, owns}
 use Rattle.path_model.specs.Declarations.{Declaration, Path, paths_of}
+use Rattle.path_model.proofs.CallerLemmas.{none_counted, plain_openings}
 use Rattle.path_decl.specs.Lawful.{Lawful, NamesOwn}
+use Rattle.path_decl.proofs.CallerLemmas.{few_semicolons}
 use Rattle.path_gate.specs.declared.gate.Term.{Term}
 use Rattle.path_gate.specs.Standings.{Standing, IsAt}
 use Rattle.path_gate.specs.Rows.{terms_at, semaphores_of, IsSound}
-use Rattle.path_gate.specs.Translation.{NamesBelow, terms_in, opening_of, openings}
-use Rattle.path_gate.proofs.GateTable.{names_below, terms_path, terms_snoc}
+use Rattle.path_gate.specs.Translation.{NamesBelow, opening_of, openings}
+use Rattle.path_gate.proofs.GateTable.{names_below, terms_snoc}
 
 -- the opening values
-pub length-openings : (xs : List (ℕ × Tree)) → length (openings xs) ≡ semaphores_of xs
-length-openings [] = refl
-length-openings (x ∷ xs) =
+length_opening : (s : Tree) → length (opening_of s) ≡ 1 + semicolons s
+length_opening s = let r : length {A = ℕ} (replicate (semicolons s) 0) ≡ semicolons s = length-replicate (semicolons s) 0 in omega arith
+
+pub length_openings : (xs : List (ℕ × Tree)) → legal.Every NoBraces xs → length (openings xs) ≡ semaphores_of xs
+length_openings [] plain = refl
+length_openings (x ∷ xs) plain =
     let a = length-append (opening_of x.1) (openings xs) in
-    let r : length {A = ℕ} (replicate (semicolons x.1) 0) ≡ semicolons x.1 = length-replicate (semicolons x.1) 0 in
-    let i = length-openings xs in
+    let r = length_opening x.1 in
+    let z = none_counted x.1 plain.0 in
+    let i = length_openings xs plain.1 in
     omega arith
 
 pub openings_snoc : (ys : List (ℕ × Tree)) (x : ℕ × Tree) → openings (ys ++ x ∷ []) ≡ openings ys ++ opening_of x.1
@@ -35,7 +41,7 @@ owns_none : (xs : List (ℕ × Tree)) (k c i : ℕ) → i < k → owns (sited k 
 owns_none [] k c i l = refl
 owns_none (x ∷ xs) k c i l =
     let z : ◌≡◌ {A = ℕ} (cond (i == k) 1 0) 0 = cond-false (i == k) 1 0 (ne_eqb i k (λ q. omega (arith, l, q))) in
-    let r = owns_none xs (k + semicolons x.1 + 1) (c + braces x.1) i (omega (arith, l)) in
+    let r = owns_none xs (k + semaphores_in x.1) (c + braces x.1) i (omega (arith, l)) in
     omega (arith, z, r)
 
 first_one : (s : Tree) (i : ℕ) → i < 1 + semicolons s → get_or (opening_of s) i 0 ≡ cond (i == 0) 1 0
@@ -47,32 +53,30 @@ within_first [] ys i l = absurd (omega arith)
 within_first (x ∷ xs) ys zero l = refl
 within_first (x ∷ xs) ys (suc i) l = within_first xs ys i (omega arith)
 
-pub openings_own : (xs : List (ℕ × Tree)) (k c i : ℕ) → get_or (openings xs) i 0 ≡ owns (sited k c xs) (k + i)
-openings_own [] k c i = refl
-openings_own (x ∷ xs) k c i = go (cases_lt i (1 + semicolons x.1)) (λ j. openings_own xs (k + semicolons x.1 + 1) (c + braces x.1) j)
+pub openings_own : (xs : List (ℕ × Tree)) → legal.Every NoBraces xs → (k c i : ℕ) → get_or (openings xs) i 0 ≡ owns (sited k c xs) (k + i)
+openings_own [] plain k c i = refl
+openings_own (x ∷ xs) plain k c i = go (cases_lt i (1 + semicolons x.1)) (λ j. openings_own xs plain.1 (k + semaphores_in x.1) (c + braces x.1) j)
   where
-    long : length (opening_of x.1) ≡ 1 + semicolons x.1
-    long = let r : length {A = ℕ} (replicate (semicolons x.1) 0) ≡ semicolons x.1 = length-replicate (semicolons x.1) 0 in omega arith
-
-    go : (i < 1 + semicolons x.1) ⊎ (1 + semicolons x.1 ≤ i) → ((j : ℕ) → get_or (openings xs) j 0 ≡ owns (sited (k + semicolons x.1 + 1) (c + braces x.1) xs) (k + semicolons x.1 + 1 + j))
-        → get_or (opening_of x.1 ++ openings xs) i 0 ≡ cond (k + i == k) 1 0 + owns (sited (k + semicolons x.1 + 1) (c + braces x.1) xs) (k + i)
+    go : (i < 1 + semicolons x.1) ⊎ (1 + semicolons x.1 ≤ i) → ((j : ℕ) → get_or (openings xs) j 0 ≡ owns (sited (k + semaphores_in x.1) (c + braces x.1) xs) (k + semaphores_in x.1 + j))
+        → get_or (opening_of x.1 ++ openings xs) i 0 ≡ cond (k + i == k) 1 0 + owns (sited (k + semaphores_in x.1) (c + braces x.1) xs) (k + i)
     go (inl l) rest =
-        let e = long in
+        let e = length_opening x.1 in
         let a = within_first (opening_of x.1) (openings xs) i (omega arith) in
         let b = first_one x.1 i l in
-        let o = owns_none xs (k + semicolons x.1 + 1) (c + braces x.1) (k + i) (omega arith) in
+        let o = owns_none xs (k + semaphores_in x.1) (c + braces x.1) (k + i) (omega arith) in
         let s : ◌≡◌ {A = ℕ} (cond (i == 0) 1 0) (cond (k + i == k) 1 0) = elim (cases_eq i 0) [
           | inl q ↦ cond-true (i == 0) 1 0 (eq-eqb i 0 q) ∙ sym (cond-true (k + i == k) 1 0 (eq-eqb (k + i) k (omega arith)))
           | inr n ↦ cond-false (i == 0) 1 0 (ne_eqb i 0 n) ∙ sym (cond-false (k + i == k) 1 0 (ne_eqb (k + i) k (λ q. n (omega arith))))
         ] in
         omega arith
     go (inr l) rest =
-        let e = long in
+        let e = length_opening x.1 in
+        let none = none_counted x.1 plain.0 in
         let j : ℕ = i - (1 + semicolons x.1) in
         let is : i ≡ length (opening_of x.1) + j = omega arith in
         let a : get_or (opening_of x.1 ++ openings xs) i 0 ≡ get_or (openings xs) j 0 = ap (λ u. get_or (opening_of x.1 ++ openings xs) u 0) is ∙ get_or-append-add (opening_of x.1) (openings xs) j 0 in
         let b = rest j in
-        let d : owns (sited (k + semicolons x.1 + 1) (c + braces x.1) xs) (k + semicolons x.1 + 1 + j) ≡ owns (sited (k + semicolons x.1 + 1) (c + braces x.1) xs) (k + i) = ap (λ u. owns (sited (k + semicolons x.1 + 1) (c + braces x.1) xs) u) (omega arith) in
+        let d : owns (sited (k + semaphores_in x.1) (c + braces x.1) xs) (k + semaphores_in x.1 + j) ≡ owns (sited (k + semaphores_in x.1) (c + braces x.1) xs) (k + i) = ap (λ u. owns (sited (k + semaphores_in x.1) (c + braces x.1) xs) u) (omega arith) in
         let z : ◌≡◌ {A = ℕ} (cond (k + i == k) 1 0) 0 = cond-false (k + i == k) 1 0 (ne_eqb (k + i) k (λ q. omega arith)) in
         omega arith
 
@@ -121,22 +125,26 @@ module _ (d : Declaration) (L : Lawful d) (n : ℕ) (s : Tree) (is : Some s ≡ 
   path_plain = every_at NoBraces d.paths 0 n s L.plain is
 
   pub path_small : semicolons s ≤ 63
-  path_small = all_at (λ p. semicolons p.tree ≤ 63) (λ t. semicolons t ≤ 63) (λ p h. h) d.paths n s L.few_semicolons is
+  path_small = all_at (λ p. semicolons p.tree ≤ 63) (λ t. semicolons t ≤ 63) (λ p h. h) d.paths n s (few_semicolons d L) is
 
   pub path_names : NamesBelow (length d.operations) s
   path_names = names_below (length d.operations) s (all_at (NamesOwn d) (λ t. (a : OpId) → Names t a → a.0 < length d.operations) (λ p h a k. (h a k).0) d.paths n s L.named is)
 
-few_in : (ps : List Path) (k n : ℕ) → All (λ p. semicolons p.tree ≤ 63) ps → semaphores_of (take n (legal.numbered k (map tree_of ps))) ≤ 64 * n
+few_in : (ps : List Path) (k n : ℕ) → All (λ p. semicolons p.tree ≤ 63) ps → length (openings (take n (legal.numbered k (map tree_of ps)))) ≤ 64 * n
 few_in ps k zero all = omega arith
 few_in [] k (suc n) all = omega arith
 few_in (p ∷ ps) k (suc n) all =
     let h = All-head (λ (p : Path). semicolons p.tree ≤ 63) p ps all in
+    let a = length-append (opening_of p.tree) (openings (take n (legal.numbered (k + 1) (map tree_of ps)))) in
+    let o = length_opening p.tree in
     let r = few_in ps (k + 1) n (All-tail (λ (p : Path). semicolons p.tree ≤ 63) p ps all) in
     omega arith
 
--- the semaphores of the first paths
-pub openings_few : (d : Declaration) → Lawful d → (n : ℕ) → length (openings (take n (paths_of d))) ≤ 64 * n
-openings_few d L n = let e = length-openings (take n (paths_of d)) in let r = few_in d.paths 0 n L.few_semicolons in omega arith
+-- the first paths
+every_take : {A : Type 0} (P : A → Type 0) (n : ℕ) (xs : List (ℕ × A)) → legal.Every P xs → legal.Every P (take n xs)
+every_take P zero xs all = tt
+every_take P (suc n) [] all = tt
+every_take P (suc n) (x ∷ xs) all = (all.0, every_take P n xs all.1)
 
 legal_empty : (xs : List (ℕ × Tree)) → legal.Legal xs []
 legal_empty [] = tt
@@ -149,9 +157,13 @@ get_or_zeros n i = elim (cases_lt i n) [ inl l ↦ get_or-replicate n i 0 0 l | 
 abbrev pub opened : Declaration → Standing
 opened d = record { paths = paths_of d; semaphores = openings (paths_of d); in_progress = replicate (length d.operations) 0; admitted = 0 }
 
-pub opened_at : (d : Declaration) → IsAt (opened d) []
-opened_at d = record {
-  semaphores = λ q. openings_own (paths_of d) 0 0 q ∙ ap (λ i. owns (sited 0 0 (paths_of d)) i) (let e : 0 + q ≡ q = omega arith in e);
+pub opened_at : (d : Declaration) → Lawful d → IsAt (opened d) []
+opened_at d L = record {
+  semaphores = λ q.
+      (let own = openings_own (paths_of d) L.plain 0 0 q in
+      let here : owns (sited 0 0 (paths_of d)) (0 + q) ≡ owns (sited 0 0 (paths_of d)) q = ap (λ i. owns (sited 0 0 (paths_of d)) i) (let e : 0 + q ≡ q = omega arith in e) in
+      let none = plain_openings (paths_of d) L.plain 0 0 q in
+      omega (arith, own, here, none));
   progress = λ a n. let z = get_or_zeros (length d.operations) a.0 in omega arith;
 }
 
@@ -162,9 +174,9 @@ opened_sound d by_op L rows terms = record {
   few = let e = length-paths d in let f = L.few_paths in omega arith;
   terms = terms;
   counts = length-replicate (length d.operations) 0 ∙ sym rows;
-  table = length-openings (paths_of d);
+  table = length_openings (paths_of d) L.plain;
   idle = λ a n. get_or_zeros (length d.operations) a.0;
-  history = ([], legal_empty (paths_of d), opened_at d, refl);
+  history = ([], legal_empty (paths_of d), opened_at d L, refl);
 }
 
 -- a path is added
@@ -172,21 +184,20 @@ module _ (d : Declaration) (L : Lawful d) (n : ℕ) (s : Tree) (is : Some s ≡ 
   pub values_more : (after : List ℕ) → after ≡ values ++ opening_of s → after ≡ openings (take (n + 1) (paths_of d))
   values_more after e = e ∙ ap (λ v. v ++ opening_of s) so_far ∙ sym (openings_snoc (take n (paths_of d)) (n, s)) ∙ ap openings (sym (next_path d n s l is))
 
-  pub terms_more : (a : OpId) (before after : List Term) → before ≡ terms_at (sited 0 0 (take n (paths_of d))) a → after ≡ before ++ terms_in s (length values + 1) (record { path = record { 0 = n }; wait = length values; signal = length values }) a
+  pub terms_more : (a : OpId) (before after : List Term) → before ≡ terms_at (sited 0 0 (take n (paths_of d))) a → after ≡ before ++ terms_at ((n, record { tree = s; own = length values; first = 0 }) ∷ []) a
       → after ≡ terms_at (sited 0 0 (take (n + 1) (paths_of d))) a
   terms_more a before after b e =
       let ys = take n (paths_of d) in
-      let own : length values ≡ 0 + semaphores_of ys = let x = ap length so_far in let y = length-openings ys in omega arith in
-      let one = terms_path s (path_formed d L n s is) (path_plain d L n s is) (length values) 0 n a in
-      e ∙ ap (λ u. u ++ terms_in s (length values + 1) (record { path = record { 0 = n }; wait = length values; signal = length values }) a) b
-      ∙ ap (λ u. terms_at (sited 0 0 ys) a ++ u) one
-      ∙ sym (terms_snoc ys (n, s) 0 0 (length values) 0 a own)
+      let own : length values ≡ 0 + semaphores_of ys = let x = ap length so_far in let y = length_openings ys (every_take NoBraces n (paths_of d) L.plain) in omega arith in
+      let one : List Term = terms_at ((n, record { tree = s; own = length values; first = 0 }) ∷ []) a in
+      e ∙ ap (λ u. u ++ one) b
+      ∙ sym (terms_snoc ys (n, s) 0 0 (length values) a own)
       ∙ ap (λ u. terms_at (sited 0 0 u) a) (sym (next_path d n s l is))
 
   pub room_more : length values + semicolons s + 1 < 2 ^ 32
   room_more =
       let x = ap length so_far in
-      let y = openings_few d L n in
+      let y = few_in d.paths 0 n (few_semicolons d L) in
       let z = path_small d L n s is in
       let w = L.few_paths in
       omega arith

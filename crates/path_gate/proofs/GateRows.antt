@@ -6,8 +6,8 @@ use Rattle.path_model.specs.declared.ids.OpId.{OpId}
 use Rattle.path_model.specs.Trees.{Tree, op, seq, alt, burst, Names, NoBraces, has}
 use Rattle.path_model.specs.Machine.{semicolons, braces, Above, LeftOf, RightOf, Within, above, Plain, waits_on, signals, prologue_below, epilogue_below, prologue, epilogue}
 use Rattle.path_model.specs.Legal as legal
-use Rattle.path_model.specs.Flat.{sited}
-use Rattle.path_model.proofs.Upward.{has_names, names_has}
+use Rattle.path_model.specs.Flat.{semaphores_in, sited}
+use Rattle.path_model.proofs.CallerLemmas.{has_names, names_has}
 use Rattle.path_gate.specs.declared.gate.Term.{Term}
 use Rattle.path_gate.specs.Rows.{term_at, terms_at, semaphores_of}
 
@@ -125,7 +125,7 @@ terms_between [] k c n a l = tt
 terms_between (x ∷ xs) k c n a l =
     let w = wait_low x.1 a in
     let z = signal_low x.1 a in
-    let rest = each_more _ _ (between_less k (k + semicolons x.1 + 1) n (omega arith)) _ (terms_between xs (k + semicolons x.1 + 1) (c + braces x.1) n a (omega arith)) in
+    let rest = each_more _ _ (between_less k (k + semaphores_in x.1) n (omega arith)) _ (terms_between xs (k + semaphores_in x.1) (c + braces x.1) n a (omega arith)) in
     cond_both (has x.1 a) _ _ (Each (Between k n)) (λ _. ((omega arith, omega arith, omega arith, omega arith), rest)) (λ _. rest)
 
 -- no two terms wait on one semaphore
@@ -139,7 +139,7 @@ higher j k n l u b e = let b0 = b.0 in omega arith
 pub terms_apart : (xs : List (ℕ × Tree)) (k c : ℕ) (a : OpId) → AllApart (terms_at (sited k c xs) a)
 terms_apart [] k c a = tt
 terms_apart (x ∷ xs) k c a =
-    let k' = k + semicolons x.1 + 1 in
+    let k' = k + semaphores_in x.1 in
     let w = wait_low x.1 a in
     let rest = terms_apart xs k' (c + braces x.1) a in
     let high = terms_between xs k' (c + braces x.1) (k' + semaphores_of xs) a (omega arith) in
@@ -149,23 +149,23 @@ terms_apart (x ∷ xs) k c a =
 pub terms_few : (xs : List (ℕ × Tree)) (k c : ℕ) (a : OpId) → length (terms_at (sited k c xs) a) ≤ length xs
 terms_few [] k c a = omega arith
 terms_few (x ∷ xs) k c a =
-    let rest = terms_few xs (k + semicolons x.1 + 1) (c + braces x.1) a in
+    let rest = terms_few xs (k + semaphores_in x.1) (c + braces x.1) a in
     cond_both (has x.1 a) _ _ (λ terms. length terms ≤ length (x ∷ xs)) (λ _. omega arith) (λ _. omega arith)
 
 true_false : true ≡ false → ⊥
 true_false z = cc
 
 -- there is none exactly where no path names the operation
-pub terms_none : (xs : List (ℕ × Tree)) (k c : ℕ) (a : OpId) → legal.None (λ s. Names s a) xs → terms_at (sited k c xs) a ≡ []
+pub terms_none : (xs : List (ℕ × Tree)) (k c : ℕ) (a : OpId) → legal.NoneOf (λ s. Names s a) xs → terms_at (sited k c xs) a ≡ []
 terms_none [] k c a n = refl
 terms_none (x ∷ xs) k c a n =
-    cond_both (has x.1 a) _ _ (λ terms. terms ≡ []) (λ h. absurd (n.0 (names_has x.1 a h))) (λ _. terms_none xs (k + semicolons x.1 + 1) (c + braces x.1) a n.1)
+    cond_both (has x.1 a) _ _ (λ terms. terms ≡ []) (λ h. absurd (n.0 (names_has x.1 a h))) (λ _. terms_none xs (k + semaphores_in x.1) (c + braces x.1) a n.1)
 
-pub none_terms : (xs : List (ℕ × Tree)) (k c : ℕ) (a : OpId) → terms_at (sited k c xs) a ≡ [] → legal.None (λ s. Names s a) xs
+pub none_terms : (xs : List (ℕ × Tree)) (k c : ℕ) (a : OpId) → terms_at (sited k c xs) a ≡ [] → legal.NoneOf (λ s. Names s a) xs
 none_terms [] k c a e = tt
-none_terms (x ∷ xs) k c a e = go (has x.1 a) refl e (λ d. none_terms xs (k + semicolons x.1 + 1) (c + braces x.1) a d)
+none_terms (x ∷ xs) k c a e = go (has x.1 a) refl e (λ d. none_terms xs (k + semaphores_in x.1) (c + braces x.1) a d)
   where
-    go : (b : Bool) → has x.1 a ≡ b → (cond b (term_at (x.0, record { tree = x.1; own = k; first = c }) a ∷ terms_at (sited (k + semicolons x.1 + 1) (c + braces x.1) xs) a) (terms_at (sited (k + semicolons x.1 + 1) (c + braces x.1) xs) a)) ≡ []
-        → (terms_at (sited (k + semicolons x.1 + 1) (c + braces x.1) xs) a ≡ [] → legal.None (λ s. Names s a) xs) → legal.None (λ s. Names s a) (x ∷ xs)
+    go : (b : Bool) → has x.1 a ≡ b → (cond b (term_at (x.0, record { tree = x.1; own = k; first = c }) a ∷ terms_at (sited (k + semaphores_in x.1) (c + braces x.1) xs) a) (terms_at (sited (k + semaphores_in x.1) (c + braces x.1) xs) a)) ≡ []
+        → (terms_at (sited (k + semaphores_in x.1) (c + braces x.1) xs) a ≡ [] → legal.NoneOf (λ s. Names s a) xs) → legal.NoneOf (λ s. Names s a) (x ∷ xs)
     go true h d rest = cc
     go false h d rest = (λ y. true_false (sym (has_names x.1 a y) ∙ h), rest d)

@@ -9,11 +9,10 @@ use Rattle.path_model.specs.declared.history.Event.{Event}
 use Rattle.path_model.specs.declared.history.Event.TheVariants.{Began, Ended}
 use Rattle.path_model.specs.Trees.{Tree, Names}
 use Rattle.path_model.specs.Histories.{begun, ended, starts_in}
-use Rattle.path_model.specs.Machine.{Values}
 use Rattle.path_model.specs.Legal as legal
 use Rattle.path_model.specs.AllPaths.{Judged}
-use Rattle.path_model.specs.Flat.{sited, flat_changed, flat_from, flat_opening}
-use Rattle.path_model.proofs.AllPaths.{all_paths_judge}
+use Rattle.path_model.specs.Flat.{sited, Table, flat_changed, flat_from, flat_opening}
+use Rattle.path_model.proofs.CallerLemmas.{all_paths_judge}
 use Rattle.path_gate.specs.declared.gate.Term.{Term}
 use Rattle.path_gate.specs.Standings.{Standing, IsNamed, IsAt, Judges, Admitted, Released}
 use Rattle.path_gate.specs.Rows.{terms_at, blocking, taken, given, CanTake, CanGive, one_more, one_less, IsSound}
@@ -49,8 +48,8 @@ length_less (t ∷ terms) op counts = length-set counts op (get_or counts op 0 -
 same_op : (a b : OpId) → a.0 ≡ b.0 → a ≡ b
 same_op a b e = ap (λ n. record { 0 = n }) e
 
-none_at : (xs : List (ℕ × Tree)) (a b : OpId) → a.0 ≡ b.0 → legal.None (λ s. Names s a) xs → legal.None (λ s. Names s b) xs
-none_at xs a b e n = subst (λ c. legal.None (λ s. Names s c) xs) (same_op a b e) n
+none_at : (xs : List (ℕ × Tree)) (a b : OpId) → a.0 ≡ b.0 → legal.NoneOf (λ s. Names s a) xs → legal.NoneOf (λ s. Names s b) xs
+none_at xs a b e n = subst (λ c. legal.NoneOf (λ s. Names s c) xs) (same_op a b e) n
 
 -- the counts after the passes, for each operation that a path names
 module _ (xs : List (ℕ × Tree)) (a b : OpId) (counts : List ℕ) (h : List Event) (named : IsNamed xs b) (r : get_or counts b.0 0 + ended b h ≡ begun b h) where
@@ -63,7 +62,7 @@ module _ (xs : List (ℕ × Tree)) (a b : OpId) (counts : List ℕ) (h : List Ev
   less_progress (t ∷ terms) is l some = counts_finish counts b a h (l (λ e. cc)) (some (λ e. cc)) r
 
 -- what no path names still isn't counted
-module _ (xs : List (ℕ × Tree)) (a b : OpId) (counts : List ℕ) (none : legal.None (λ s. Names s b) xs) (r : get_or counts b.0 0 ≡ 0) where
+module _ (xs : List (ℕ × Tree)) (a b : OpId) (counts : List ℕ) (none : legal.NoneOf (λ s. Names s b) xs) (r : get_or counts b.0 0 ≡ 0) where
   apart : (t : Term) (terms : List Term) → t ∷ terms ≡ terms_at (sited 0 0 xs) a → b.0 ≡ a.0 → ⊥
   apart t terms is e = let n = terms_none xs 0 0 a (none_at xs b a e none) in cc
 
@@ -109,10 +108,10 @@ module _ (g : Standing) (by_op : List (List Term)) (S : IsSound g by_op) (a : Op
   pub named : terms ≢ [] → IsNamed g.paths a
   named n none = n (is ∙ terms_none g.paths 0 0 a none)
 
-  pub unnamed : legal.None (λ s. Names s a) g.paths → terms ≡ []
+  pub unnamed : legal.NoneOf (λ s. Names s a) g.paths → terms ≡ []
   unnamed none = is ∙ terms_none g.paths 0 0 a none
 
-  pub unmoved : legal.None (λ s. Names s a) g.paths → ended_from g terms a.0 ≡ g
+  pub unmoved : legal.NoneOf (λ s. Names s a) g.paths → ended_from g terms a.0 ≡ g
   unmoved none = subst (λ ts. ended_from g ts a.0 ≡ g) (sym (unnamed none)) refl
 
   judged : (h : List Event) → legal.Legal g.paths h → IsAt g h → IsJudged g.paths h a (blocking terms g.semaphores)
@@ -145,7 +144,7 @@ module _ (g : Standing) (by_op : List (List Term)) (S : IsSound g by_op) (a : Op
 
   begun_at : (h : List Event) → IsAt g h → IsAt (begun_from g terms a.0) (h ++ Began a ∷ [])
   begun_at h at = record {
-    semaphores = λ q. subst (λ (v : Values). get_or (taken terms g.semaphores) q 0 ≡ v.semaphore q) (sym (flat_snoc (sited 0 0 g.paths) (flat_opening (sited 0 0 g.paths)) h (Began a)))
+    semaphores = λ q. subst (λ (v : Table). get_or (taken terms g.semaphores) q 0 ≡ v.semaphore q) (sym (flat_snoc (sited 0 0 g.paths) (flat_opening (sited 0 0 g.paths)) h (Began a)))
         (subst (λ ts. get_or (taken ts g.semaphores) q 0 ≡ (flat_changed (sited 0 0 g.paths) (Began a) (flat_from (sited 0 0 g.paths) (flat_opening (sited 0 0 g.paths)) h)).semaphore q) (sym is)
         (taken_agrees g.paths 0 0 a S.plain g.semaphores (flat_from (sited 0 0 g.paths) (flat_opening (sited 0 0 g.paths)) h) (subst (Each (λ t. t.wait < length g.semaphores)) is (each_more (Between 0 (length g.semaphores)) (λ t. t.wait < length g.semaphores) (λ t b. b.1) terms between)) at.semaphores q));
     progress = λ b n. more_progress g.paths a b g.in_progress h n (at.progress b n) terms is counted;
@@ -174,7 +173,7 @@ module _ (g : Standing) (by_op : List (List Term)) (S : IsSound g by_op) (a : Op
   module _ (some : IsNamed g.paths a → 0 < get_or g.in_progress a.0 0) where
     ended_at : (h : List Event) → IsAt g h → IsAt (ended_from g terms a.0) (h ++ Ended a ∷ [])
     ended_at h at = record {
-      semaphores = λ q. subst (λ (v : Values). get_or (given terms g.semaphores) q 0 ≡ v.semaphore q) (sym (flat_snoc (sited 0 0 g.paths) (flat_opening (sited 0 0 g.paths)) h (Ended a)))
+      semaphores = λ q. subst (λ (v : Table). get_or (given terms g.semaphores) q 0 ≡ v.semaphore q) (sym (flat_snoc (sited 0 0 g.paths) (flat_opening (sited 0 0 g.paths)) h (Ended a)))
           (subst (λ ts. get_or (given ts g.semaphores) q 0 ≡ (flat_changed (sited 0 0 g.paths) (Ended a) (flat_from (sited 0 0 g.paths) (flat_opening (sited 0 0 g.paths)) h)).semaphore q) (sym is)
           (given_agrees g.paths 0 0 a S.plain g.semaphores (flat_from (sited 0 0 g.paths) (flat_opening (sited 0 0 g.paths)) h) (subst (Each (λ t. t.signal < length g.semaphores)) is signal_each) at.semaphores q));
       progress = λ b n. less_progress g.paths a b g.in_progress h n (at.progress b n) terms is counted (λ m. some (named m));

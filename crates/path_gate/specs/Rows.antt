@@ -5,15 +5,17 @@ use Rattle.path_model.specs.declared.ids.PathId.{PathId}
 use Rattle.path_model.specs.declared.history.Event.{Event}
 use Rattle.path_model.specs.Trees.{Tree, Names, NoBraces, WellFormed, has}
 use Rattle.path_model.specs.Histories.{starts_in}
-use Rattle.path_model.specs.Machine.{semicolons, above, waits_on, signals}
+use Rattle.path_model.specs.Machine.{above, waits_on, signals}
 use Rattle.path_model.specs.Legal as legal
-use Rattle.path_model.specs.Flat.{Sited, sited}
+use Rattle.path_model.specs.Flat.{semaphores_in, Sited, sited}
 use Rattle.path_gate.specs.declared.gate.Term.{Term}
 use Rattle.path_gate.specs.Standings.{Standing, IsAt}
 
 -- what the operation asks of the path: the semaphores of the lowest semicolons that have it on their right and on their left
 abbrev pub term_at : ℕ × Sited → OpId → Term
-term_at x a = record { path = record { 0 = x.0 }; wait = x.1.own + waits_on (above x.1.tree 1 0 a); signal = x.1.own + signals (above x.1.tree 1 0 a) }
+term_at x a =
+    let up = above x.1.tree 1 0 a in
+    record { path = record { 0 = x.0 }; wait = x.1.own + waits_on up; signal = x.1.own + signals up }
 
 -- the terms of the operation, one for each path that names it
 abbrev pub terms_at : List (ℕ × Sited) → OpId → List Term
@@ -23,7 +25,7 @@ terms_at (x ∷ xs) a = if has x.1.tree a then (term_at x a ∷ terms_at xs a) e
 -- how many semaphores the paths have
 abbrev pub semaphores_of : List (ℕ × Tree) → ℕ
 semaphores_of [] = 0
-semaphores_of (x ∷ xs) = semicolons x.1 + 1 + semaphores_of xs
+semaphores_of (x ∷ xs) = semaphores_in x.1 + semaphores_of xs
 
 -- the path of the first term whose semaphore is 0
 abbrev pub blocking : List Term → List ℕ → Option PathId
@@ -48,7 +50,8 @@ CanTake (t ∷ terms) values = (0 < slice_index values t.wait) × CanTake terms 
 -- each term can give one after those before it
 abbrev pub CanGive : List Term → List ℕ → Type 0
 CanGive [] values = Unit {0}
-CanGive (t ∷ terms) values = (slice_index values t.signal + 1 < 2 ^ 64) × CanGive terms (slice_set values t.signal (slice_index values t.signal + 1))
+CanGive (t ∷ terms) values =
+    (slice_index values t.signal + 1 < 2 ^ 64) × CanGive terms (slice_set values t.signal (slice_index values t.signal + 1))
 
 -- one execution more, and one less, of an operation that has terms
 abbrev pub one_more : List Term → ℕ → List ℕ → List ℕ
@@ -68,5 +71,5 @@ pub record IsSound (g : Standing) (by_op : List (List Term)) : Type 0 where
   pub counts : length g.in_progress ≡ length by_op
   pub table : length g.semaphores ≡ semaphores_of g.paths
   -- what no path names isn't counted
-  pub idle : (a : OpId) → legal.None (λ s. Names s a) g.paths → slice_index g.in_progress a.0 ≡ 0
+  pub idle : (a : OpId) → legal.NoneOf (λ s. Names s a) g.paths → slice_index g.in_progress a.0 ≡ 0
   pub history : (h : List Event) × legal.Legal g.paths h × IsAt g h × (starts_in h ≡ g.admitted)

@@ -8,6 +8,7 @@ use Rattle.path_model.specs.declared.history.Event.TheVariants.{Began, Ended}
 use Rattle.path_model.specs.Trees.{Tree, Names}
 use Rattle.path_model.specs.Histories.{begun, ended}
 use Rattle.path_model.specs.Legal as legal
+use Rattle.path_model.specs.Declarations.{Declaration, paths_of}
 use Rattle.path_model.specs.Flat.{sited, flat_from, flat_opening}
 use Rattle.path_decl.specs.Stored.{tree_code}
 
@@ -19,16 +20,22 @@ pub record Standing : Type 0 where
   pub in_progress : List ℕ
   pub admitted : ℕ
 
+-- that of a gate over the paths of a declaration
+abbrev pub standing_of : Declaration → List ℕ → List ℕ → ℕ → Standing
+standing_of d semaphores in_progress admitted =
+    record { paths = paths_of d; semaphores = semaphores; in_progress = in_progress; admitted = admitted }
+
 -- a standing is stored as its four parts
 abbrev pub standing_code : Coded Standing
 standing_code =
-    code_by (List (ℕ × Tree) × (List ℕ × (List ℕ × ℕ))) (coded× (coded_list (coded× coded_ℕ tree_code)) (coded× (coded_list coded_ℕ) (coded× (coded_list coded_ℕ) coded_ℕ)))
+    code_by (List (ℕ × Tree) × (List ℕ × (List ℕ × ℕ)))
+    (coded× (coded_list (coded× coded_ℕ tree_code)) (coded× (coded_list coded_ℕ) (coded× (coded_list coded_ℕ) coded_ℕ)))
     (λ g. (g.paths, (g.semaphores, (g.in_progress, g.admitted))))
     (λ p. record { paths = p.0; semaphores = p.1.0; in_progress = p.1.1.0; admitted = p.1.1.1 }) (λ _. refl)
 
 -- a path names the operation
 abbrev pub IsNamed : List (ℕ × Tree) → OpId → Type 0
-IsNamed xs a = legal.None (λ s. Names s a) xs → ⊥
+IsNamed xs a = legal.NoneOf (λ s. Names s a) xs → ⊥
 
 -- The gate is at a history: it has the values of the semaphore machine after it, and for each operation that a path
 -- names it tells how often it began there and hasn't ended.

@@ -3,14 +3,15 @@
 //! Each path is translated to semaphores as Campbell and Habermann describe (1974): it has one of its own, which opens
 //! at 1, and one for each `;`, which opens at 0. All paths' semaphores stand in one table. A start takes one from a
 //! semaphore of each path that names its operation, and is refused if one of these is 0; a finish gives one to another.
-//! What a gate answers is stated by words alone: `specs/Standings.antt`.
+//! `specs/Standings.antt` says at which histories a gate is, and what it answers there.
 
-ghost use Rattle.std.specs.Prelude.{◌≡◌, ◌≢◌, ◌+◌, ◌<◌, length, map, All, IfOk, OnOk, OnErr, MatchResult, slice_index, slice_index_or, [], ◌∷◌};
+ghost use Rattle.std.specs.Prelude.{◌≡◌, ◌≢◌, ◌+◌, ◌<◌, length, All, IfOk, OnOk, OnErr, MatchResult, slice_index, []};
 ghost use Rattle.path_model.specs.Trees.{Names};
 ghost use Rattle.path_model.specs.Legal as legal;
 ghost use Rattle.path_model.specs.Declarations.{paths_of};
 ghost use Rattle.path_gate.specs.Standings.{IsNamed, IsAt, Judges, Admitted, Released};
 ghost use Rattle.path_gate.specs.Rows.{blocking, taken, given, CanTake, CanGive, one_more, one_less};
+ghost use Rattle.path_gate.specs.Translation.{terms_for};
 
 mod table;
 
@@ -91,7 +92,7 @@ fn count_finish(in_progress: &mut [u32], terms: &[Term], op: OpId)
 
 /// The terms of an operation; none for one that no path names.
 fn terms_of<A: Allocator + Copy>(by_op: &[Vec<Term, A>], op: OpId) -> &[Term]
-    ensures { result.now ≡ slice_index_or (map (λ terms. terms.items) by_op.now) op.0 [] }
+    ensures { result.now ≡ terms_for by_op.now op }
 {
     match by_op.get(op.0 as usize) {
         Some(terms) => terms,
@@ -114,27 +115,26 @@ pub struct Gate<A: Allocator + Copy = Global> {
 }
 
 impl<A: Allocator + Copy> Model for Gate<A> {
-    ghost use Rattle.std.specs.Prelude.{map};
-    ghost use Rattle.path_model.specs.Declarations.{paths_of};
-    ghost use Rattle.path_gate.specs.Standings.{Standing, standing_code};
+    ghost use Rattle.path_gate.specs.Standings.{Standing, standing_of, standing_code};
     ghost use Rattle.path_gate.specs.Rows.{IsSound};
+    ghost use Rattle.path_gate.specs.Translation.{rows_of};
 
     ghost Value = { Standing };
 
     ghost coded = { standing_code };
 
-    ghost view = { λ g. record { paths = paths_of g.decl.value; semaphores = g.semaphores.items; in_progress = g.in_progress.items; admitted = g.admitted } };
+    ghost view = { λ g. standing_of g.decl.value.declaration g.semaphores.items g.in_progress.items g.admitted };
 
-    ghost invariant = { λ g. IsSound (record { paths = paths_of g.decl.value; semaphores = g.semaphores.items; in_progress = g.in_progress.items; admitted = g.admitted }) (map (λ terms. terms.items) g.by_op.items) };
+    ghost invariant = { λ g. IsSound (standing_of g.decl.value.declaration g.semaphores.items g.in_progress.items g.admitted) (rows_of g.by_op.items) };
 }
 
 impl<A: Allocator + Copy> Gate<A> {
     /// A gate over the paths of a declaration, with nothing in progress and nothing admitted.
     ///
-    /// The only error is want of memory; nothing is kept then. All memory of the gate is taken here. The cost for each
-    /// path is at most the size of its tree times its depth.
+    /// The only error is want of memory; nothing is kept then. All memory of the gate is taken here. The cost is two walks
+    /// over the tree of each path, and a place for each operation.
     pub fn open(alloc: A, decl: &Decl<A>) -> Result<Gate<A>, OutOfMemory>
-        ensures paths { IfOk result (λ gate. gate.paths ≡ paths_of decl.now) }
+        ensures paths { IfOk result (λ gate. gate.paths ≡ paths_of decl.now.declaration) }
         ensures opened { IfOk result (λ gate. IsAt gate []) }
         ensures admitted { IfOk result (λ gate. gate.admitted ≡ 0) }
     {
@@ -177,11 +177,15 @@ impl<A: Allocator + Copy> Gate<A> {
         ensures err { OnErr result (self.new ≡ self.old) }
     {
         let terms = terms_of(&self.by_op, op);
-        first_blocked(&self.semaphores, terms)?;
-        take(&mut self.semaphores, terms);
-        count_start(&mut self.in_progress, terms, op);
-        self.admitted += 1;
-        Ok(())
+        match first_blocked(&self.semaphores, terms) {
+            Err(path) => Err(path),
+            Ok(()) => {
+                take(&mut self.semaphores, terms);
+                count_start(&mut self.in_progress, terms, op);
+                self.admitted += 1;
+                Ok(())
+            }
+        }
     }
 
     /// Ends an execution of the operation, which has to be in progress if a path names it; otherwise nothing changes.
@@ -190,7 +194,7 @@ impl<A: Allocator + Copy> Gate<A> {
     pub fn release(&mut self, op: OpId)
         requires { IsNamed self.old.paths op → 0 < slice_index self.old.in_progress op.0 }
         ensures moves { Released self.old op self.new }
-        ensures unnamed { legal.None (λ s. Names s op) self.old.paths → self.new ≡ self.old }
+        ensures unnamed { legal.NoneOf (λ s. Names s op) self.old.paths → self.new ≡ self.old }
     {
         let terms = terms_of(&self.by_op, op);
         give(&mut self.semaphores, terms);
@@ -207,7 +211,7 @@ impl<A: Allocator + Copy> Gate<A> {
     /// How many executions of the operation began and haven't ended; 0 for one that no path names.
     pub fn in_progress(&self, op: OpId) -> u32
         ensures counted { result ≡ slice_index self.now.in_progress op.0 }
-        ensures unnamed { legal.None (λ s. Names s op) self.now.paths → result ≡ 0 }
+        ensures unnamed { legal.NoneOf (λ s. Names s op) self.now.paths → result ≡ 0 }
     {
         match self.in_progress.get(op.0 as usize) {
             Some(count) => *count,

@@ -1,12 +1,21 @@
 //! The live activations, in order of start.
 
-ghost use Rattle.std.specs.Prelude.{◌≡◌, ◌+◌, ◌<◌, ◌≤◌, [], ◌∷◌, ◌++◌, ℕ, length, IfOk, MatchOption};
+ghost use Rattle.std.specs.Prelude.{◌≡◌, ◌<◌, ◌≤◌, [], ℕ, length, IfOk, OnOk, OnErr, MatchOption};
 ghost use Rattle.path_model.specs.Journals.{AreNumbered, activation_of, without};
-ghost use Rattle.path_ledger.specs.Ledgers.{IsNowhere, IsPlaceOf};
+ghost use Rattle.path_ledger.specs.Ledgers.{IsNowhere, IsPlaceOf, one_begun, own_of};
 
 use path_model::{ActId, Activation, OpId, OutOfMemory};
 use std::alloc::{Allocator, Global};
 use std::marker::Model;
+
+/// Why a worker can't end an activation.
+#[derive(Clone, Copy, Debug, PartialEq, Eq)]
+pub enum EndFault {
+    /// No live activation has the number.
+    Stale,
+    /// The activation is another worker's.
+    NotYours,
+}
 
 /// The activations that were begun and haven't ended, in order of start.
 #[derive(Drop)]
@@ -17,15 +26,14 @@ pub struct Ledger<A: Allocator + Copy = Global> {
 }
 
 impl<A: Allocator + Copy> Model for Ledger<A> {
-    ghost use Rattle.std.specs.Prelude.{◌≤◌, length, vec_capacity};
-    ghost use Rattle.path_model.specs.Journals.{AreNumbered};
-    ghost use Rattle.path_ledger.specs.Ledgers.{Book};
+    ghost use Rattle.std.specs.Prelude.{vec_capacity};
+    ghost use Rattle.path_ledger.specs.Ledgers.{Book, IsKept};
 
     ghost Value = { Book };
 
     ghost view = { λ l. record { live = l.live.items; begun = l.begun; room = l.room } };
 
-    ghost invariant = { λ l. record { numbered : AreNumbered l.live.items l.begun; within : length l.live.items ≤ l.room; reserved : l.room ≤ vec_capacity l.live } };
+    ghost invariant = { λ l. IsKept l.live.items l.begun l.room (vec_capacity l.live) };
 }
 
 /// Where the activation of a number stands.
@@ -59,7 +67,7 @@ impl<A: Allocator + Copy> Ledger<A> {
         requires room { length self.old.live < self.old.room }
         requires number { self.old.begun < 4294967295 }
         ensures number { result.0 ≡ self.old.begun }
-        ensures appended { self.new ≡ record self.old { live = self.old.live ++ record { act = result; worker = worker; op = op } ∷ []; begun = self.old.begun + 1 } }
+        ensures appended { self.new ≡ one_begun self.old (record { act = result; worker = worker; op = op }) }
     {
         let act = ActId(u64::from(self.begun));
         self.live.push_reserved(Activation { act, worker, op });
@@ -86,6 +94,27 @@ impl<A: Allocator + Copy> Ledger<A> {
         match place_of(&self.live, act) {
             Some(i) => Some(self.live.remove(i)),
             None => None,
+        }
+    }
+
+    /// Takes the live activation of this number out, if it is this worker's own. The others keep their order, and
+    /// `begun` its number.
+    ///
+    /// It is `Stale` if no live activation has the number, and else `NotYours` if it is another worker's; the ledger is
+    /// then as it was. The cost is that of one search and of moving those begun later.
+    pub fn end_own(&mut self, worker: u32, act: ActId) -> Result<Activation, EndFault>
+        ensures told { result ≡ own_of worker (activation_of act self.old.live) }
+        ensures ended { OnOk result (self.new ≡ record self.old { live = without act self.old.live }) }
+        ensures kept { OnErr result (self.new ≡ self.old) }
+    {
+        match place_of(&self.live, act) {
+            None => Err(EndFault::Stale),
+            Some(i) => {
+                if self.live[i].worker != worker {
+                    return Err(EndFault::NotYours);
+                }
+                Ok(self.live.remove(i))
+            }
         }
     }
 

@@ -3,4 +3,4 @@
 
 mod ledger;
 
-pub use ledger::Ledger;
+pub use ledger::{EndFault, Ledger};

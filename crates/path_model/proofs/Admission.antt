@@ -20,13 +20,13 @@ use Rattle.path_model.proofs.Progress.{legal_kept}
 use Rattle.path_model.proofs.StuckStates.{legal_free}
 
 module _ (d : Declaration) (room : ℕ) (openings : List (List ℕ)) (wf : legal.Every WellFormed (paths_of d)) (ls : List Line) (h : IsHonest d room openings ls) (w : ℕ) (a : OpId) (fits : taken ls + 2 ≤ room) (declared : a.0 < length d.operations) where
-  pub passing_start_is_owed : (n : ActId) → n.0 ≡ begun_in ls → legal.None (Blocks a) (after (paths_of d) (admitted_history ls)) → Owed d room openings ls w (Start a) (Started n)
+  pub passing_start_is_owed : (n : ActId) → n.0 ≡ begun_in ls → legal.NoneOf (Blocks a) (after (paths_of d) (admitted_history ls)) → Owed d room openings ls w (Start a) (Started n)
   passing_start_is_owed n e k = OwedToStart.started n fits declared (((all_paths_judge (paths_of d) wf (admitted_history ls) (legal_kept d room openings wf ls h)).none a).0 k) e
 
   pub blocked_start_is_owed : (p : PathId) → legal.First (Blocks a) (after (paths_of d) (admitted_history ls)) p.0 → Owed d room openings ls w (Start a) (Blocked p)
   blocked_start_is_owed p k = OwedToStart.blocked p fits declared (((all_paths_judge (paths_of d) wf (admitted_history ls) (legal_kept d room openings wf ls h)).first a p.0).0 k)
 
-  pub lean_passing_start_is_owed : (n : ActId) → n.0 ≡ begun_in ls → legal.None (LeanBlocks a) (lean_after (paths_of d) (admitted_history ls)) → Owed d room openings ls w (Start a) (Started n)
+  pub lean_passing_start_is_owed : (n : ActId) → n.0 ≡ begun_in ls → legal.NoneOf (LeanBlocks a) (lean_after (paths_of d) (admitted_history ls)) → Owed d room openings ls w (Start a) (Started n)
   lean_passing_start_is_owed n e k =
       let j = trimmed_admits_the_words (paths_of d) wf (admitted_history ls) (legal_kept d room openings wf ls h) a in
       OwedToStart.started n fits declared (legal_free d room openings wf ls h a (j.starts.0 k)) e

@@ -11,7 +11,7 @@ use Rattle.path_model.specs.Behaviour.{Behaves}
 use Rattle.path_model.specs.Projection.{projection, LegalOn}
 use Rattle.path_model.specs.Machine.{Term, Plain, Braced, Counted, Values, Passes, prologue, opening, changed}
 use Rattle.path_model.specs.AmongOthers.{values_among, Lets}
-use Rattle.path_model.specs.Legal.{numbered, Every, First, None, Legal, Forbids}
+use Rattle.path_model.specs.Legal.{numbered, Every, First, NoneOf, Legal, Forbids}
 use Rattle.path_model.specs.AllPaths.{Running, opened, moved, run, after, Blocks, Judged, AllPathsJudge, ProjectionsKeepProgress, EachEventMoves, FirstIsOne, FinishesUnblock, StartsOnlyBlock, EachBlockStays}
 use Rattle.path_model.proofs.Upward.{has_names, names_has}
 use Rattle.path_model.proofs.Labelled.{projection_append}
@@ -33,17 +33,17 @@ module _ {A : Type 0} where
   first_same P Q (x ∷ xs) e p (inl f) = inl (e.0.0 f.0, f.1)
   first_same P Q (x ∷ xs) e p (inr f) = inr (λ q. f.0 (e.0.1 q), first_same P Q xs e.1 p f.1)
 
-  pub none_same : (P Q : A → Type 0) (xs : List (ℕ × A)) → Every (λ a. P a ↔ Q a) xs → None P xs → None Q xs
+  pub none_same : (P Q : A → Type 0) (xs : List (ℕ × A)) → Every (λ a. P a ↔ Q a) xs → NoneOf P xs → NoneOf Q xs
   none_same P Q xs e n = every_both {P = λ a. P a ↔ Q a} {Q = λ a. P a → ⊥} {R = λ a. Q a → ⊥} (λ a i k q. k (i.1 q)) xs e n
 
   pub turned : (P Q : A → Type 0) (xs : List (ℕ × A)) → Every (λ a. P a ↔ Q a) xs → Every (λ a. Q a ↔ P a) xs
   turned P Q xs e = every_map {P = λ a. P a ↔ Q a} {Q = λ a. Q a ↔ P a} (λ a i. (i.1, i.0)) xs e
 
-  pub none_or_first : (P : A → Type 0) → ((a : A) → P a ⊎ (P a → ⊥)) → (xs : List (ℕ × A)) → None P xs ⊎ ((p : ℕ) × First P xs p)
+  pub none_or_first : (P : A → Type 0) → ((a : A) → P a ⊎ (P a → ⊥)) → (xs : List (ℕ × A)) → NoneOf P xs ⊎ ((p : ℕ) × First P xs p)
   none_or_first P d [] = inl tt
   none_or_first P d (x ∷ xs) = go (d x.1) (none_or_first P d xs)
     where
-      go : P x.1 ⊎ (P x.1 → ⊥) → None P xs ⊎ ((p : ℕ) × First P xs p) → None P (x ∷ xs) ⊎ ((p : ℕ) × First P (x ∷ xs) p)
+      go : P x.1 ⊎ (P x.1 → ⊥) → NoneOf P xs ⊎ ((p : ℕ) × First P xs p) → NoneOf P (x ∷ xs) ⊎ ((p : ℕ) × First P (x ∷ xs) p)
       go (inl y) r = inr (x.0, inl (y, refl))
       go (inr n) (inl r) = inl (n, r)
       go (inr n) (inr r) = inr (r.0, inr (n, r.1))
@@ -201,13 +201,13 @@ module _ (xs : List (ℕ × Tree)) (wf : Every WellFormed xs) (h : List Event) (
     λ f. subst (λ m. First (Blocks a) m p) (sym (after_placed xs h)) (first_from (Blocks a) (now h) xs p (first_same (Forbids h a) (λ s. Blocks a (on_tree (now h) s)) xs (turned (λ s. Blocks a (on_tree (now h) s)) (Forbids h a) xs (each_blocks a)) p f)),
   )
 
-  nones : (a : OpId) → None (Blocks a) (after xs h) ↔ Every (λ s. Blocks a (on_tree (now h) s) → ⊥) xs
+  nones : (a : OpId) → NoneOf (Blocks a) (after xs h) ↔ Every (λ s. Blocks a (on_tree (now h) s) → ⊥) xs
   nones a = (
-    λ f. every_to (λ r. Blocks a r → ⊥) (now h) xs (subst (λ m. None (Blocks a) m) (after_placed xs h) f),
-    λ f. subst (λ m. None (Blocks a) m) (sym (after_placed xs h)) (every_from (λ r. Blocks a r → ⊥) (now h) xs f),
+    λ f. every_to (λ r. Blocks a r → ⊥) (now h) xs (subst (λ m. NoneOf (Blocks a) m) (after_placed xs h) f),
+    λ f. subst (λ m. NoneOf (Blocks a) m) (sym (after_placed xs h)) (every_from (λ r. Blocks a r → ⊥) (now h) xs f),
   )
 
-  starts : (a : OpId) → None (Blocks a) (after xs h) ↔ Legal xs (h ++ Began a ∷ [])
+  starts : (a : OpId) → NoneOf (Blocks a) (after xs h) ↔ Legal xs (h ++ Began a ∷ [])
   starts a = (
     λ n. every_both {P = λ s. (Blocks a (on_tree (now h) s) → ⊥) ↔ LegalOn s (h ++ Began a ∷ [])} {Q = λ s. Blocks a (on_tree (now h) s) → ⊥} {R = λ s. LegalOn s (h ++ Began a ∷ [])} (λ s i k. i.0 k) xs legal_if ((nones a).0 n),
     λ k. (nones a).1 (every_both {P = λ s. (Blocks a (on_tree (now h) s) → ⊥) ↔ LegalOn s (h ++ Began a ∷ [])} {Q = λ s. LegalOn s (h ++ Began a ∷ [])} {R = λ s. Blocks a (on_tree (now h) s) → ⊥} (λ s i k. i.1 k) xs legal_if k),
@@ -223,16 +223,17 @@ module _ (xs : List (ℕ × Tree)) (wf : Every WellFormed xs) (h : List Event) (
   judged = record {
     first = firsts;
     none = λ a. (λ n. none_same (λ s. Blocks a (on_tree (now h) s)) (Forbids h a) xs (each_blocks a) ((nones a).0 n), λ n. (nones a).1 (none_same (Forbids h a) (λ s. Blocks a (on_tree (now h) s)) xs (turned (λ s. Blocks a (on_tree (now h) s)) (Forbids h a) xs (each_blocks a)) n));
+    each = λ a. subst (λ m. Every (λ r. Blocks a r ↔ Forbids h a r.tree) m) (sym (after_placed xs h)) (every_from (λ r. Blocks a r ↔ Forbids h a r.tree) (now h) xs (each_blocks a));
     decided = λ a. none_or_first (Blocks a) (blocks_or a) (after xs h);
     starts = starts;
     finishes = λ a g. ends a (λ s k. g);
     unnamed = unnamed;
   }
     where
-      unnamed : (a : OpId) → None (λ s. Names s a) xs → None (Blocks a) (after xs h) × Legal xs (h ++ Began a ∷ []) × Legal xs (h ++ Ended a ∷ [])
+      unnamed : (a : OpId) → NoneOf (λ s. Names s a) xs → NoneOf (Blocks a) (after xs h) × Legal xs (h ++ Began a ∷ []) × Legal xs (h ++ Ended a ∷ [])
       unnamed a n = (free, (starts a).0 free, every_both {P = λ s. Names s a → ⊥} {Q = λ s. (Names s a → ⊥) → LegalOn s (h ++ Ended a ∷ [])} {R = λ s. LegalOn s (h ++ Ended a ∷ [])} (λ s p x. x p) xs n (every_both (λ s w k n. ((each_path_guards s w).finishes h a k).0 (λ m. absurd (n m))) xs wf l))
         where
-          free : None (Blocks a) (after xs h)
+          free : NoneOf (Blocks a) (after xs h)
           free = (nones a).1 (every_map {P = λ s. Names s a → ⊥} {Q = λ s. Blocks a (on_tree (now h) s) → ⊥} (λ s k b. k b.0) xs n)
 
 pub all_paths_judge : AllPathsJudge
@@ -240,11 +241,11 @@ all_paths_judge xs wf h l = judged xs wf h l
 
 -- starts only block
 pub each_block_stays : EachBlockStays
-each_block_stays s wf h a b l k f = (f.0, λ x. f.1 ((each_path_guards s wf).starts_only_block h a b (subst (LegalOn s) (append_assoc h (Began a ∷ []) (Began b ∷ [])) x)))
+each_block_stays s wf h a b f = (f.0, λ x. f.1 ((each_path_guards s wf).starts_only_block h a b (subst (LegalOn s) (append_assoc h (Began a ∷ []) (Began b ∷ [])) x)))
 
 stays : (s : Tree) → WellFormed s → (u : List OpId) (h : List Event) (b : OpId) → Forbids h b s → Forbids (h ++ starts_of u) b s
 stays s wf [] h b f = subst (λ g. Forbids g b s) (sym (append-nil h)) f
-stays s wf (a ∷ u) h b f = subst (λ g. Forbids g b s) (append_assoc h (Began a ∷ []) (starts_of u)) (stays s wf u (h ++ Began a ∷ []) b (f.0, λ x. f.1 ((each_path_guards s wf).starts_only_block h a b (subst (LegalOn s) (append_assoc h (Began a ∷ []) (Began b ∷ [])) x))))
+stays s wf (a ∷ u) h b f = subst (λ g. Forbids g b s) (append_assoc h (Began a ∷ []) (starts_of u)) (stays s wf u (h ++ Began a ∷ []) b (each_block_stays s wf h a b f))
 
 pub legal_front : (s : Tree) → WellFormed s → (x y : List Event) → LegalOn s (x ++ y) → LegalOn s x
 legal_front s wf x y k = front s wf (projection s x) (projection s y) (subst (Behaves s) (projection_append s x y) k)
@@ -292,7 +293,7 @@ first_is_one a (x ∷ m) p q (inl f) = (one, λ n. n.0 f.0)
     one (inr g) = absurd (g.0 f.0)
 first_is_one a (x ∷ m) p q (inr f) = go (first_is_one a m p q f.1)
   where
-    go : (First (Blocks a) m q → p ≡ q) × (None (Blocks a) m → ⊥) → (First (Blocks a) (x ∷ m) q → p ≡ q) × (None (Blocks a) (x ∷ m) → ⊥)
+    go : (First (Blocks a) m q → p ≡ q) × (NoneOf (Blocks a) m → ⊥) → (First (Blocks a) (x ∷ m) q → p ≡ q) × (NoneOf (Blocks a) (x ∷ m) → ⊥)
     go r = (one, λ n. r.1 n.1)
       where
         one : First (Blocks a) (x ∷ m) q → p ≡ q

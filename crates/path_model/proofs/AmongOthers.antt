@@ -71,7 +71,7 @@ project_named s h e k = projection_append s h (e ∷ []) ∙ ap (λ u. projectio
 project_other : (s : Tree) (h : List Event) (e : Event) → (Names s (op_of e) → ⊥) → projection s (h ++ e ∷ []) ≡ projection s h
 project_other s h e n = projection_append s h (e ∷ []) ∙ ap (λ u. projection s h ++ u) (cond-false (has s (op_of e)) (e ∷ []) [] (has_not s (op_of e) n)) ∙ append-nil (projection s h)
 
-among : (s : Tree) (v : Values) (h : List Event) → values_among s v h ≡ values_from s v (projection s h)
+pub among : (s : Tree) (v : Values) (h : List Event) → values_among s v h ≡ values_from s v (projection s h)
 among s v [] = refl
 among s v (e ∷ h) = elim (has s (op_of e)) as (λ b. values_among s (if b then changed s e v else v) h ≡ values_from s v (if b then (e ∷ projection s h) else projection s h)) [ true ↦ among s (changed s e v) h | false ↦ among s v h ]
 

@@ -1,15 +1,16 @@
 -- Worked examples: a slot, readers and writers, crossing labels, a burst before another operation; with bounds; and two paths.
-use Rattle.std.proofs.Common.{◌≡◌, ◌⊎◌, ◌<◌, ℕ, List, [], ◌∷◌, refl, ap, inl, inr, arith}
+use Rattle.std.proofs.Common.{if◌then◌else◌, ◌≡◌, ◌⊎◌, ◌<◌, ℕ, List, [], ◌∷◌, refl, ap, inl, inr, arith}
 use Rattle.path_model.specs.declared.ids.OpId.{OpId}
 use Rattle.path_model.specs.declared.history.Event.{Event}
 use Rattle.path_model.specs.declared.history.Event.TheVariants.{Began, Ended}
-use Rattle.path_model.specs.Trees.{any, most, Tree, op, seq, alt, burst}
+use Rattle.path_model.specs.Trees.{any, most, Tree, op, seq, alt, burst, has}
 use Rattle.path_model.specs.Behaviour.{Behaves}
 use Rattle.path_model.specs.Machine.{prologue, epilogue, Plain, Braced, Counted}
 use Rattle.path_model.specs.OnePath.{AdmitsItsWords}
 use Rattle.path_model.specs.Legal.{numbered, First}
 use Rattle.path_model.specs.AllPaths.{after, Blocks}
 use Rattle.path_model.specs.Trimmed.{kept, lean_after, LeanBlocks, lean_prologue, nothing, limits, does}
+use Rattle.path_model.specs.Flat.{Sited, sited, TableTerm, BracedAt, CountedAt, in_table, flat_opening}
 use Rattle.path_model.proofs.OnePath.{each_path_admits_its_words}
 
 -- an operation by its number, and its events
@@ -25,7 +26,7 @@ ended n = Ended (o n)
 pub behaves_nil : (s : Tree) → Behaves s []
 behaves_nil s = ([], ([], refl))
 
-differ : (a : OpId) → a ≡ o 0 → a ≡ o 1 → ⊥
+pub differ : (a : OpId) → a ≡ o 0 → a ≡ o 1 → ⊥
 differ a h k = let f = ap (λ x. x.0) h in let g = ap (λ x. x.0) k in omega (arith, f, g)
 
 neither : (0 < 0) ⊎ (0 < 0) → ⊥
@@ -101,7 +102,7 @@ readers_and_writers_reader_waits : Behaves readers_and_writers (began 0 ∷ bega
 readers_and_writers_reader_waits h = neither ((readers_and_writers_laws.starts (began 0 ∷ began 0 ∷ ended 0 ∷ ended 0 ∷ began 1 ∷ []) (o 0) readers_and_writers_writer (inl refl)).1 h)
 
 -- path { 0 ; 1 } end: an end of 1 may belong to either of two executions that are underway
-abbrev crossing_labels : Tree
+abbrev pub crossing_labels : Tree
 crossing_labels = burst any (seq (op (o 0)) (op (o 1)))
 
 crossing_labels_laws : AdmitsItsWords crossing_labels
@@ -127,6 +128,9 @@ crossing_labels_second_a_over = (crossing_labels_laws.finishes (began 0 ∷ ende
 
 pub crossing_labels_second_b : Behaves crossing_labels (began 0 ∷ ended 0 ∷ began 0 ∷ began 1 ∷ ended 0 ∷ began 1 ∷ [])
 crossing_labels_second_b = (crossing_labels_laws.starts (began 0 ∷ ended 0 ∷ began 0 ∷ began 1 ∷ ended 0 ∷ []) (o 1) crossing_labels_second_a_over (inr refl)).0 (omega arith)
+
+pub crossing_labels_one_b_over : Behaves crossing_labels (began 0 ∷ ended 0 ∷ began 0 ∷ began 1 ∷ ended 0 ∷ began 1 ∷ ended 1 ∷ [])
+crossing_labels_one_b_over = (crossing_labels_laws.finishes (began 0 ∷ ended 0 ∷ began 0 ∷ began 1 ∷ ended 0 ∷ began 1 ∷ []) (o 1) crossing_labels_second_b (inr refl)).0 (omega arith)
 
 -- path { 0 } ; 1 end: once the burst of 0 is over, 0 begins again only behind 1
 abbrev burst_then_b : Tree
@@ -242,3 +246,17 @@ equal_paths_terms = (refl, refl, refl, refl)
 
 equal_paths_blocks : First (LeanBlocks (o 0)) (lean_after equal_paths (began 0 ∷ began 0 ∷ [])) 0
 equal_paths_blocks = inl ((refl, λ l. omega (arith, l)), refl)
+
+-- two paths in one table: a bound's semaphore comes behind those of the path's semicolons
+abbrev bounds_in_a_row : List (ℕ × Sited)
+bounds_in_a_row = sited 0 0 (numbered 0 (seq (burst (most 2) (op (o 0))) (seq (burst any (op (o 1))) (burst (most 3) (op (o 2)))) ∷ burst (most 4) (op (o 3)) ∷ []))
+
+abbrev prologues_at : OpId → List (ℕ × Sited) → List TableTerm
+prologues_at a [] = []
+prologues_at a (x ∷ xs) = if has x.1.tree a then (in_table x.1 (prologue x.1.tree a) ∷ prologues_at a xs) else prologues_at a xs
+
+bounds_in_a_row_terms : (prologues_at (o 0) bounds_in_a_row ≡ CountedAt 0 0 3 ∷ []) × (prologues_at (o 1) bounds_in_a_row ≡ BracedAt 1 1 ∷ []) × (prologues_at (o 2) bounds_in_a_row ≡ CountedAt 2 2 4 ∷ []) × (prologues_at (o 3) bounds_in_a_row ≡ CountedAt 3 5 6 ∷ [])
+bounds_in_a_row_terms = (refl, refl, refl, refl)
+
+bounds_in_a_row_opening : ((flat_opening bounds_in_a_row).semaphore 0 ≡ 1) × ((flat_opening bounds_in_a_row).semaphore 2 ≡ 0) × ((flat_opening bounds_in_a_row).semaphore 3 ≡ 2) × ((flat_opening bounds_in_a_row).semaphore 4 ≡ 3) × ((flat_opening bounds_in_a_row).semaphore 5 ≡ 1) × ((flat_opening bounds_in_a_row).semaphore 6 ≡ 4)
+bounds_in_a_row_opening = (refl, refl, refl, refl, refl, refl)

@@ -14,18 +14,18 @@ use Rattle.path_model.specs.declared.journal.Activation.{Activation}
 use Rattle.path_model.specs.Legal as legal
 use Rattle.path_model.specs.Declarations.{Declaration, paths_of}
 use Rattle.path_model.specs.Journals.{starts, begun_in, is_finished_in, live, activation_of, without, admitted_history, IsQuiet, AreNumbered, AreCountedFrom}
-use Rattle.path_model.specs.Owed.{taken, IsOwn, OwedToStart, OwedToUse, OwedToFinish, Owed}
-use Rattle.path_model.specs.Honest.{IsHonestFrom, IsHonest}
+use Rattle.path_model.specs.Owed.{taken, by_words, IsOwn, OwedToStart, OwedToUse, OwedToFinish, Owed}
+use Rattle.path_model.specs.Honest.{IsHonestFrom, IsHonest, FrontsAreHonest, EachLiveActivationIsFound}
 use Rattle.path_model.proofs.JournalLists.{starts_more, begun_more, finished_more, or_false, live_more, quiet_use, starts_quiet, begun_quiet, finished_quiet}
-use Rattle.path_model.proofs.Lookups.{without_those, numbered_those, found_those, found_below, counted_more}
+use Rattle.path_model.proofs.Lookups.{without_those, numbered_those, each_found, found_those, found_below, counted_more}
 
 -- a line of its parts
 abbrev pub line_of : ℕ → Attempt → Reply → Line
 line_of w attempt reply = record { worker = w; attempt = attempt; reply = reply }
 
 module _ (d : Declaration) (room : ℕ) (openings : List (List ℕ)) where
-  honest_from_more : (before ls : List Line) (l : Line) → IsHonestFrom d room openings before ls → Owed d room openings (before ++ ls) l.worker l.attempt l.reply → l.reply ≢ NoRoom
-      → IsHonestFrom d room openings before (ls ++ l ∷ [])
+  honest_from_more : (before ls : List Line) (l : Line) → IsHonestFrom (by_words d) d room openings before ls → Owed d room openings (before ++ ls) l.worker l.attempt l.reply → l.reply ≢ NoRoom
+      → IsHonestFrom (by_words d) d room openings before (ls ++ l ∷ [])
   honest_from_more before [] l h o n = (subst (λ b. Owed d room openings b l.worker l.attempt l.reply) (append-nil before) o, n, tt)
   honest_from_more before (k ∷ ls) l h o n =
       (h.0, h.1, honest_from_more (before ++ k ∷ []) ls l h.2 (subst (λ b. Owed d room openings b l.worker l.attempt l.reply) (sym (append_assoc before (k ∷ []) ls)) o) n)
@@ -34,7 +34,7 @@ module _ (d : Declaration) (room : ℕ) (openings : List (List ℕ)) where
   pub honest_more : (ls : List Line) (l : Line) → IsHonest d room openings ls → Owed d room openings ls l.worker l.attempt l.reply → l.reply ≢ NoRoom → IsHonest d room openings (ls ++ l ∷ [])
   honest_more ls l h o n = honest_from_more [] ls l h o n
 
-  honest_from_front : (before x y : List Line) → IsHonestFrom d room openings before (x ++ y) → IsHonestFrom d room openings before x
+  honest_from_front : (before x y : List Line) → IsHonestFrom (by_words d) d room openings before (x ++ y) → IsHonestFrom (by_words d) d room openings before x
   honest_from_front before [] y h = tt
   honest_from_front before (k ∷ x) y h = (h.0, h.1, honest_from_front (before ++ k ∷ []) x y h.2)
 
@@ -42,7 +42,7 @@ module _ (d : Declaration) (room : ℕ) (openings : List (List ℕ)) where
   pub honest_front : (x y : List Line) → IsHonest d room openings (x ++ y) → IsHonest d room openings x
   honest_front x y h = honest_from_front [] x y h
 
-  honest_from_last : (before ls : List Line) (l : Line) → IsHonestFrom d room openings before (ls ++ l ∷ []) → Owed d room openings (before ++ ls) l.worker l.attempt l.reply × (l.reply ≢ NoRoom)
+  honest_from_last : (before ls : List Line) (l : Line) → IsHonestFrom (by_words d) d room openings before (ls ++ l ∷ []) → Owed d room openings (before ++ ls) l.worker l.attempt l.reply × (l.reply ≢ NoRoom)
   honest_from_last before [] l h = (subst (λ b. Owed d room openings b l.worker l.attempt l.reply) (sym (append-nil before)) h.0, h.1)
   honest_from_last before (k ∷ ls) l h =
       let r = honest_from_last (before ++ k ∷ []) ls l h.2 in
@@ -53,7 +53,7 @@ module _ (d : Declaration) (room : ℕ) (openings : List (List ℕ)) where
   honest_last ls l h = honest_from_last [] ls l h
 
   module _ (P : List Line → Type 0) (first : P []) (step : (ls : List Line) (l : Line) → IsHonest d room openings ls → P ls → Owed d room openings ls l.worker l.attempt l.reply → l.reply ≢ NoRoom → P (ls ++ l ∷ [])) where
-    induction_from : (before ls : List Line) → IsHonest d room openings before → P before → IsHonestFrom d room openings before ls → P (before ++ ls)
+    induction_from : (before ls : List Line) → IsHonest d room openings before → P before → IsHonestFrom (by_words d) d room openings before ls → P (before ++ ls)
     induction_from before [] h p k = subst P (sym (append-nil before)) p
     induction_from before (l ∷ ls) h p k =
         subst P (append_assoc before (l ∷ []) ls) (induction_from (before ++ l ∷ []) ls (honest_more before l h k.0 k.1) (step before l h p k.0 k.1) k.2)
@@ -64,12 +64,12 @@ module _ (d : Declaration) (room : ℕ) (openings : List (List ℕ)) where
 
 -- a line is a start, a finish, or quiet
 pub data Kind (d : Declaration) (room : ℕ) (ls : List Line) : ℕ → Attempt → Reply → Type 0 where
-  begins : (w : ℕ) (a : OpId) (n : ActId) → taken ls + 2 ≤ room → a.0 < length d.operations → legal.None (legal.Forbids (admitted_history ls) a) (paths_of d) → n.0 ≡ begun_in ls → Kind d room ls w (Start a) (Started n)
+  begins : (w : ℕ) (a : OpId) (n : ActId) → taken ls + 2 ≤ room → a.0 < length d.operations → legal.NoneOf (legal.Forbids (admitted_history ls) a) (paths_of d) → n.0 ≡ begun_in ls → Kind d room ls w (Start a) (Started n)
   ends : (w : ℕ) (n : ActId) (a : Activation) → IsOwn ls w n a → Kind d room ls w (Finish n) Finished
   quiet : (w : ℕ) (attempt : Attempt) (reply : Reply) → taken ls + 1 ≤ room → IsQuiet w attempt reply → Kind d room ls w attempt reply
 
 module _ (d : Declaration) (room : ℕ) (openings : List (List ℕ)) (ls : List Line) (w : ℕ) where
-  kind_of_start : (a : OpId) (reply : Reply) → OwedToStart d room ls a reply → reply ≢ NoRoom → Kind d room ls w (Start a) reply
+  kind_of_start : (a : OpId) (reply : Reply) → OwedToStart (by_words d) d room ls a reply → reply ≢ NoRoom → Kind d room ls w (Start a) reply
   kind_of_start a _ (OwedToStart.no_room l) n = absurd (n refl)
   kind_of_start a _ (OwedToStart.unknown l k) n = quiet w (Start a) _ (omega (arith, l)) (record { starts_none = refl; finishes_none = λ m. refl; no_events = λ before. refl })
   kind_of_start a _ (OwedToStart.blocked p l k f) n = quiet w (Start a) _ (omega (arith, l)) (record { starts_none = refl; finishes_none = λ m. refl; no_events = λ before. refl })
@@ -166,6 +166,13 @@ live_finished ls w n =
     live_more ls (line_of w (Finish n) Finished)
     ∙ ap (λ xs. filter (λ a. not (is_finished_in ls a.act || (n.0 == a.act.0))) xs) (append-nil (starts ls))
     ∙ without_those (is_finished_in ls) n (starts ls)
+
+-- each live activation is found by its number
+pub each_live_activation_is_found : EachLiveActivationIsFound
+each_live_activation_is_found d room openings ls h = λ k e l. (each_found 0 (live ls) (begun_in ls) (live_numbered d room openings ls h) k e l).1
+
+pub fronts_are_honest : FrontsAreHonest
+fronts_are_honest d room openings x y h = honest_front d room openings x y h
 
 -- what is found among the live is found among the starts
 pub live_found : (ls : List Line) (n : ActId) (a : Activation) → activation_of n (live ls) ≡ Some a → activation_of n (starts ls) ≡ Some a

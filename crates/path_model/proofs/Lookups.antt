@@ -1,6 +1,8 @@
 -- Activations among others: found by number, left out, counted.
-use Rattle.std.proofs.Common.{◌≡◌, ◌==◌, ◌||◌, ◌<◌, ◌≤◌, ◌+◌, ℕ, Bool, true, false, not, cond, List, [], ◌∷◌, ◌++◌, length, filter, Some, None, refl, sym, ap, ◌∙◌, subst, arith}
+use Rattle.std.proofs.Common.{◌≡◌, ◌==◌, ◌||◌, ◌<◌, ◌≤◌, ◌+◌, ℕ, Bool, true, false, not, cond, List, [], ◌∷◌, ◌++◌, length, filter, get_or, Some, None, refl, sym, ap, ◌∙◌, subst, arith}
 use Rattle.std.proofs.lemmas.Bool.{eqb-true, eqb-false, eq-eqb, ne_eqb, cond-true, cond-false}
+use Rattle.std.proofs.lemmas.List.Elements.{All-nil, All-cons}
+use Rattle.std.specs.Prelude.{All}
 use Rattle.path_model.specs.declared.ids.OpId.{OpId}
 use Rattle.path_model.specs.declared.ids.ActId.{ActId}
 use Rattle.path_model.specs.declared.journal.Activation.{Activation}
@@ -79,6 +81,16 @@ without_those p n (x ∷ xs) = go (p x.act) (without_those p n xs)
         → cond (not (q || (n.0 == x.act.0))) (x ∷ filter (λ a. not (p a.act || (n.0 == a.act.0))) xs) (filter (λ a. not (p a.act || (n.0 == a.act.0))) xs) ≡ without n (cond (not q) (x ∷ those p xs) (those p xs))
     go true h = h
     go false h = ap (λ y. cond (not (n.0 == x.act.0)) (x ∷ y) y) h ∙ ap (λ b. cond (not b) (x ∷ without n (those p xs)) (without n (those p xs))) (eqb_sym n.0 x.act.0)
+
+-- where numbers rise, each is found by its number
+pub each_found : (low : ℕ) (xs : List Activation) (end : ℕ) → AreNumberedFrom low xs end → All (λ a. (low ≤ a.act.0) × (activation_of a.act xs ≡ Some a)) xs
+each_found low [] end h = All-nil (λ a. (low ≤ a.act.0) × (activation_of a.act [] ≡ Some a))
+each_found low (x ∷ xs) end h =
+    All-cons (λ a. (low ≤ a.act.0) × (activation_of a.act (x ∷ xs) ≡ Some a)) x xs (h.0, cond-true (x.act.0 == x.act.0) (Some x) (activation_of x.act xs) (eq-eqb x.act.0 x.act.0 refl))
+    (λ k d l. one (get_or xs k d) (each_found (x.act.0 + 1) xs end h.1 k d l))
+  where
+    one : (a : Activation) → (x.act.0 + 1 ≤ a.act.0) × (activation_of a.act xs ≡ Some a) → (low ≤ a.act.0) × (activation_of a.act (x ∷ xs) ≡ Some a)
+    one a r = (omega (arith, h.0, r.0), cond-false (x.act.0 == a.act.0) (Some x) (activation_of a.act xs) (ne_eqb x.act.0 a.act.0 (λ e. omega (arith, e, r.0))) ∙ r.1)
 
 -- numbers above n: nothing has the number n, and nothing is left out
 pub without_above : (n : ActId) (low : ℕ) (xs : List Activation) (end : ℕ) → n.0 < low → AreNumberedFrom low xs end → without n xs ≡ xs

@@ -9,7 +9,7 @@ use Rattle.path_model.specs.Trees.{Tree, op, seq, alt, burst, Names, NoRepeats, 
 use Rattle.path_model.proofs.Counts.{ins, outs, inn, out, May, May-names}
 use Rattle.path_model.proofs.Same.{May_weaken, inn_nil, out_nil}
 use Rattle.std.proofs.Common.{true, false, ◌↔◌}
-use Rattle.path_model.specs.Machine.{semicolons, braces, above, prologue_below, epilogue_below, Values, Passes, started, finished, opening, changed, values_from, values_after, CanPass, size, bounds}
+use Rattle.path_model.specs.Machine.{semicolons, braces, above, prologue_below, epilogue_below, Values, Passes, started, finished, opening, changed, values_from, values_after, CanPass, size, bound_at}
 use Rattle.path_model.proofs.Steady.{out_began, inn_ended, Steady, inn_step}
 use Rattle.path_model.specs.Behaviour.{Behaves}
 use Rattle.path_model.specs.Histories.{begun, ended, InProgress}
@@ -30,7 +30,7 @@ values_append s v (e ∷ x) y = values_append s (changed s e v) x y
 pub values_more : (s : Tree) (h : List Event) (e : Event) → values_after s (h ++ e ∷ []) ≡ changed s e (values_after s h)
 values_more s h e = values_append s (opening s) h (e ∷ [])
 
-pub bounds_out : (s : Tree) (m c : ℕ) → Out m (braces s) c → bounds s m c ≡ 0
+pub bounds_out : (s : Tree) (m c : ℕ) → Out m (braces s) c → bound_at s m c ≡ 0
 bounds_out (op b) m c o = refl
 bounds_out (seq s t) m c o =
     let x = bounds_out s m c (elim o [ inl l ↦ inl l | inr l ↦ inr (omega (arith, l)) ]) in
@@ -41,14 +41,14 @@ bounds_out (alt s t) m c o =
     let y = bounds_out t (m + braces s) c (elim o [ inl l ↦ inl (omega (arith, l)) | inr l ↦ inr (omega (arith, l)) ]) in
     omega (arith, x, y)
 bounds_out (burst bd s) m c o =
-    cond-false (c == m) (size bd) (bounds s (m + 1) c) (ne_eqb c m (λ z. elim o [ inl l ↦ omega (arith, l, z) | inr l ↦ omega (arith, l, z) ]))
+    cond-false (c == m) (size bd) (bound_at s (m + 1) c) (ne_eqb c m (λ z. elim o [ inl l ↦ omega (arith, l, z) | inr l ↦ omega (arith, l, z) ]))
     ∙ bounds_out s (m + 1) c (elim o [ inl l ↦ inl (omega (arith, l)) | inr l ↦ inr (omega (arith, l)) ])
 
 spare_opening : (b : Bound) → Spare b (size b) 0
 spare_opening any = tt
 spare_opening (most n) = omega arith
 
-holds_opening : (s : Tree) (n m : ℕ) → 0 < n → (v : Values) → ((q : ℕ) → 0 < q → v.semaphore q ≡ 0) → ((c : ℕ) → v.counter c ≡ 0) → ((c : ℕ) → In m (braces s) c → v.bound c ≡ bounds s m c) → Holds s n m [] v
+holds_opening : (s : Tree) (n m : ℕ) → 0 < n → (v : Values) → ((q : ℕ) → 0 < q → v.semaphore q ≡ 0) → ((c : ℕ) → v.counter c ≡ 0) → ((c : ℕ) → In m (braces s) c → v.bound c ≡ bound_at s m c) → Holds s n m [] v
 holds_opening (op b) n m l v f g k = tt
 holds_opening (seq s t) n m l v f g k = (
   holds_opening s n m l v f g (λ c i. let z = bounds_out t (m + braces s) c (inl i.1) in let y = k c (omega (arith, i), omega (arith, i)) in omega (arith, y, z)),
@@ -60,9 +60,9 @@ holds_opening (alt s t) n m l v f g k = (
   holds_opening t (n + semicolons s) (m + braces s) (omega (arith, l)) v f g (λ c i. let z = bounds_out s m c (inr i.0) in let y = k c (omega (arith, i), omega (arith, i)) in omega (arith, y, z)),
 )
 holds_opening (burst bd s) n m l v f g k = (
-  holds_opening s n (m + 1) l v f g (λ c i. k c (omega (arith, i), omega (arith, i)) ∙ cond-false (c == m) (size bd) (bounds s (m + 1) c) (ne_eqb c m (λ z. omega (arith, i, z)))),
+  holds_opening s n (m + 1) l v f g (λ c i. k c (omega (arith, i), omega (arith, i)) ∙ cond-false (c == m) (size bd) (bound_at s (m + 1) c) (ne_eqb c m (λ z. omega (arith, i, z)))),
   g m,
-  spare_same bd (size bd) (v.bound m) 0 0 (sym (k m (omega arith, omega arith) ∙ cond-true (m == m) (size bd) (bounds s (m + 1) m) (eq-eqb m m refl))) refl (spare_opening bd),
+  spare_same bd (size bd) (v.bound m) 0 0 (sym (k m (omega arith, omega arith) ∙ cond-true (m == m) (size bd) (bound_at s (m + 1) m) (eq-eqb m m refl))) refl (spare_opening bd),
 )
 
 -- the values after a history are those of its counts

@@ -233,7 +233,7 @@ module _ (bd : Bound) (b : Tree) (i j : ℕ) (s : Tree) (at : Inside (burst bd b
     before_left = sane_out b flat ob.before steady_before.0
 
     -- before the open burst the braces were closed
-    ob_balanced : Balanced (burst bd b) ob.before
+    pub ob_balanced : Balanced (burst bd b) ob.before
     ob_balanced = elim (run_state r) [
       | inl c ↦ absurd (
           let q = steady_b r in
@@ -294,8 +294,8 @@ module _ (bd : Bound) (b : Tree) (i j : ℕ) (s : Tree) (at : Inside (burst bd b
           spare : Spare bd (v.bound j) (v.counter j)
           spare = spare_same bd (v.bound j) (v.bound j) (count b 0 h) (v.counter j) refl (sym H.1) H.2
 
-          may_begin : (a : OpId) (q : ℕ) → Names b a → prologue s a ≡ through bd j q → CanPass s h a ↔ Room bd (v.counter j)
-          may_begin a q k p = (λ c. (t.0 (subst (λ x. Passes x v) p c)).1, λ r. subst (λ x. Passes x v) (sym p) (t.1 (inl (omega (arith, H.1, ob_same.1, ob_open)), r)))
+          may_begin : (a : OpId) (q : ℕ) → prologue s a ≡ through bd j q → CanPass s h a ↔ Room bd (v.counter j)
+          may_begin a q p = (λ c. (t.0 (subst (λ x. Passes x v) p c)).1, λ r. subst (λ x. Passes x v) (sym p) (t.1 (inl (omega (arith, H.1, ob_same.1, ob_open)), r)))
             where
               t : Passes (through bd j q) v ↔ (((0 < v.counter j) ⊎ (0 < v.semaphore q)) × Room bd (v.counter j))
               t = through_passes bd j q v (v.counter j) spare

@@ -14,7 +14,7 @@ use Rattle.path_model.specs.Legal as legal
 use Rattle.path_model.specs.Declarations.{Declaration, paths_of}
 use Rattle.path_model.specs.Devices.{Outcome, serves, refuses}
 use Rattle.path_model.specs.Journals.{begun_in, live, activation_of, admitted_history}
-use Rattle.path_model.specs.Owed.{taken, IsOwn, outcome_for, OwedToStart, OwedToUse, OwedToFinish, AreSame, OneReplyIsOwed}
+use Rattle.path_model.specs.Owed.{taken, by_words, IsOwn, outcome_for, OwedToStart, OwedToUse, OwedToFinish, AreSame, OneReplyIsOwed}
 use Rattle.path_model.specs.Trees.{WellFormed}
 use Rattle.path_model.specs.AllPaths.{after, Blocks}
 use Rattle.path_model.specs.Honest.{IsHonest, EachAttemptIsOwedAReply}
@@ -31,7 +31,7 @@ module _ {A : Type 0} (P : A → Type 0) where
   first_one (x ∷ xs) p q (inr f) (inl g) = absurd (f.0 g.0)
   first_one (x ∷ xs) p q (inr f) (inr g) = first_one xs p q f.1 g.1
 
-  pub first_or_none : (xs : List (ℕ × A)) (p : ℕ) → legal.First P xs p → legal.None P xs → ⊥
+  pub first_or_none : (xs : List (ℕ × A)) (p : ℕ) → legal.First P xs p → legal.NoneOf P xs → ⊥
   first_or_none [] p f n = f
   first_or_none (x ∷ xs) p (inl f) n = n.0 f.0
   first_or_none (x ∷ xs) p (inr f) n = first_or_none xs p f.1 n.1
@@ -46,7 +46,7 @@ path_same : (p q : PathId) → p.0 ≡ q.0 → p ≡ q
 path_same p q e = ap (λ k. let a : PathId = record { 0 = k } in a) e
 
 module _ (d : Declaration) (room : ℕ) (ls : List Line) (a : OpId) where
-  one_to_start : (r s : Reply) → OwedToStart d room ls a r → OwedToStart d room ls a s → r ≡ s
+  one_to_start : (r s : Reply) → OwedToStart (by_words d) d room ls a r → OwedToStart (by_words d) d room ls a s → r ≡ s
   one_to_start _ _ (OwedToStart.no_room l) (OwedToStart.no_room m) = refl
   one_to_start _ _ (OwedToStart.no_room l) (OwedToStart.unknown m k) = absurd (omega (arith, l, m))
   one_to_start _ _ (OwedToStart.no_room l) (OwedToStart.blocked p m k f) = absurd (omega (arith, l, m))
@@ -171,10 +171,10 @@ one_reply_is_owed d room openings ls w (Finish n) r s o p =
     inl (one_by_finish d room openings ls w n (leb (taken ls + 1) room) (activation_of n (live ls)) r s (finish_by d room openings ls w n r o) (finish_by d room openings ls w n s p))
 
 module _ (d : Declaration) (room : ℕ) (openings : List (List ℕ)) (wf : legal.Every WellFormed (paths_of d)) (ls : List Line) (h : IsHonest d room openings ls) (w : ℕ) where
-  some_to_start : (a : OpId) → (r : Reply) × OwedToStart d room ls a r
+  some_to_start : (a : OpId) → (r : Reply) × OwedToStart (by_words d) d room ls a r
   some_to_start a = go (cases_lt room (taken ls + 2)) (cases_lt a.0 (length d.operations))
     where
-      judge : taken ls + 2 ≤ room → a.0 < length d.operations → legal.None (Blocks a) (after (paths_of d) (admitted_history ls)) ⊎ ((p : ℕ) × legal.First (Blocks a) (after (paths_of d) (admitted_history ls)) p) → (r : Reply) × OwedToStart d room ls a r
+      judge : taken ls + 2 ≤ room → a.0 < length d.operations → legal.NoneOf (Blocks a) (after (paths_of d) (admitted_history ls)) ⊎ ((p : ℕ) × legal.First (Blocks a) (after (paths_of d) (admitted_history ls)) p) → (r : Reply) × OwedToStart (by_words d) d room ls a r
       judge l k (inl n) =
           let j = all_paths_judge (paths_of d) wf (admitted_history ls) (legal_kept d room openings wf ls h) in
           (Started (record { 0 = begun_in ls }), OwedToStart.started (record { 0 = begun_in ls }) l k ((j.none a).0 n) refl)
@@ -182,7 +182,7 @@ module _ (d : Declaration) (room : ℕ) (openings : List (List ℕ)) (wf : legal
           let j = all_paths_judge (paths_of d) wf (admitted_history ls) (legal_kept d room openings wf ls h) in
           (Blocked (record { 0 = f.0 }), OwedToStart.blocked (record { 0 = f.0 }) l k ((j.first a f.0).0 f.1))
 
-      go : (room < taken ls + 2) ⊎ (taken ls + 2 ≤ room) → (a.0 < length d.operations) ⊎ (length d.operations ≤ a.0) → (r : Reply) × OwedToStart d room ls a r
+      go : (room < taken ls + 2) ⊎ (taken ls + 2 ≤ room) → (a.0 < length d.operations) ⊎ (length d.operations ≤ a.0) → (r : Reply) × OwedToStart (by_words d) d room ls a r
       go (inl l) k = (NoRoom, OwedToStart.no_room l)
       go (inr l) (inr k) = (UnknownOperation, OwedToStart.unknown l k)
       go (inr l) (inl k) = judge l k ((all_paths_judge (paths_of d) wf (admitted_history ls) (legal_kept d room openings wf ls h)).decided a)

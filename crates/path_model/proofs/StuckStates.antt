@@ -19,7 +19,7 @@ use Rattle.path_model.specs.Legal as legal
 use Rattle.path_model.specs.AllPaths.{after, Blocks}
 use Rattle.path_model.specs.Declarations.{Declaration, trees, paths_of}
 use Rattle.path_model.specs.Journals.{live, activation_of, events_of_line, history_from, admitted_history}
-use Rattle.path_model.specs.Owed.{IsOwn, OwedToStart, OwedToUse, OwedToFinish, Owed}
+use Rattle.path_model.specs.Owed.{by_words, IsOwn, OwedToStart, OwedToUse, OwedToFinish, Owed}
 use Rattle.path_model.specs.Honest.{IsHonest}
 use Rattle.path_model.specs.Stuck.{IsFrozen, IsAdmission, FrozenStaysFrozen, StartablesMayStart, LiveActivationsMayFinish, HasFinishLine, FinishesComeBetween}
 use Rattle.path_model.proofs.AllPaths.{all_paths_judge, finishes_unblock}
@@ -29,16 +29,16 @@ use Rattle.path_model.proofs.Progress.{legal_kept}
 
 module _ (d : Declaration) (room : ℕ) (openings : List (List ℕ)) (wf : legal.Every WellFormed (paths_of d)) (ls : List Line) (h : IsHonest d room openings ls) where
   -- where no path forbids a start, it keeps the history legal; and the other way round
-  pub free_legal : (a : OpId) → legal.None (legal.Forbids (admitted_history ls) a) (paths_of d) → legal.Legal (paths_of d) (admitted_history ls ++ Began a ∷ [])
+  pub free_legal : (a : OpId) → legal.NoneOf (legal.Forbids (admitted_history ls) a) (paths_of d) → legal.Legal (paths_of d) (admitted_history ls ++ Began a ∷ [])
   free_legal a f = let j = all_paths_judge (paths_of d) wf (admitted_history ls) (legal_kept d room openings wf ls h) in (j.starts a).0 ((j.none a).1 f)
 
-  pub legal_free : (a : OpId) → legal.Legal (paths_of d) (admitted_history ls ++ Began a ∷ []) → legal.None (legal.Forbids (admitted_history ls) a) (paths_of d)
+  pub legal_free : (a : OpId) → legal.Legal (paths_of d) (admitted_history ls ++ Began a ∷ []) → legal.NoneOf (legal.Forbids (admitted_history ls) a) (paths_of d)
   legal_free a l = let j = all_paths_judge (paths_of d) wf (admitted_history ls) (legal_kept d room openings wf ls h) in (j.none a).0 ((j.starts a).1 l)
 
   nothing_own : live ls ≡ [] → (w : ℕ) (n : ActId) (a : Activation) → IsOwn ls w n a → ⊥
   nothing_own e w n a own = let f : activation_of n [] ≡ Some a = subst (λ x. activation_of n x ≡ Some a) e own.found in cc
 
-  start_refused : IsFrozen d ls → (a : OpId) (reply : Reply) → OwedToStart d room ls a reply → IsAdmission reply → ⊥
+  start_refused : IsFrozen d ls → (a : OpId) (reply : Reply) → OwedToStart (by_words d) d room ls a reply → IsAdmission reply → ⊥
   start_refused f a _ (OwedToStart.no_room l) k = k
   start_refused f a _ (OwedToStart.unknown l m) k = k
   start_refused f a _ (OwedToStart.blocked p l m x) k = k
@@ -113,10 +113,10 @@ finish_line before (l ∷ ls) f = elim (finish_in (events_of_line before l.attem
   | inr k ↦ inr (finish_line (before ++ l ∷ []) ls k)
 ]
 
-blocked_first : (d : Declaration) (room : ℕ) (ls : List Line) (a : OpId) (p : PathId) → OwedToStart d room ls a (Blocked p) → legal.First (legal.Forbids (admitted_history ls) a) (paths_of d) p.0
+blocked_first : (d : Declaration) (room : ℕ) (ls : List Line) (a : OpId) (p : PathId) → OwedToStart (by_words d) d room ls a (Blocked p) → legal.First (legal.Forbids (admitted_history ls) a) (paths_of d) p.0
 blocked_first d room ls a p (OwedToStart.blocked q l k f) = f
 
-started_free : (d : Declaration) (room : ℕ) (ls : List Line) (a : OpId) (n : ActId) → OwedToStart d room ls a (Started n) → legal.None (legal.Forbids (admitted_history ls) a) (paths_of d)
+started_free : (d : Declaration) (room : ℕ) (ls : List Line) (a : OpId) (n : ActId) → OwedToStart (by_words d) d room ls a (Started n) → legal.NoneOf (legal.Forbids (admitted_history ls) a) (paths_of d)
 started_free d room ls a n (OwedToStart.started m l k f e) = f
 
 pub finishes_come_between : FinishesComeBetween

@@ -8,12 +8,13 @@ use Rattle.path_model.specs.Trees.{Bound, any, most, Tree, op, seq, alt, burst, 
 use Rattle.path_model.specs.Histories.{op_of}
 use Rattle.path_model.specs.Machine.{semicolons, braces, Above, LeftOf, RightOf, Within, above, Term, Plain, Braced, Counted, through, prologue_below, epilogue_below, prologue, epilogue, Values, put, take_one, add_one, Passes, started, finished, opening, changed}
 use Rattle.path_model.specs.AmongOthers.{values_among}
-use Rattle.path_model.specs.Legal.{Every, First, None}
+use Rattle.path_model.specs.Projection.{LegalOn}
+use Rattle.path_model.specs.Legal.{Every, First, NoneOf, Legal, Forbids}
 use Rattle.path_model.specs.AllPaths.{Judged, Running, after, Blocks}
 use Rattle.path_model.specs.Trimmed.{is_burst, nothing, does, limits, same_bound, lean, lean_prologue, LeanPasses, lean_started, lean_finished, lean_changed, lean_among, same_tree, stands_in, kept, lean_moved, lean_run, lean_opened, lean_after, LeanBlocks, Trims, EachPathTrims, SameAnswers, TrimmingKeepsAnswers, TrimmedAdmitsTheWords}
 use Rattle.path_model.proofs.Counts.{op_same}
 use Rattle.path_model.proofs.Starts.{put_same, put_other}
-use Rattle.path_model.proofs.AllPaths.{every_map, first_same, none_same, on_tree, placed, after_placed, first_to, first_from, every_to, every_from, now, all_paths_judge}
+use Rattle.path_model.proofs.AllPaths.{every_map, first_same, none_same, on_tree, placed, after_placed, first_to, first_from, every_to, every_from, every_both, now, blocks_forbids, all_paths_judge}
 
 true_false : true ≡ false → ⊥
 true_false z = cc
@@ -305,13 +306,19 @@ module _ (P : Tree → Type 0) where
           from (inl k) = inl k
           from (inr k) = inr (k.0, (g (failed_more seen x.1 f k.0)).1 k.1)
 
-  kept_none : (xs : List (ℕ × Tree)) (seen : List Tree) → Failed seen → None P (kept seen xs) ↔ None P xs
+  kept_none : (xs : List (ℕ × Tree)) (seen : List Tree) → Failed seen → NoneOf P (kept seen xs) ↔ NoneOf P xs
   kept_none [] seen f = (λ k. k, λ k. k)
   kept_none (x ∷ xs) seen f = go (stands_in x.1 seen) refl (kept_none xs seen f) (λ g. kept_none xs (x.1 ∷ seen) g)
     where
-      go : (b : Bool) → stands_in x.1 seen ≡ b → None P (kept seen xs) ↔ None P xs → (Failed (x.1 ∷ seen) → None P (kept (x.1 ∷ seen) xs) ↔ None P xs) → None P (if b then kept seen xs else (x ∷ kept (x.1 ∷ seen) xs)) ↔ None P (x ∷ xs)
+      go : (b : Bool) → stands_in x.1 seen ≡ b → NoneOf P (kept seen xs) ↔ NoneOf P xs → (Failed (x.1 ∷ seen) → NoneOf P (kept (x.1 ∷ seen) xs) ↔ NoneOf P xs) → NoneOf P (if b then kept seen xs else (x ∷ kept (x.1 ∷ seen) xs)) ↔ NoneOf P (x ∷ xs)
       go true e r g = (λ k. (f x.1 e, r.0 k), λ k. r.1 k.1)
       go false e r g = (λ k. (k.0, (g (failed_more seen x.1 f k.0)).0 k.1), λ k. (k.0, (g (failed_more seen x.1 f k.0)).1 k.1))
+
+  -- what holds of all paths holds of those that are kept
+  kept_every : (xs : List (ℕ × Tree)) (seen : List Tree) → Every P xs → Every P (kept seen xs)
+  kept_every [] seen e = e
+  kept_every (x ∷ xs) seen e =
+      elim (stands_in x.1 seen) as (λ b. Every P (if b then kept seen xs else (x ∷ kept (x.1 ∷ seen) xs))) [ true ↦ kept_every xs seen e.1 | false ↦ (e.0, kept_every xs (x.1 ∷ seen) e.1) ]
 
 -- the values of the kept paths
 lean_opened_placed : (xs : List (ℕ × Tree)) → lean_opened xs ≡ placed (λ s. opening s) xs
@@ -350,19 +357,33 @@ trimming_keeps_answers xs wf h a = record { first = firsts; none = nones }
       λ f. subst (λ m. First (LeanBlocks a) m p) (sym (lean_after_placed xs h)) (first_from (LeanBlocks a) (lean_now h) (kept [] xs) p ((kept_first (λ s. LeanBlocks a (on_tree (lean_now h) s)) xs [] (λ t e k. false_true e) p).1 (first_same _ _ xs back p (first_to (Blocks a) (now h) xs p (subst (λ m. First (Blocks a) m p) (after_placed xs h) f))))),
     )
 
-    nones : None (LeanBlocks a) (lean_after xs h) ↔ None (Blocks a) (after xs h)
+    nones : NoneOf (LeanBlocks a) (lean_after xs h) ↔ NoneOf (Blocks a) (after xs h)
     nones = (
-      λ f. subst (λ m. None (Blocks a) m) (sym (after_placed xs h)) (every_from (λ r. Blocks a r → ⊥) (now h) xs (none_same _ _ xs same ((kept_none (λ s. LeanBlocks a (on_tree (lean_now h) s)) xs [] (λ t e k. false_true e)).0 (every_to (λ r. LeanBlocks a r → ⊥) (lean_now h) (kept [] xs) (subst (λ m. None (LeanBlocks a) m) (lean_after_placed xs h) f))))),
-      λ f. subst (λ m. None (LeanBlocks a) m) (sym (lean_after_placed xs h)) (every_from (λ r. LeanBlocks a r → ⊥) (lean_now h) (kept [] xs) ((kept_none (λ s. LeanBlocks a (on_tree (lean_now h) s)) xs [] (λ t e k. false_true e)).1 (none_same _ _ xs back (every_to (λ r. Blocks a r → ⊥) (now h) xs (subst (λ m. None (Blocks a) m) (after_placed xs h) f))))),
+      λ f. subst (λ m. NoneOf (Blocks a) m) (sym (after_placed xs h)) (every_from (λ r. Blocks a r → ⊥) (now h) xs (none_same _ _ xs same ((kept_none (λ s. LeanBlocks a (on_tree (lean_now h) s)) xs [] (λ t e k. false_true e)).0 (every_to (λ r. LeanBlocks a r → ⊥) (lean_now h) (kept [] xs) (subst (λ m. NoneOf (LeanBlocks a) m) (lean_after_placed xs h) f))))),
+      λ f. subst (λ m. NoneOf (LeanBlocks a) m) (sym (lean_after_placed xs h)) (every_from (λ r. LeanBlocks a r → ⊥) (lean_now h) (kept [] xs) ((kept_none (λ s. LeanBlocks a (on_tree (lean_now h) s)) xs [] (λ t e k. false_true e)).1 (none_same _ _ xs back (every_to (λ r. Blocks a r → ⊥) (now h) xs (subst (λ m. NoneOf (Blocks a) m) (after_placed xs h) f))))),
     )
 
 lean_run_append : (m : List (ℕ × Running)) (h u : List Event) → lean_run m (h ++ u) ≡ lean_run (lean_run m h) u
 lean_run_append m [] u = refl
 lean_run_append m (e ∷ h) u = lean_run_append (lean_moved e m) h u
 
+module _ (xs : List (ℕ × Tree)) (wf : Every WellFormed xs) (h : List Event) (l : Legal xs h) (a : OpId) where
+  lean_forbids : (s : Tree) → WellFormed s → LegalOn s h → LeanBlocks a (on_tree (lean_now h) s) ↔ Forbids h a s
+  lean_forbids s w k =
+      let i = blocks_forbids s w h k a in
+      let t = (trims s w h).same_passes a in
+      (λ b. i.0 (b.0, λ p. b.1 (t.1 p)), λ f. let b = i.1 f in (b.0, λ p. b.1 (t.0 p)))
+
+  each_lean_forbids : Every (λ r. LeanBlocks a r ↔ Forbids h a r.tree) (lean_after xs h)
+  each_lean_forbids =
+      subst (λ m. Every (λ r. LeanBlocks a r ↔ Forbids h a r.tree) m) (sym (lean_after_placed xs h))
+      (every_from (λ r. LeanBlocks a r ↔ Forbids h a r.tree) (lean_now h) (kept [] xs)
+      (kept_every (λ s. LeanBlocks a (on_tree (lean_now h) s) ↔ Forbids h a s) xs [] (every_both lean_forbids xs wf l)))
+
 pub trimmed_admits_the_words : TrimmedAdmitsTheWords
 trimmed_admits_the_words xs wf h l a = record {
   first = λ p. (λ f. (j.first a p).0 ((t.first p).0 f), λ f. (t.first p).1 ((j.first a p).1 f));
+  each = each_lean_forbids xs wf h l a;
   starts = (λ n. (j.starts a).0 (t.none.0 n), λ k. t.none.1 ((j.starts a).1 k));
   decided = elim (j.decided a) [ inl n ↦ inl (t.none.1 n) | inr f ↦ inr (f.0, (t.first f.0).1 f.1) ];
   moves = λ e. lean_run_append (lean_opened (kept [] xs)) h (e ∷ []);

@@ -5,8 +5,8 @@ use Rattle.path_model.specs.declared.history.Event.{Event}
 use Rattle.path_model.specs.declared.history.Event.TheVariants.{Began, Ended}
 use Rattle.path_model.specs.Trees.{Tree, Names, WellFormed, has}
 use Rattle.path_model.specs.Histories.{op_of, InProgress, starts_of, HasFinish}
-use Rattle.path_model.specs.Projection.{projection, LegalOn}
-use Rattle.path_model.specs.Legal.{numbered, Every, First, None, Legal, Forbids}
+use Rattle.path_model.specs.Projection.{projection}
+use Rattle.path_model.specs.Legal.{numbered, Every, First, NoneOf, Legal, Forbids}
 use Rattle.path_model.specs.Machine.{prologue, Values, Passes, opening, changed}
 
 -- a path with the values of its semaphores and counters
@@ -40,15 +40,19 @@ Blocks a r = Names r.tree a × (Passes (prologue r.tree a) r.values → ⊥)
 pub record Judged (xs : List (ℕ × Tree)) (h : List Event) : Type 0 where
   -- the first path that blocks by its values is the first that forbids by its words
   pub first : (a : OpId) (p : ℕ) → First (Blocks a) (after xs h) p ↔ First (Forbids h a) xs p
-  pub none : (a : OpId) → None (Blocks a) (after xs h) ↔ None (Forbids h a) xs
+  pub none : (a : OpId) → NoneOf (Blocks a) (after xs h) ↔ NoneOf (Forbids h a) xs
+  -- and so is it of each path: it blocks exactly where it forbids
+  pub each : (a : OpId) → Every (λ r. Blocks a r ↔ Forbids h a r.tree) (after xs h)
   -- one of the two is so
-  pub decided : (a : OpId) → None (Blocks a) (after xs h) ⊎ ((p : ℕ) × First (Blocks a) (after xs h) p)
+  pub decided : (a : OpId) → NoneOf (Blocks a) (after xs h) ⊎ ((p : ℕ) × First (Blocks a) (after xs h) p)
   -- an admitted start keeps the history legal, and no other does
-  pub starts : (a : OpId) → None (Blocks a) (after xs h) ↔ Legal xs (h ++ Began a ∷ [])
+  pub starts : (a : OpId) → NoneOf (Blocks a) (after xs h) ↔ Legal xs (h ++ Began a ∷ [])
   -- so does a finish of an operation in progress
   pub finishes : (a : OpId) → InProgress a h → Legal xs (h ++ Ended a ∷ [])
   -- an operation that no path names is always admitted, and both its events keep the history legal
-  pub unnamed : (a : OpId) → None (λ s. Names s a) xs → None (Blocks a) (after xs h) × Legal xs (h ++ Began a ∷ []) × Legal xs (h ++ Ended a ∷ [])
+  pub unnamed :
+      (a : OpId) → NoneOf (λ s. Names s a) xs
+      → NoneOf (Blocks a) (after xs h) × Legal xs (h ++ Began a ∷ []) × Legal xs (h ++ Ended a ∷ [])
 
 abbrev pub AllPathsJudge : Type 0
 AllPathsJudge = (xs : List (ℕ × Tree)) → Every WellFormed xs → (h : List Event) → Legal xs h → Judged xs h
@@ -59,11 +63,16 @@ ProjectionsKeepProgress = (s : Tree) (h : List Event) (a : OpId) → Names s a �
 
 -- what is blocked stays so through admitted starts; the path that is named may become an earlier one
 abbrev pub StartsOnlyBlock : Type 0
-StartsOnlyBlock = (ss : List Tree) → Every WellFormed (numbered 0 ss) → (h : List Event) (u : List OpId) → Legal (numbered 0 ss) (h ++ starts_of u) → (b : OpId) (p : ℕ) → First (Blocks b) (after (numbered 0 ss) h) p → (q : ℕ) × First (Blocks b) (after (numbered 0 ss) (h ++ starts_of u)) q × (q ≤ p)
+StartsOnlyBlock =
+    (ss : List Tree) → Every WellFormed (numbered 0 ss)
+    → (h : List Event) (u : List OpId) → Legal (numbered 0 ss) (h ++ starts_of u)
+    → (b : OpId) (p : ℕ) → First (Blocks b) (after (numbered 0 ss) h) p
+    → (q : ℕ) × First (Blocks b) (after (numbered 0 ss) (h ++ starts_of u)) q × (q ≤ p)
 
 -- each path that blocked still does
 abbrev pub EachBlockStays : Type 0
-EachBlockStays = (s : Tree) → WellFormed s → (h : List Event) (a b : OpId) → LegalOn s h → LegalOn s (h ++ Began a ∷ []) → Forbids h b s → Forbids (h ++ Began a ∷ []) b s
+EachBlockStays =
+    (s : Tree) → WellFormed s → (h : List Event) (a b : OpId) → Forbids h b s → Forbids (h ++ Began a ∷ []) b s
 
 -- the machine goes on event by event
 abbrev pub EachEventMoves : Type 0
@@ -71,8 +80,13 @@ EachEventMoves = (xs : List (ℕ × Tree)) (h : List Event) (e : Event) → afte
 
 -- there is one first path, or none
 abbrev pub FirstIsOne : Type 0
-FirstIsOne = (a : OpId) (m : List (ℕ × Running)) (p q : ℕ) → First (Blocks a) m p → (First (Blocks a) m q → p ≡ q) × (None (Blocks a) m → ⊥)
+FirstIsOne =
+    (a : OpId) (m : List (ℕ × Running)) (p q : ℕ) → First (Blocks a) m p
+    → (First (Blocks a) m q → p ≡ q) × (NoneOf (Blocks a) m → ⊥)
 
 -- between a blocked start of an operation and the next admitted one something finishes
 abbrev pub FinishesUnblock : Type 0
-FinishesUnblock = (ss : List Tree) → Every WellFormed (numbered 0 ss) → (h w : List Event) (b : OpId) (p : ℕ) → First (Blocks b) (after (numbered 0 ss) h) p → Legal (numbered 0 ss) ((h ++ w) ++ Began b ∷ []) → HasFinish w
+FinishesUnblock =
+    (ss : List Tree) → Every WellFormed (numbered 0 ss)
+    → (h w : List Event) (b : OpId) (p : ℕ) → First (Blocks b) (after (numbered 0 ss) h) p
+    → Legal (numbered 0 ss) ((h ++ w) ++ Began b ∷ []) → HasFinish w

@@ -10,7 +10,7 @@ use Rattle.path_model.specs.Behaviour.{IsFront, IsPartLabelling, Behaves}
 use Rattle.path_model.specs.Projection.{projection}
 use Rattle.path_model.specs.Machine.{semicolons, braces, Plain, through, prologue, values_after, CanPass}
 
--- the tree t is a part of the last one; its first semicolon and its first braces have the numbers i and j, where those of the whole have n and m
+-- the tree t is a part of the last one; its first semicolon and its first braces have the numbers i and j, those of the whole n and m
 pub data Inside (t : Tree) (i j : ℕ) : Tree → ℕ → ℕ → Type 0 where
   itself : Inside t i j t i j
   seq_first : (s u : Tree) (n m : ℕ) → Inside t i j s n m → Inside t i j (seq s u) n m
@@ -33,7 +33,9 @@ pub record OpenBurst (bd : Bound) (b : Tree) (h w : List Event) : Type 0 where
   pub some : w ≢ []
   pub front : IsFront (IsWord (burst bd b)) w
   pub proper : IsWord (burst bd b) w → ⊥
-  pub longest : (u x : List Event) → h ≡ u ++ x → x ≢ [] → IsFront (IsWord (burst bd b)) x → (IsWord (burst bd b) x → ⊥) → length x ≤ length w
+  pub longest :
+      (u x : List Event) → h ≡ u ++ x → x ≢ [] → IsFront (IsWord (burst bd b)) x → (IsWord (burst bd b) x → ⊥)
+      → length x ≤ length w
 
 abbrev pub InUse : List (ℕ × Event) → ℕ → Type 0
 InUse ls k = carrying k ls ≢ []
@@ -55,16 +57,31 @@ Spare (most n) u c = u + c ≡ n
 pub record Counts (s b : Tree) (bd : Bound) (i j : ℕ) (h : List Event) (ls : List (ℕ × Event)) : Type 0 where
   pub counter : Many (Unfinished b ls) ((values_after s h).counter j)
   pub spare : Spare bd ((values_after s h).bound j) ((values_after s h).counter j)
-  pub semaphores : (l r : Tree) (n m : ℕ) → Inside (seq l r) n m b i (j + 1) → Many (StandsAt l r ls) ((values_after s h).semaphore (n + semicolons l))
+  pub semaphores :
+      (l r : Tree) (n m : ℕ) → Inside (seq l r) n m b i (j + 1)
+      → Many (StandsAt l r ls) ((values_after s h).semaphore (n + semicolons l))
   -- a start whose prologue is P can be given to a label in use exactly where it can pass
-  pub goes_on : (a : OpId) (q : ℕ) → Names b a → prologue s a ≡ Plain q → CanPass s h a ↔ ((k : ℕ) × InUse ls k × IsPartLabelling b (ls ++ (k, Began a) ∷ []))
+  pub goes_on :
+      (a : OpId) (q : ℕ) → Names b a → prologue s a ≡ Plain q
+      → CanPass s h a ↔ ((k : ℕ) × InUse ls k × IsPartLabelling b (ls ++ (k, Began a) ∷ []))
   -- a start whose prologue is PP can begin any label that isn't in use, where the bound has room; it can pass exactly then
-  pub room : (a : OpId) (q : ℕ) → Names b a → prologue s a ≡ through bd j q → CanPass s h a ↔ Room bd ((values_after s h).counter j)
-  pub begins : (a : OpId) (q : ℕ) → Names b a → prologue s a ≡ through bd j q → (k : ℕ) → (InUse ls k → ⊥) → IsPartLabelling b (ls ++ (k, Began a) ∷ [])
+  pub room : (a : OpId) (q : ℕ) → prologue s a ≡ through bd j q → CanPass s h a ↔ Room bd ((values_after s h).counter j)
+  pub begins :
+      (a : OpId) (q : ℕ) → Names b a → prologue s a ≡ through bd j q
+      → (k : ℕ) → (InUse ls k → ⊥) → IsPartLabelling b (ls ++ (k, Began a) ∷ [])
 
 abbrev pub EachLabellingCounts : Type 0
-EachLabellingCounts = (s : Tree) → WellFormed s → (bd : Bound) (b : Tree) (i j : ℕ) → Inside (burst bd b) i j s 1 0 → (h w : List Event) → Behaves s h → OpenBurst bd b h w → (ls : List (ℕ × Event)) → events_of ls ≡ w → IsPartLabelling b ls → Counts s b bd i j h ls
+EachLabellingCounts =
+    (s : Tree) → WellFormed s
+    → (bd : Bound) (b : Tree) (i j : ℕ) → Inside (burst bd b) i j s 1 0
+    → (h w : List Event) → Behaves s h → OpenBurst bd b h w
+    → (ls : List (ℕ × Event)) → events_of ls ≡ w → IsPartLabelling b ls
+    → Counts s b bd i j h ls
 
 -- the counter is above 0 exactly where the braces are open
 abbrev pub CountersTellOpenBraces : Type 0
-CountersTellOpenBraces = (s : Tree) → WellFormed s → (bd : Bound) (b : Tree) (i j : ℕ) → Inside (burst bd b) i j s 1 0 → (h : List Event) → Behaves s h → (0 < (values_after s h).counter j) ↔ ((w : List Event) × OpenBurst bd b h w)
+CountersTellOpenBraces =
+    (s : Tree) → WellFormed s
+    → (bd : Bound) (b : Tree) (i j : ℕ) → Inside (burst bd b) i j s 1 0
+    → (h : List Event) → Behaves s h
+    → (0 < (values_after s h).counter j) ↔ ((w : List Event) × OpenBurst bd b h w)

@@ -43,5 +43,5 @@ outcome_of (Queue n) (Add x) held = refuses NotOffered
 
 -- the contents after the verb
 abbrev pub contents_left : Outcome → List ℕ → List ℕ
-contents_left (serves x after) held = after
+contents_left (serves x rest) held = rest
 contents_left (refuses r) held = held

@@ -20,8 +20,8 @@ abbrev pub First : {A : Type 0} → (A → Type 0) → List (ℕ × A) → ℕ �
 First P [] p = ⊥
 First P (x ∷ xs) p = (P x.1 × (p ≡ x.0)) ⊎ ((P x.1 → ⊥) × First P xs p)
 
-abbrev pub None : {A : Type 0} → (A → Type 0) → List (ℕ × A) → Type 0
-None P xs = Every (λ x. P x → ⊥) xs
+abbrev pub NoneOf : {A : Type 0} → (A → Type 0) → List (ℕ × A) → Type 0
+NoneOf P xs = Every (λ x. P x → ⊥) xs
 
 -- the history is legal on every path
 abbrev pub Legal : List (ℕ × Tree) → List Event → Type 0

@@ -9,10 +9,11 @@ pub mod Machine
 pub mod OnePath
 pub mod AmongOthers
 pub mod BurstCounts
-pub mod Bounds
 pub mod AllPaths
 pub mod Trimmed
 pub mod Flat
+pub mod Agreement
+pub mod BoundedValues
 pub mod Declarations
 pub mod Devices
 pub mod Journals

@@ -18,7 +18,7 @@ braces (seq s t) = braces s + braces t
 braces (alt s t) = braces s + braces t
 braces (burst bd s) = braces s + 1
 
--- what stands above a name: a semicolon of which it is in the left or the right operand, or braces around it, by their numbers, braces with their bound
+-- what stands above a name: a semicolon that has it in its left or right operand, or braces around it with their bound, by their numbers
 pub data Above : Type 0 where
   LeftOf : ℕ → Above
   RightOf : ℕ → Above
@@ -34,7 +34,7 @@ above (seq s t) n m a =
 above (alt s t) n m a = if has s a then above s n m a else above t (n + semicolons s) (m + braces s) a
 above (burst bd s) n m a = above s n (m + 1) a ++ Within bd m ∷ []
 
--- what an operation does to the semaphore: directly, or through the counter (the first number) of braces; where these have a bound, its semaphore too
+-- what an operation does to a semaphore: directly, or through the counter (the first number) of braces; with a bound, to its semaphore too
 pub data Term : Type 0 where
   Plain : ℕ → Term
   Braced : ℕ → ℕ → Term
@@ -103,28 +103,36 @@ started (Plain q) v = record v { semaphore = take_one v.semaphore q }
 started (Braced c q) v =
     record { semaphore = if v.counter c == 0 then take_one v.semaphore q else v.semaphore; counter = add_one v.counter c; bound = v.bound }
 started (Counted c q) v =
-    record { semaphore = if v.counter c == 0 then take_one v.semaphore q else v.semaphore; counter = add_one v.counter c; bound = take_one v.bound c }
+    record {
+      semaphore = if v.counter c == 0 then take_one v.semaphore q else v.semaphore;
+      counter = add_one v.counter c;
+      bound = take_one v.bound c;
+    }
 
 abbrev pub finished : Term → Values → Values
 finished (Plain q) v = record v { semaphore = add_one v.semaphore q }
 finished (Braced c q) v =
     record { semaphore = if v.counter c == 1 then add_one v.semaphore q else v.semaphore; counter = take_one v.counter c; bound = v.bound }
 finished (Counted c q) v =
-    record { semaphore = if v.counter c == 1 then add_one v.semaphore q else v.semaphore; counter = take_one v.counter c; bound = add_one v.bound c }
+    record {
+      semaphore = if v.counter c == 1 then add_one v.semaphore q else v.semaphore;
+      counter = take_one v.counter c;
+      bound = add_one v.bound c;
+    }
 
 abbrev pub size : Bound → ℕ
 size any = 0
 size (most n) = n
 
 -- the bound of the braces number c, where those of the tree have the numbers from m on; 0 for all other numbers
-abbrev pub bounds : Tree → ℕ → ℕ → ℕ
-bounds (op b) m c = 0
-bounds (seq s t) m c = bounds s m c + bounds t (m + braces s) c
-bounds (alt s t) m c = bounds s m c + bounds t (m + braces s) c
-bounds (burst bd s) m c = if c == m then size bd else bounds s (m + 1) c
+abbrev pub bound_at : Tree → ℕ → ℕ → ℕ
+bound_at (op b) m c = 0
+bound_at (seq s t) m c = bound_at s m c + bound_at t (m + braces s) c
+bound_at (alt s t) m c = bound_at s m c + bound_at t (m + braces s) c
+bound_at (burst bd s) m c = if c == m then size bd else bound_at s (m + 1) c
 
 abbrev pub opening : Tree → Values
-opening s = record { semaphore = λ q. if q == 0 then 1 else 0; counter = λ c. 0; bound = bounds s 0 }
+opening s = record { semaphore = λ q. if q == 0 then 1 else 0; counter = λ c. 0; bound = bound_at s 0 }
 
 abbrev pub changed : Tree → Event → Values → Values
 changed s (Began a) v = started (prologue s a) v

@@ -35,21 +35,40 @@ IsAdmission reply = ⊥
 
 -- after a frozen journal nothing is admitted any more
 abbrev pub FrozenStaysFrozen : Type 0
-FrozenStaysFrozen = (d : Declaration) (room : ℕ) (openings : List (List ℕ)) → Every WellFormed (paths_of d) → (ls more : List Line) → IsHonest d room openings (ls ++ more) → IsFrozen d ls → All (λ l. IsAdmission l.reply → ⊥) more
+FrozenStaysFrozen =
+    (d : Declaration) (room : ℕ) (openings : List (List ℕ)) → Every WellFormed (paths_of d)
+    → (ls more : List Line) → IsHonest d room openings (ls ++ more) → IsFrozen d ls
+    → All (λ l. IsAdmission l.reply → ⊥) more
 
 -- what is startable is owed its start, where there is room
 abbrev pub StartablesMayStart : Type 0
-StartablesMayStart = (d : Declaration) (room : ℕ) (openings : List (List ℕ)) → Every WellFormed (paths_of d) → (ls : List Line) → IsHonest d room openings ls → (w : ℕ) (a : OpId) (n : ActId) → IsStartable d ls a → taken ls + 2 ≤ room → n.0 ≡ begun_in ls → Owed d room openings ls w (Start a) (Started n)
+StartablesMayStart =
+    (d : Declaration) (room : ℕ) (openings : List (List ℕ)) → Every WellFormed (paths_of d)
+    → (ls : List Line) → IsHonest d room openings ls
+    → (w : ℕ) (a : OpId) (n : ActId) → IsStartable d ls a → taken ls + 2 ≤ room → n.0 ≡ begun_in ls
+    → Owed d room openings ls w (Start a) (Started n)
 
 -- what is live is owed its finish, by its own worker
 abbrev pub LiveActivationsMayFinish : Type 0
-LiveActivationsMayFinish = (d : Declaration) (room : ℕ) (openings : List (List ℕ)) (ls : List Line) (n : ActId) (a : Activation) → activation_of n (live ls) ≡ Some a → Owed d room openings ls a.worker (Finish n) Finished
+LiveActivationsMayFinish =
+    (d : Declaration) (room : ℕ) (openings : List (List ℕ)) (ls : List Line) (n : ActId) (a : Activation)
+    → activation_of n (live ls) ≡ Some a → Owed d room openings ls a.worker (Finish n) Finished
 
 -- some line is an admitted finish
 abbrev pub HasFinishLine : List Line → Type 0
 HasFinishLine [] = ⊥
 HasFinishLine (l ∷ ls) = (l.reply ≡ Finished) ⊎ HasFinishLine ls
 
+abbrev pub blocked_line : ℕ → OpId → PathId → Line
+blocked_line w a p = record { worker = w; attempt = Start a; reply = Blocked p }
+
+abbrev pub started_line : ℕ → OpId → ActId → Line
+started_line w a n = record { worker = w; attempt = Start a; reply = Started n }
+
 -- between a blocked start of an operation and a later admitted one stands an admitted finish
 abbrev pub FinishesComeBetween : Type 0
-FinishesComeBetween = (d : Declaration) (room : ℕ) (openings : List (List ℕ)) → Every WellFormed (paths_of d) → (x y : List Line) (v w : ℕ) (a : OpId) (p : PathId) (n : ActId) → IsHonest d room openings (x ++ record { worker = v; attempt = Start a; reply = Blocked p } ∷ (y ++ record { worker = w; attempt = Start a; reply = Started n } ∷ [])) → HasFinishLine y
+FinishesComeBetween =
+    (d : Declaration) (room : ℕ) (openings : List (List ℕ)) → Every WellFormed (paths_of d)
+    → (x y : List Line) (v w : ℕ) (a : OpId) (p : PathId) (n : ActId)
+    → IsHonest d room openings (x ++ blocked_line v a p ∷ (y ++ started_line w a n ∷ []))
+    → HasFinishLine y

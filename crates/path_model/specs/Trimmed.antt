@@ -5,8 +5,9 @@ use Rattle.path_model.specs.declared.history.Event.{Event}
 use Rattle.path_model.specs.declared.history.Event.TheVariants.{Began, Ended}
 use Rattle.path_model.specs.Trees.{Bound, any, most, Tree, op, seq, alt, burst, Names, WellFormed, has}
 use Rattle.path_model.specs.Histories.{op_of}
-use Rattle.path_model.specs.Legal.{Every, First, None, Legal, Forbids}
-use Rattle.path_model.specs.Machine.{Term, Plain, Braced, Counted, prologue, epilogue, Values, take_one, add_one, Passes, started, finished, opening}
+use Rattle.path_model.specs.Legal.{Every, First, NoneOf, Legal, Forbids}
+use Rattle.path_model.specs.Machine.{Term, Plain, Braced, Counted, prologue, epilogue}
+use Rattle.path_model.specs.Machine.{Values, take_one, add_one, Passes, started, finished, opening}
 use Rattle.path_model.specs.AmongOthers.{values_among}
 use Rattle.path_model.specs.AllPaths.{Running, after, Blocks}
 
@@ -99,7 +100,8 @@ kept seen (x ∷ xs) = if stands_in x.1 seen then kept seen xs else (x ∷ kept 
 abbrev pub lean_moved : Event → List (ℕ × Running) → List (ℕ × Running)
 lean_moved e [] = []
 lean_moved e (x ∷ xs) =
-    (x.0, record { tree = x.1.tree; values = if has x.1.tree (op_of e) then lean_changed x.1.tree e x.1.values else x.1.values }) ∷ lean_moved e xs
+    (x.0, record { tree = x.1.tree; values = if has x.1.tree (op_of e) then lean_changed x.1.tree e x.1.values else x.1.values })
+    ∷ lean_moved e xs
 
 abbrev pub lean_run : List (ℕ × Running) → List Event → List (ℕ × Running)
 lean_run m [] = m
@@ -122,16 +124,18 @@ pub record Trims (s : Tree) (h : List Event) : Type 0 where
   -- each check that is removed always passes
   pub removed_passes : (a : OpId) → lean_prologue s a ≡ nothing → Passes (prologue s a) (values_among s (opening s) h)
   -- beside a bound's semaphore too
-  pub removed_part : (a : OpId) (c q : ℕ) → is_burst s ≡ true → prologue s a ≡ Counted c q → Passes (Braced c q) (values_among s (opening s) h)
+  pub removed_part :
+      (a : OpId) (c q : ℕ) → is_burst s ≡ true → prologue s a ≡ Counted c q → Passes (Braced c q) (values_among s (opening s) h)
   -- and each that is kept asks the same
-  pub same_passes : (a : OpId) → LeanPasses (lean_prologue s a) (lean_among s (opening s) h) ↔ Passes (prologue s a) (values_among s (opening s) h)
+  pub same_passes :
+      (a : OpId) → LeanPasses (lean_prologue s a) (lean_among s (opening s) h) ↔ Passes (prologue s a) (values_among s (opening s) h)
 
 abbrev pub EachPathTrims : Type 0
 EachPathTrims = (s : Tree) → WellFormed s → (h : List Event) → Trims s h
 
 pub record SameAnswers (xs : List (ℕ × Tree)) (h : List Event) (a : OpId) : Type 0 where
   pub first : (p : ℕ) → First (LeanBlocks a) (lean_after xs h) p ↔ First (Blocks a) (after xs h) p
-  pub none : None (LeanBlocks a) (lean_after xs h) ↔ None (Blocks a) (after xs h)
+  pub none : NoneOf (LeanBlocks a) (lean_after xs h) ↔ NoneOf (Blocks a) (after xs h)
 
 abbrev pub TrimmingKeepsAnswers : Type 0
 TrimmingKeepsAnswers = (xs : List (ℕ × Tree)) → Every WellFormed xs → (h : List Event) (a : OpId) → SameAnswers xs h a
@@ -139,8 +143,10 @@ TrimmingKeepsAnswers = (xs : List (ℕ × Tree)) → Every WellFormed xs → (h 
 -- after a legal history the trimmed semaphores name the first path whose words forbid a start, and admit it where none does
 pub record LeanJudged (xs : List (ℕ × Tree)) (h : List Event) (a : OpId) : Type 0 where
   pub first : (p : ℕ) → First (LeanBlocks a) (lean_after xs h) p ↔ First (Forbids h a) xs p
-  pub starts : None (LeanBlocks a) (lean_after xs h) ↔ Legal xs (h ++ Began a ∷ [])
-  pub decided : None (LeanBlocks a) (lean_after xs h) ⊎ ((p : ℕ) × First (LeanBlocks a) (lean_after xs h) p)
+  -- each path that is kept blocks exactly where it forbids
+  pub each : Every (λ r. LeanBlocks a r ↔ Forbids h a r.tree) (lean_after xs h)
+  pub starts : NoneOf (LeanBlocks a) (lean_after xs h) ↔ Legal xs (h ++ Began a ∷ [])
+  pub decided : NoneOf (LeanBlocks a) (lean_after xs h) ⊎ ((p : ℕ) × First (LeanBlocks a) (lean_after xs h) p)
   pub moves : (e : Event) → lean_after xs (h ++ e ∷ []) ≡ lean_moved e (lean_after xs h)
 
 abbrev pub TrimmedAdmitsTheWords : Type 0

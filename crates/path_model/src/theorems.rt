@@ -3,11 +3,15 @@
 ghost use Rattle.path_model.specs.OnePath.{EachPathAdmitsItsWords};
 ghost use Rattle.path_model.specs.AmongOthers.{EachPathGuards};
 ghost use Rattle.path_model.specs.BurstCounts.{EachLabellingCounts, CountersTellOpenBraces};
-ghost use Rattle.path_model.specs.Bounds.{EachValueIsBounded};
-ghost use Rattle.path_model.specs.AllPaths.{AllPathsJudge, ProjectionsKeepProgress, EachEventMoves, FirstIsOne, StartsOnlyBlock, EachBlockStays, FinishesUnblock};
+ghost use Rattle.path_model.specs.AllPaths.{AllPathsJudge, ProjectionsKeepProgress, EachEventMoves, FirstIsOne};
+ghost use Rattle.path_model.specs.AllPaths.{StartsOnlyBlock, EachBlockStays, FinishesUnblock};
 ghost use Rattle.path_model.specs.Trimmed.{EachPathTrims, TrimmingKeepsAnswers, TrimmedAdmitsTheWords};
 ghost use Rattle.path_model.specs.Flat.{OneTableShowsAll};
-ghost use Rattle.path_model.specs.Honest.{EachHonestJournalIsLegal, EachHonestJournalHasRoom, LiveActivationsAreInProgress, EachAttemptIsOwedAReply};
+ghost use Rattle.path_model.specs.Agreement.{TheMachinesAgree};
+ghost use Rattle.path_model.specs.BoundedValues.{EachValueIsBounded, ValuesAmongAreBounded, TableValuesAreBounded};
+ghost use Rattle.path_model.specs.Honest.{FrontsAreHonest, TheMachineOwesTheSame, HonestByMachineIsHonest};
+ghost use Rattle.path_model.specs.Honest.{EachHonestJournalIsLegal, EachHonestJournalHasRoom, EachLiveActivationIsFound};
+ghost use Rattle.path_model.specs.Honest.{LiveActivationsAreInProgress, EachAttemptIsOwedAReply};
 ghost use Rattle.path_model.specs.Owed.{OneReplyIsOwed};
 ghost use Rattle.path_model.specs.Stuck.{FrozenStaysFrozen, StartablesMayStart, LiveActivationsMayFinish, FinishesComeBetween};
 
@@ -29,11 +33,6 @@ pub fn counters_tell_open_braces()
 /// What holds of a path alone holds of it among others.
 pub fn each_path_guards()
     ensures { EachPathGuards }
-{}
-
-/// No semaphore passes the number of starts by more than one, and no counter passes it.
-pub fn each_value_is_bounded()
-    ensures { EachValueIsBounded }
 {}
 
 /// The semaphores of all paths judge starts and finishes as the words of all paths do.
@@ -61,7 +60,7 @@ pub fn starts_only_block()
     ensures { StartsOnlyBlock }
 {}
 
-/// Each path that forbade a start still does after an admitted start.
+/// Each path that forbade a start still does after another start.
 pub fn each_block_stays()
     ensures { EachBlockStays }
 {}
@@ -91,6 +90,41 @@ pub fn one_table_shows_all()
     ensures { OneTableShowsAll }
 {}
 
+/// A path has the same values alone, among others, and in the one table.
+pub fn the_machines_agree()
+    ensures { TheMachinesAgree }
+{}
+
+/// No semaphore passes the number of starts by more than one, no counter passes it, and no bound's semaphore passes the bound.
+pub fn each_value_is_bounded()
+    ensures { EachValueIsBounded }
+{}
+
+/// The same holds of the values of a path among others.
+pub fn values_among_are_bounded()
+    ensures { ValuesAmongAreBounded }
+{}
+
+/// The same holds of the values of all paths in one table.
+pub fn table_values_are_bounded()
+    ensures { TableValuesAreBounded }
+{}
+
+/// What comes first in an honest journal is an honest journal.
+pub fn fronts_are_honest()
+    ensures { FrontsAreHonest }
+{}
+
+/// After an honest journal words and semaphores owe the same replies.
+pub fn the_machine_owes_the_same()
+    ensures { TheMachineOwesTheSame }
+{}
+
+/// The journals that are honest by the semaphores are the honest ones.
+pub fn honest_by_machine_is_honest()
+    ensures { HonestByMachineIsHonest }
+{}
+
 /// The admitted history of an honest journal is legal on every path.
 pub fn each_honest_journal_is_legal()
     ensures { EachHonestJournalIsLegal }
@@ -99,6 +133,11 @@ pub fn each_honest_journal_is_legal()
 /// An honest journal has room for its lines, and for the finish of each live activation.
 pub fn each_honest_journal_has_room()
     ensures { EachHonestJournalHasRoom }
+{}
+
+/// After an honest journal each live activation is found by its number.
+pub fn each_live_activation_is_found()
+    ensures { EachLiveActivationIsFound }
 {}
 
 /// After an honest journal each operation has as many live activations as it has begun and not ended.

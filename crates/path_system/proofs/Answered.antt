@@ -20,14 +20,14 @@ use Rattle.path_model.specs.Legal as legal
 use Rattle.path_model.specs.Declarations.{paths_of, resource_of, law_of}
 use Rattle.path_model.specs.Devices.{Outcome, serves, refuses, outcome_of}
 use Rattle.path_model.specs.Journals.{live, activation_of, admitted_history}
-use Rattle.path_model.specs.Owed.{taken, IsOwn, OwedToStart, OwedToUse, OwedToFinish, Owed, outcome_for}
+use Rattle.path_model.specs.Owed.{by_words, taken, IsOwn, OwedToStart, OwedToUse, OwedToFinish, Owed, outcome_for}
 use Rattle.path_model.specs.Contents.{contents_after}
-use Rattle.path_model.proofs.Progress.{legal_kept, live_in_progress}
-use Rattle.path_system.specs.Parts.{Parts, Acts, MovesStart, MovesUse, MovesFinish, Moves, has_room, is_own_of, Answers, AreReady, AreTrueTo}
+use Rattle.path_model.proofs.CallerLemmas.{each_honest_journal_is_legal, live_in_progress}
+use Rattle.path_system.specs.Parts.{PartsValue, Acts, MovesStart, MovesUse, MovesFinish, Moves, has_room, is_own_of, Answers, AreReady, AreTrueTo}
 use Rattle.path_system.proofs.Tested.{roomy, not_roomy, roomy_or, not_roomy_or, not_own, own_or_other}
 
 -- where a start keeps a history legal, no path forbids it
-none_forbids : (xs : List (ℕ × Tree)) (h : List Event) (a : OpId) → legal.Legal xs (h ++ Began a ∷ []) → legal.None (legal.Forbids h a) xs
+none_forbids : (xs : List (ℕ × Tree)) (h : List Event) (a : OpId) → legal.Legal xs (h ++ Began a ∷ []) → legal.NoneOf (legal.Forbids h a) xs
 none_forbids [] h a l = tt
 none_forbids (x ∷ xs) h a l = (λ f. f.1 l.0, none_forbids xs h a l.1)
 
@@ -42,10 +42,10 @@ found_declared m n [] a all is = absurd (cc)
 found_declared m n (x ∷ xs) a all is =
     declared_front m n x xs a (x.act.0 == n.0) (all 0 x (omega arith)) (found_declared m n xs a (All-tail (λ (a : Activation). a.op.0 < m) x xs all)) is
 
-module _ (old : Parts) (room : ℕ) (openings : List (List ℕ)) (journal : List Line) (s : AreTrueTo old room openings journal) where
+module _ (old : PartsValue) (room : ℕ) (openings : List (List ℕ)) (journal : List Line) (s : AreTrueTo old room openings journal) where
   -- the history is legal so far
   pub legal_now : legal.Legal old.standing.paths (admitted_history journal)
-  legal_now = subst (λ xs. legal.Legal xs (admitted_history journal)) (sym s.paths) (legal_kept old.declaration room openings s.lawful.well_formed journal s.honest)
+  legal_now = subst (λ xs. legal.Legal xs (admitted_history journal)) (sym s.paths) (each_honest_journal_is_legal old.declaration room openings s.lawful.well_formed journal s.honest)
 
   -- who is live by the ledger is live by the journal
   pub found_live : (n : ActId) (o : Option Activation) → activation_of n old.book.live ≡ o → activation_of n (live journal) ≡ o
@@ -54,7 +54,7 @@ module _ (old : Parts) (room : ℕ) (openings : List (List ℕ)) (journal : List
   pub taken_is : taken journal ≡ length journal + length old.book.live
   taken_is = ap (λ xs. length journal + length xs) (sym s.live)
 
-  owed_start : (w : ℕ) (a : OpId) (reply : Reply) (new : Parts) → taken journal + 2 ≤ room → MovesStart old w a reply new → OwedToStart old.declaration room journal a reply
+  owed_start : (w : ℕ) (a : OpId) (reply : Reply) (new : PartsValue) → taken journal + 2 ≤ room → MovesStart old w a reply new → OwedToStart (by_words old.declaration) old.declaration room journal a reply
   owed_start w a (Started n) new fits m =
       OwedToStart.started n fits m.declared
       (none_forbids (paths_of old.declaration) (admitted_history journal) a
@@ -87,7 +87,7 @@ module _ (old : Parts) (room : ℕ) (openings : List (List ℕ)) (journal : List
   owed_served w n verb a (serves x after) reply before left fits own is acts = rw acts.0 (OwedToUse.served a x after fits own is)
   owed_served w n verb a (refuses r) reply before left fits own is acts = rw acts.0 (OwedToUse.refused a r fits own is)
 
-  owed_use : (w : ℕ) (n : ActId) (verb : Verb) (o : Option Activation) (reply : Reply) (new : Parts) → taken journal + 1 ≤ room
+  owed_use : (w : ℕ) (n : ActId) (verb : Verb) (o : Option Activation) (reply : Reply) (new : PartsValue) → taken journal + 1 ≤ room
       → activation_of n old.book.live ≡ o → MovesUse old w verb o reply new → OwedToUse old.declaration room openings journal w n verb reply
   owed_use w n verb None reply new fits is m = rw m.0 (OwedToUse.stale fits (found_live n None is))
   owed_use w n verb (Some a) reply new fits is m = elim (cases_eq a.worker w) [
@@ -95,7 +95,7 @@ module _ (old : Parts) (room : ℕ) (openings : List (List ℕ)) (journal : List
     | inr other ↦ rw ((m.0 other).0) (OwedToUse.not_yours a fits (found_live n (Some a) is) other)
   ]
 
-  owed_finish : (w : ℕ) (n : ActId) (o : Option Activation) (reply : Reply) (new : Parts) → (is_own_of w o ≡ false → taken journal + 1 ≤ room)
+  owed_finish : (w : ℕ) (n : ActId) (o : Option Activation) (reply : Reply) (new : PartsValue) → (is_own_of w o ≡ false → taken journal + 1 ≤ room)
       → activation_of n old.book.live ≡ o → MovesFinish old w n o reply new → OwedToFinish old.declaration room journal w n reply
   owed_finish w n None reply new fits is m = rw m.0 (OwedToFinish.stale (fits refl) (found_live n None is))
   owed_finish w n (Some a) reply new fits is m = elim (cases_eq a.worker w) [
@@ -104,7 +104,7 @@ module _ (old : Parts) (room : ℕ) (openings : List (List ℕ)) (journal : List
   ]
 
   -- the reply where there is room
-  pub owed_inside : (w : ℕ) (attempt : Attempt) (reply : Reply) (new : Parts) → has_room room (length journal) old.book.live w attempt ≡ true → Moves old w attempt reply new
+  pub owed_inside : (w : ℕ) (attempt : Attempt) (reply : Reply) (new : PartsValue) → has_room room (length journal) old.book.live w attempt ≡ true → Moves old w attempt reply new
       → Owed old.declaration room openings journal w attempt reply
   owed_inside w (Start a) reply new has m = let k = roomy (length journal + length old.book.live + 2) room has in owed_start w a reply new (omega (arith, k, taken_is)) m
   owed_inside w (Apply n verb) reply new has m = let k = roomy (length journal + length old.book.live + 1) room has in owed_use w n verb (activation_of n old.book.live) reply new (omega (arith, k, taken_is)) refl m
@@ -121,13 +121,13 @@ module _ (old : Parts) (room : ℕ) (openings : List (List ℕ)) (journal : List
   owed_outside w (Apply n verb) has = let k = not_roomy (length journal + length old.book.live + 1) room has in OwedToUse.no_room (omega (arith, k, taken_is))
   owed_outside w (Finish n) has = let k = not_roomy_or (length journal + length old.book.live + 1) room (is_own_of w (activation_of n old.book.live)) has in OwedToFinish.no_room (not_own_of w n k.1) (omega (arith, k, taken_is))
 
-  owed_case : (w : ℕ) (attempt : Attempt) (reply : Reply) (new : Parts) (has : Bool) → has_room room (length journal) old.book.live w attempt ≡ has
+  owed_case : (w : ℕ) (attempt : Attempt) (reply : Reply) (new : PartsValue) (has : Bool) → has_room room (length journal) old.book.live w attempt ≡ has
       → Answers old room (length journal) w attempt reply new → Owed old.declaration room openings journal w attempt reply
   owed_case w attempt reply new true is answers = owed_inside w attempt reply new is (answers.inside is)
   owed_case w attempt reply new false is answers = rw ((answers.outside is).0) (owed_outside w attempt is)
 
   -- each reply is owed
-  pub owed_is : (w : ℕ) (attempt : Attempt) (reply : Reply) (new : Parts) → Answers old room (length journal) w attempt reply new → Owed old.declaration room openings journal w attempt reply
+  pub owed_is : (w : ℕ) (attempt : Attempt) (reply : Reply) (new : PartsValue) → Answers old room (length journal) w attempt reply new → Owed old.declaration room openings journal w attempt reply
   owed_is w attempt reply new answers = owed_case w attempt reply new _ refl answers
 
   -- the parts fit one another
@@ -140,7 +140,7 @@ module _ (old : Parts) (room : ℕ) (openings : List (List ℕ)) (journal : List
   }
 
 -- the resource of what is live has a cell
-pub cell_in : (parts : Parts) (n : ActId) (a : Activation) → AreReady parts → activation_of n parts.book.live ≡ Some a → resource_of parts.declaration a.op.0 < length parts.cells
+pub cell_in : (parts : PartsValue) (n : ActId) (a : Activation) → AreReady parts → activation_of n parts.book.live ≡ Some a → resource_of parts.declaration a.op.0 < length parts.cells
 cell_in parts n a ready is =
     let within : resource_of parts.declaration a.op.0 < length parts.declaration.resources = ready.lawful.operations a.op.0 _ (ready.declared n a is) in
     let k = ready.cells in

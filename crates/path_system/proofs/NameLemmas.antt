@@ -1,13 +1,12 @@
 -- Names are words of ASCII.
 use Rattle.std.proofs.Common.{◌≡◌, ℕ, ◌<◌, ◌≤◌, ◌==◌, true, false, List, [], ◌∷◌, refl, ap, subst, arith}
 use Rattle.std.proofs.lemmas.Bool.Decides.{nat_tests}
-use Rattle.path_decl.specs.declared.token.Class.TheVariants as classes
-use Rattle.path_decl.specs.Bytes.{class_of, is_word_byte, is_space, is_letter, is_digit, in_word}
-use Rattle.path_decl.specs.Names.{IsName, IsWordText}
+use Rattle.path_lex.specs.declared.token.Class.TheVariants as classes
+use Rattle.path_lex.specs.Bytes.{class_of, is_word_byte, is_space, is_letter, is_digit, in_word}
+use Rattle.path_lex.specs.Names.{IsName, IsWordText}
 use Rattle.std.proofs.Math.Nat.{lt_of_not-le}
 use Rattle.std.specs.List.{AllByRecursion}
-use Rattle.std.specs.Str.{IsAscii, IsUtf8}
-use Rattle.std.proofs.lemmas.Str.{IsUtf8-from_ascii}
+use Rattle.std.specs.Str.{IsAscii}
 use Rattle.std.proofs.lemmas.Str.Ascii.{IsAscii-nil, IsAscii-cons}
 use Rattle.path_fields.specs.Splits.{HasNone}
 
@@ -39,8 +38,8 @@ name_low : (name : List ℕ) → IsWordText name → IsAscii name
 name_low [] h = absurd h
 name_low (b ∷ bs) h = IsAscii-cons b bs (word_byte_low b (ap in_word h.0)) (words_low bs h.1)
 
-pub name_is_text : (name : List ℕ) → IsName name → IsUtf8 name
-name_is_text name h = IsUtf8-from_ascii name (name_low name h.word)
+pub name_is_ascii : (name : List ℕ) → IsName name → IsAscii name
+name_is_ascii name h = name_low name h.word
 
 -- what stands in no word stands in no name
 words_without : (b : ℕ) (bs : List ℕ) → is_word_byte b ≡ false → AllByRecursion (λ c. is_word_byte c ≡ true) bs → HasNone b bs
@@ -57,3 +56,11 @@ line_feed_outside = refl
 
 pub name_is_line : (name : List ℕ) → IsName name → HasNone 10 name
 name_is_line name h = name_without 10 name line_feed_outside h.word
+
+hash_outside : is_word_byte 35 ≡ false
+unfolding class_of
+hash_outside = refl
+
+-- no name begins with `#`
+pub name_is_plain : (name rest : List ℕ) → IsName name → name ≡ 35 ∷ rest → ⊥
+name_is_plain name rest h e = (subst (HasNone 35) e (name_without 35 name hash_outside h.word)).0 refl

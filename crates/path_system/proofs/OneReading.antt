@@ -1,9 +1,8 @@
 -- A text tells one list of attempts: each line has one worker and one attempt.
-use Rattle.std.proofs.Common.{◌≡◌, ℕ, ◌<◌, ◌^◌, List, [], ◌∷◌, ◌++◌, length, inl, inr, refl, sym, ap, ◌∙◌, subst, append_assoc, arith, decimal, All, get_or}
+use Rattle.std.proofs.Common.{◌≡◌, ℕ, ◌<◌, ◌^◌, List, [], ◌∷◌, ◌++◌, length, ◌≤◌, inl, inr, refl, sym, ap, ◌∙◌, subst, append_assoc, arith, decimal, All, get_or}
 use Rattle.std.proofs.lemmas.List.{append_cancel_right, length-map}
-use Rattle.std.proofs.lemmas.List.Elements.{All-head, All-tail}
+use Rattle.std.proofs.lemmas.List.Elements.{All-head, All-tail, All-contains}
 use Rattle.std.proofs.lemmas.Bool.{cases_lt}
-use Rattle.std.proofs.lemmas.Option.{slice_get-get_or}
 use Rattle.std.proofs.lemmas.Fmt.{decimal_injective}
 use Rattle.path_model.specs.declared.ids.OpId.{OpId}
 use Rattle.path_model.specs.declared.ids.ActId.{ActId}
@@ -12,14 +11,14 @@ use Rattle.path_model.specs.declared.journal.Verb.TheVariants.{Put, Take, Look, 
 use Rattle.path_model.specs.declared.journal.Attempt.{Attempt}
 use Rattle.path_model.specs.declared.journal.Attempt.TheVariants.{Start, Apply, Finish}
 use Rattle.path_model.specs.Declarations.{Declaration}
-use Rattle.path_decl.specs.Lawful.{AreDistinctNames}
-use Rattle.path_decl.specs.Names.{IsName}
-use Rattle.path_decl.specs.Rules.{IsDistinct}
+use Rattle.path_decl.specs.Lawful.{IsDistinct, AreDistinctNames}
+use Rattle.path_lex.specs.Names.{IsName}
 use Rattle.path_fields.specs.Splits.{HasNone}
-use Rattle.path_system.specs.LineTexts.{verb_text, use_text, operation_text, operation_names, name_or_number, attempt_text, line_text, AttemptFits, VerbFits}
+use Rattle.path_system.specs.LineTexts.{verb_text, use_text, operation_text, operation_names, attempt_text, line_text, AttemptFits, VerbFits}
 use Rattle.path_system.specs.AttemptTexts.{Entry, EntryFits, entries_text, IsAttemptsText}
-use Rattle.path_fields.proofs.SplitLemmas.{cut_once, cut_none}
-use Rattle.path_system.proofs.EntryLemmas.{number_cut, none_in_number}
+use Rattle.path_fields.proofs.CallerLemmas.{cut_once, cut_none, number_once}
+use Rattle.path_system.proofs.EntryLemmas.{space_ends, named, numbered}
+use Rattle.path_system.proofs.NameLemmas.{name_is_plain}
 use Rattle.path_system.proofs.AttemptLemmas.{line_is_line, Spells, first_entry, spells_cut}
 
 same_head : {x y : ℕ} {xs ys : List ℕ} → x ∷ xs ≡ y ∷ ys → x ≡ y
@@ -49,10 +48,13 @@ verb_once (Add x) Take h k e = let i = same_head e in absurd (omega arith)
 verb_once (Add x) Look h k e = let i = same_head e in absurd (omega arith)
 verb_once (Add x) (Add y) h k e = ap Add (decimal_injective x y h k (tail_four e))
 
+tail_one : {x y : ℕ} {xs ys : List ℕ} → x ∷ xs ≡ y ∷ ys → xs ≡ ys
+tail_one e = cc
+
 use_once : (m n : ℕ) (u v : Verb) → m < 2 ^ 64 → n < 2 ^ 64 → VerbFits u → VerbFits v → use_text m u ≡ use_text n v → (m ≡ n) × (u ≡ v)
 use_once m n u v hm hn hu hv e =
-    let p = number_cut (use_text m u) (decimal m) (verb_text u) n (verb_text v) refl (none_in_number 32 m (omega arith) hm) hn e in
-    (decimal_injective m n hm hn p.0, verb_once u v hu hv p.1)
+    let p = number_once m n (32 ∷ verb_text u) (32 ∷ verb_text v) hm hn (space_ends (verb_text u)) (space_ends (verb_text v)) e in
+    (p.0, verb_once u v hu hv (tail_one p.1))
 
 -- names that differ stand at different places
 place_once : (ns : List (List ℕ)) (i j : ℕ) → IsDistinct ns → i < length ns → j < length ns → get_or ns i [] ≡ get_or ns j [] → i ≡ j
@@ -64,41 +66,49 @@ place_once ns i j distinct hi hj e = elim (cases_lt i j) [
   ]
 ]
 
-operation_is : (d : Declaration) (a : OpId) → a.0 < length d.operations → (a.0 < length (operation_names d)) × (operation_text d a ≡ get_or (operation_names d) a.0 [])
-operation_is d a h =
-    let within : a.0 < length (operation_names d) = let n : length (operation_names d) ≡ length d.operations = length-map d.operations (λ o. o.name) in omega arith in
-    (within, ap (λ o. name_or_number o a.0) (slice_get-get_or (operation_names d) a.0 [] within))
+-- a name is no number
+other_kind : (d : Declaration) (a b : OpId) → All IsName (operation_names d) → a.0 < length d.operations → length d.operations ≤ b.0 → operation_text d a ≡ operation_text d b → ⊥
+other_kind d a b names ha hb e =
+    name_is_plain (operation_text d a) (decimal b.0) (All-contains IsName (operation_names d) (operation_text d a) names (named d a ha).1) (e ∙ numbered d b hb)
 
-operation_once : (d : Declaration) (a b : OpId) → IsDistinct (operation_names d) → a.0 < length d.operations → b.0 < length d.operations → operation_text d a ≡ operation_text d b → a ≡ b
-operation_once d a b distinct ha hb e =
-    let p = operation_is d a ha in
-    let q = operation_is d b hb in
-    let same : a.0 ≡ b.0 = place_once (operation_names d) a.0 b.0 distinct p.0 q.0 (sym p.1 ∙ e ∙ q.1) in
-    ap (λ (n : ℕ). let o : OpId = record { 0 = n } in o) same
+operation_once : (d : Declaration) (a b : OpId) → AreDistinctNames (operation_names d) → a.0 < 2 ^ 32 → b.0 < 2 ^ 32 → operation_text d a ≡ operation_text d b → a ≡ b
+operation_once d a b names fa fb e = ap (λ (n : ℕ). let o : OpId = record { 0 = n } in o) (elim (cases_lt a.0 (length d.operations)) [
+  | inl ha ↦ elim (cases_lt b.0 (length d.operations)) [
+    | inl hb ↦ place_once (operation_names d) a.0 b.0 names.distinct (within d a.0 ha) (within d b.0 hb) (sym (named d a ha).0 ∙ e ∙ (named d b hb).0)
+    | inr hb ↦ absurd (other_kind d a b names.each ha hb e)
+  ]
+  | inr ha ↦ elim (cases_lt b.0 (length d.operations)) [
+    | inl hb ↦ absurd (other_kind d b a names.each hb ha (sym e))
+    | inr hb ↦ decimal_injective a.0 b.0 (omega (arith, fa)) (omega (arith, fb)) (tail_one (sym (numbered d a ha) ∙ e ∙ numbered d b hb))
+  ]
+])
+  where
+    within : (d : Declaration) (i : ℕ) → i < length d.operations → i < length (operation_names d)
+    within d i h = let n : length (operation_names d) ≡ length d.operations = length-map d.operations (λ o. o.name) in omega (arith, n, h)
 
 act_once : (m n : ActId) → m.0 ≡ n.0 → m ≡ n
 act_once m n e = ap (λ (k : ℕ). let o : ActId = record { 0 = k } in o) e
 
-attempt_once : (d : Declaration) (a b : Attempt) → IsDistinct (operation_names d) → AttemptFits d a → AttemptFits d b → attempt_text d a ≡ attempt_text d b → a ≡ b
-attempt_once d (Start a) (Start b) distinct h k e = ap Start (operation_once d a b distinct h k (tail_three (tail_three e)))
-attempt_once d (Start a) (Apply n v) distinct h k e = let i = same_head e in absurd (omega arith)
-attempt_once d (Start a) (Finish n) distinct h k e = let i = same_head e in absurd (omega arith)
-attempt_once d (Apply m u) (Start b) distinct h k e = let i = same_head e in absurd (omega arith)
-attempt_once d (Apply m u) (Apply n v) distinct h k e =
+attempt_once : (d : Declaration) (a b : Attempt) → AreDistinctNames (operation_names d) → AttemptFits a → AttemptFits b → attempt_text d a ≡ attempt_text d b → a ≡ b
+attempt_once d (Start a) (Start b) names h k e = ap Start (operation_once d a b names h k (tail_three (tail_three e)))
+attempt_once d (Start a) (Apply n v) names h k e = let i = same_head e in absurd (omega arith)
+attempt_once d (Start a) (Finish n) names h k e = let i = same_head e in absurd (omega arith)
+attempt_once d (Apply m u) (Start b) names h k e = let i = same_head e in absurd (omega arith)
+attempt_once d (Apply m u) (Apply n v) names h k e =
     let p = use_once m.0 n.0 u v h.0 k.0 h.1 k.1 (tail_four e) in
     let same : m ≡ n = act_once m n p.0 in
     ap (λ (x : ActId). Apply x u) same ∙ ap (λ (x : Verb). Apply n x) p.1
-attempt_once d (Apply m u) (Finish n) distinct h k e = let i = same_head e in absurd (omega arith)
-attempt_once d (Finish m) (Start b) distinct h k e = let i = same_head e in absurd (omega arith)
-attempt_once d (Finish m) (Apply n v) distinct h k e = let i = same_head e in absurd (omega arith)
-attempt_once d (Finish m) (Finish n) distinct h k e = ap Finish (act_once m n (decimal_injective m.0 n.0 h k (tail_three (tail_four e))))
+attempt_once d (Apply m u) (Finish n) names h k e = let i = same_head e in absurd (omega arith)
+attempt_once d (Finish m) (Start b) names h k e = let i = same_head e in absurd (omega arith)
+attempt_once d (Finish m) (Apply n v) names h k e = let i = same_head e in absurd (omega arith)
+attempt_once d (Finish m) (Finish n) names h k e = ap Finish (act_once m n (decimal_injective m.0 n.0 h k (tail_three (tail_four e))))
 
-entry_once : (d : Declaration) (e f : Entry) → IsDistinct (operation_names d) → EntryFits d e → EntryFits d f → line_text d e.0 e.1 ≡ line_text d f.0 f.1 → e ≡ f
-entry_once d e f distinct h k same =
-    let small : e.0 < 2 ^ 64 = let i = h.0 in omega arith in
-    let other : f.0 < 2 ^ 64 = let i = k.0 in omega arith in
-    let p = number_cut (line_text d e.0 e.1) (decimal e.0) (attempt_text d e.1) f.0 (attempt_text d f.1) refl (none_in_number 32 e.0 (omega arith) small) other same in
-    ap (λ (w : ℕ). let x : Entry = (w, e.1) in x) (decimal_injective e.0 f.0 small other p.0) ∙ ap (λ (a : Attempt). let x : Entry = (f.0, a) in x) (attempt_once d e.1 f.1 distinct h.1 k.1 p.1)
+entry_once : (d : Declaration) (e f : Entry) → AreDistinctNames (operation_names d) → EntryFits e → EntryFits f → line_text d e.0 e.1 ≡ line_text d f.0 f.1 → e ≡ f
+entry_once d e f names h k same =
+    let small : e.0 < 2 ^ 64 = let i = h.0 in omega (arith, i) in
+    let other : f.0 < 2 ^ 64 = let i = k.0 in omega (arith, i) in
+    let p = number_once e.0 f.0 (32 ∷ attempt_text d e.1) (32 ∷ attempt_text d f.1) small other (space_ends (attempt_text d e.1)) (space_ends (attempt_text d f.1)) same in
+    ap (λ (w : ℕ). let x : Entry = (w, e.1) in x) p.0 ∙ ap (λ (a : Attempt). let x : Entry = (f.0, a) in x) (attempt_once d e.1 f.1 names h.1 k.1 (tail_one p.1))
 
 -- an empty text tells nothing
 nonempty_line : (line rest : List ℕ) → line ++ 10 ∷ rest ≡ [] → ⊥
@@ -130,42 +140,42 @@ ends_in_feed d e (f ∷ es) =
     (line_text d e.0 e.1 ++ 10 ∷ p.0, first_entry d e (f ∷ es) ∙ ap (λ x. line_text d e.0 e.1 ++ 10 ∷ x) p.1 ∙ sym (append_assoc (line_text d e.0 e.1) (10 ∷ p.0) (10 ∷ [])))
 
 -- one line without its line feed tells one attempt
-last_once : (d : Declaration) (e : Entry) (fs : List Entry) → All IsName (operation_names d) → IsDistinct (operation_names d) → EntryFits d e → All (EntryFits d) fs → Spells d (line_text d e.0 e.1) fs → e ∷ [] ≡ fs
-last_once d e [] names distinct h k (inl s) = absurd (number_is_some e.0 (attempt_text d e.1) s)
-last_once d e [] names distinct h k (inr s) = absurd (nonempty_line (line_text d e.0 e.1) [] s)
-last_once d e (f ∷ fs) names distinct h k (inl s) = absurd (cut_none 10 (line_text d f.0 f.1) (entries_text d fs) (subst (HasNone 10) (s ∙ first_entry d f fs) (line_is_line d e names h)))
-last_once d e (f ∷ fs) names distinct h k (inr s) =
-    let fit = All-head (EntryFits d) f fs k in
-    let p = cut_once 10 (line_text d e.0 e.1) (line_text d f.0 f.1) [] (entries_text d fs) (line_is_line d e names h) (line_is_line d f names fit) (s ∙ first_entry d f fs) in
+last_once : (d : Declaration) (e : Entry) (fs : List Entry) → AreDistinctNames (operation_names d) → EntryFits e → All EntryFits fs → Spells d (line_text d e.0 e.1) fs → e ∷ [] ≡ fs
+last_once d e [] names h k (inl s) = absurd (number_is_some e.0 (attempt_text d e.1) s)
+last_once d e [] names h k (inr s) = absurd (nonempty_line (line_text d e.0 e.1) [] s)
+last_once d e (f ∷ fs) names h k (inl s) = absurd (cut_none 10 (line_text d f.0 f.1) (entries_text d fs) (subst (HasNone 10) (s ∙ first_entry d f fs) (line_is_line d e names.each h)))
+last_once d e (f ∷ fs) names h k (inr s) =
+    let fit = All-head EntryFits f fs k in
+    let p = cut_once 10 (line_text d e.0 e.1) (line_text d f.0 f.1) [] (entries_text d fs) (line_is_line d e names.each h) (line_is_line d f names.each fit) (s ∙ first_entry d f fs) in
     let none : fs ≡ [] = nothing_spelled d fs (inl p.1) in
-    let same : e ≡ f = entry_once d e f distinct h fit p.0 in
+    let same : e ≡ f = entry_once d e f names h fit p.0 in
     cc
 
-spells_once : (d : Declaration) (es fs : List Entry) (text : List ℕ) → All IsName (operation_names d) → IsDistinct (operation_names d) → All (EntryFits d) es → All (EntryFits d) fs → Spells d text es → Spells d text fs → es ≡ fs
-spells_once d [] fs text names distinct h k (inl s) t = sym (nothing_spelled d fs (subst (λ x. Spells d x fs) s t))
-spells_once d [] fs text names distinct h k (inr s) t = absurd (nonempty_line text [] s)
-spells_once d (e ∷ es) fs text names distinct h k (inl s) t =
-    let fit = All-head (EntryFits d) e es h in
-    let p = spells_cut d (line_text d e.0 e.1) (entries_text d es) fs names k (line_is_line d e names fit) (subst (λ x. Spells d x fs) (s ∙ first_entry d e es) t) in
-    let fits : All (EntryFits d) (p.0 ∷ p.1) = subst (All (EntryFits d)) p.2 k in
-    let same : e ≡ p.0 = entry_once d e p.0 distinct fit (All-head (EntryFits d) p.0 p.1 fits) p.3 in
-    let rest : es ≡ p.1 = spells_once d es p.1 (entries_text d es) names distinct (All-tail (EntryFits d) e es h) (All-tail (EntryFits d) p.0 p.1 fits) (inl refl) p.4 in
+spells_once : (d : Declaration) (es fs : List Entry) (text : List ℕ) → AreDistinctNames (operation_names d) → All EntryFits es → All EntryFits fs → Spells d text es → Spells d text fs → es ≡ fs
+spells_once d [] fs text names h k (inl s) t = sym (nothing_spelled d fs (subst (λ x. Spells d x fs) s t))
+spells_once d [] fs text names h k (inr s) t = absurd (nonempty_line text [] s)
+spells_once d (e ∷ es) fs text names h k (inl s) t =
+    let fit = All-head EntryFits e es h in
+    let p = spells_cut d (line_text d e.0 e.1) (entries_text d es) fs names.each k (line_is_line d e names.each fit) (subst (λ x. Spells d x fs) (s ∙ first_entry d e es) t) in
+    let fits : All EntryFits (p.0 ∷ p.1) = subst (All EntryFits) p.2 k in
+    let same : e ≡ p.0 = entry_once d e p.0 names fit (All-head EntryFits p.0 p.1 fits) p.3 in
+    let rest : es ≡ p.1 = spells_once d es p.1 (entries_text d es) names (All-tail EntryFits e es h) (All-tail EntryFits p.0 p.1 fits) (inl refl) p.4 in
     let is = p.2 in cc
-spells_once d (e ∷ []) fs text names distinct h k (inr s) t =
-    let fit = All-head (EntryFits d) e [] h in
+spells_once d (e ∷ []) fs text names h k (inr s) t =
+    let fit = All-head EntryFits e [] h in
     let is : text ≡ line_text d e.0 e.1 = append_cancel_right text (line_text d e.0 e.1) (10 ∷ []) (s ∙ first_entry d e []) in
-    last_once d e fs names distinct fit k (subst (λ x. Spells d x fs) is t)
-spells_once d (e ∷ (g ∷ es)) fs text names distinct h k (inr s) t =
-    let fit = All-head (EntryFits d) e (g ∷ es) h in
+    last_once d e fs names fit k (subst (λ x. Spells d x fs) is t)
+spells_once d (e ∷ (g ∷ es)) fs text names h k (inr s) t =
+    let fit = All-head EntryFits e (g ∷ es) h in
     let q = ends_in_feed d g es in
     let regroup : line_text d e.0 e.1 ++ 10 ∷ (q.0 ++ 10 ∷ []) ≡ (line_text d e.0 e.1 ++ 10 ∷ q.0) ++ 10 ∷ [] = sym (append_assoc (line_text d e.0 e.1) (10 ∷ q.0) (10 ∷ [])) in
     let cut : text ≡ line_text d e.0 e.1 ++ 10 ∷ q.0 = append_cancel_right text (line_text d e.0 e.1 ++ 10 ∷ q.0) (10 ∷ []) (s ∙ first_entry d e (g ∷ es) ∙ ap (λ x. line_text d e.0 e.1 ++ 10 ∷ x) q.1 ∙ regroup) in
-    let p = spells_cut d (line_text d e.0 e.1) q.0 fs names k (line_is_line d e names fit) (subst (λ x. Spells d x fs) cut t) in
-    let fits : All (EntryFits d) (p.0 ∷ p.1) = subst (All (EntryFits d)) p.2 k in
-    let same : e ≡ p.0 = entry_once d e p.0 distinct fit (All-head (EntryFits d) p.0 p.1 fits) p.3 in
-    let rest : g ∷ es ≡ p.1 = spells_once d (g ∷ es) p.1 q.0 names distinct (All-tail (EntryFits d) e (g ∷ es) h) (All-tail (EntryFits d) p.0 p.1 fits) (inr (sym q.1)) p.4 in
+    let p = spells_cut d (line_text d e.0 e.1) q.0 fs names.each k (line_is_line d e names.each fit) (subst (λ x. Spells d x fs) cut t) in
+    let fits : All EntryFits (p.0 ∷ p.1) = subst (All EntryFits) p.2 k in
+    let same : e ≡ p.0 = entry_once d e p.0 names fit (All-head EntryFits p.0 p.1 fits) p.3 in
+    let rest : g ∷ es ≡ p.1 = spells_once d (g ∷ es) p.1 q.0 names (All-tail EntryFits e (g ∷ es) h) (All-tail EntryFits p.0 p.1 fits) (inr (sym q.1)) p.4 in
     let is = p.2 in cc
 
 -- any attempts of a text are these
 pub one_reading : (d : Declaration) (text : List ℕ) (es : List Entry) → AreDistinctNames (operation_names d) → IsAttemptsText d text es → (fs : List Entry) → IsAttemptsText d text fs → fs ≡ es
-one_reading d text es names t fs u = spells_once d fs es text names.each names.distinct u.fits t.fits u.spelled t.spelled
+one_reading d text es names t fs u = spells_once d fs es text names u.fits t.fits u.spelled t.spelled

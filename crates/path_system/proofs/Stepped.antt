@@ -15,52 +15,51 @@ use Rattle.path_model.specs.declared.journal.Activation.{Activation}
 use Rattle.path_model.specs.Declarations.{Declaration, Resource, paths_of}
 use Rattle.path_model.specs.declared.resource.Law.TheVariants.{Cell}
 use Rattle.path_model.specs.Journals.{activation_of}
-use Rattle.path_model.proofs.HonestJournals.{line_of}
-use Rattle.path_model.proofs.Progress.{room_kept, begun_lines}
+use Rattle.path_model.proofs.CallerLemmas.{line_of, each_honest_journal_has_room, begun_lines}
 use Rattle.path_system.specs.Accounts.{opening_contents}
 use Rattle.path_decl.specs.Lawful.{Lawful}
 use Rattle.path_ledger.specs.Ledgers.{Book}
-use Rattle.path_system.specs.Parts.{Parts, AreOpened, MovesStart, MovesUse, MovesFinish, Moves, has_room, Answers, AreTrueTo}
+use Rattle.path_system.specs.Parts.{PartsValue, AreOpened, MovesStart, MovesUse, MovesFinish, Moves, has_room, Answers, AreTrueTo}
 use Rattle.path_system.proofs.Answered.{taken_is}
 use Rattle.path_system.proofs.Written.{true_line, stays}
 
 -- no attempt changes the declaration
-kept_by_start : (old new : Parts) (w : ℕ) (a : OpId) (reply : Reply) → MovesStart old w a reply new → new.declaration ≡ old.declaration
+kept_by_start : (old new : PartsValue) (w : ℕ) (a : OpId) (reply : Reply) → MovesStart old w a reply new → new.declaration ≡ old.declaration
 kept_by_start old new w a (Started n) m = m.declaration
-kept_by_start old new w a (Blocked p) m = ap (λ (p : Parts). p.declaration) m.1
-kept_by_start old new w a UnknownOperation m = ap (λ (p : Parts). p.declaration) m.1
+kept_by_start old new w a (Blocked p) m = ap (λ (p : PartsValue). p.declaration) m.1
+kept_by_start old new w a UnknownOperation m = ap (λ (p : PartsValue). p.declaration) m.1
 kept_by_start old new w a reply m = absurd m
 
-kept_by_use : (old new : Parts) (w : ℕ) (verb : Verb) (o : Option Activation) (reply : Reply) → MovesUse old w verb o reply new → new.declaration ≡ old.declaration
-kept_by_use old new w verb None reply m = ap (λ (p : Parts). p.declaration) m.1
+kept_by_use : (old new : PartsValue) (w : ℕ) (verb : Verb) (o : Option Activation) (reply : Reply) → MovesUse old w verb o reply new → new.declaration ≡ old.declaration
+kept_by_use old new w verb None reply m = ap (λ (p : PartsValue). p.declaration) m.1
 kept_by_use old new w verb (Some a) reply m = elim (cases_eq a.worker w) [
-  | inl own ↦ ap (λ (p : Parts). p.declaration) (m.1 own).others
-  | inr other ↦ ap (λ (p : Parts). p.declaration) (m.0 other).1
+  | inl own ↦ ap (λ (p : PartsValue). p.declaration) (m.1 own).others
+  | inr other ↦ ap (λ (p : PartsValue). p.declaration) (m.0 other).1
 ]
 
-kept_by_finish : (old new : Parts) (w : ℕ) (n : ActId) (o : Option Activation) (reply : Reply) → MovesFinish old w n o reply new → new.declaration ≡ old.declaration
-kept_by_finish old new w n None reply m = ap (λ (p : Parts). p.declaration) m.1
+kept_by_finish : (old new : PartsValue) (w : ℕ) (n : ActId) (o : Option Activation) (reply : Reply) → MovesFinish old w n o reply new → new.declaration ≡ old.declaration
+kept_by_finish old new w n None reply m = ap (λ (p : PartsValue). p.declaration) m.1
 kept_by_finish old new w n (Some a) reply m = elim (cases_eq a.worker w) [
   | inl own ↦ (m.1 own).declaration
-  | inr other ↦ ap (λ (p : Parts). p.declaration) (m.0 other).1
+  | inr other ↦ ap (λ (p : PartsValue). p.declaration) (m.0 other).1
 ]
 
-kept_by_move : (old new : Parts) (w : ℕ) (attempt : Attempt) (reply : Reply) → Moves old w attempt reply new → new.declaration ≡ old.declaration
+kept_by_move : (old new : PartsValue) (w : ℕ) (attempt : Attempt) (reply : Reply) → Moves old w attempt reply new → new.declaration ≡ old.declaration
 kept_by_move old new w (Start a) reply m = kept_by_start old new w a reply m
 kept_by_move old new w (Apply n verb) reply m = kept_by_use old new w verb (activation_of n old.book.live) reply m
 kept_by_move old new w (Finish n) reply m = kept_by_finish old new w n (activation_of n old.book.live) reply m
 
-pub declaration_kept : (old new : Parts) (room lines w : ℕ) (attempt : Attempt) (reply : Reply) → Answers old room lines w attempt reply new → new.declaration ≡ old.declaration
+pub declaration_kept : (old new : PartsValue) (room lines w : ℕ) (attempt : Attempt) (reply : Reply) → Answers old room lines w attempt reply new → new.declaration ≡ old.declaration
 declaration_kept old new room lines w attempt reply answers = go _ refl
   where
     go : (has : Bool) → has_room room lines old.book.live w attempt ≡ has → new.declaration ≡ old.declaration
     go true is = kept_by_move old new w attempt reply (answers.inside is)
-    go false is = ap (λ (p : Parts). p.declaration) ((answers.outside is).1)
+    go false is = ap (λ (p : PartsValue). p.declaration) ((answers.outside is).1)
 
-module _ (old : Parts) (room : ℕ) (journal : List Line) (s : AreTrueTo old room (opening_contents old.declaration) journal) where
+module _ (old : PartsValue) (room : ℕ) (journal : List Line) (s : AreTrueTo old room (opening_contents old.declaration) journal) where
   -- the lines and the finishes to come have room
   pub fits : length journal + length old.book.live ≤ room
-  fits = let k = room_kept old.declaration room (opening_contents old.declaration) journal s.honest in let l = taken_is old room (opening_contents old.declaration) journal s in omega (arith, k, l)
+  fits = let k = each_honest_journal_has_room old.declaration room (opening_contents old.declaration) journal s.honest in let l = taken_is old room (opening_contents old.declaration) journal s in omega (arith, k, l)
 
   pub begun_few : old.book.begun ≤ length journal
   begun_few = let k = begun_lines journal in let l = s.begun in omega (arith, k, l)
@@ -68,7 +67,7 @@ module _ (old : Parts) (room : ℕ) (journal : List Line) (s : AreTrueTo old roo
   pub admitted_few : old.standing.admitted ≤ length journal
   admitted_few = let k = begun_lines journal in let l = s.admitted in omega (arith, k, l)
 
-  module _ (new : Parts) (w : ℕ) (attempt : Attempt) (reply : Reply) (answers : Answers old room (length journal) w attempt reply new) where
+  module _ (new : PartsValue) (w : ℕ) (attempt : Attempt) (reply : Reply) (answers : Answers old room (length journal) w attempt reply new) where
     -- one line more
     pub true_more : reply ≢ NoRoom → AreTrueTo new room (opening_contents new.declaration) (journal ++ line_of w attempt reply ∷ [])
     true_more some =
@@ -83,7 +82,7 @@ module _ (old : Parts) (room : ℕ) (journal : List Line) (s : AreTrueTo old roo
     pub place_left : reply ≢ NoRoom → length journal < room
     place_left some =
         let t = true_more some in
-        let k = room_kept new.declaration room (opening_contents new.declaration) (journal ++ line_of w attempt reply ∷ []) t.honest in
+        let k = each_honest_journal_has_room new.declaration room (opening_contents new.declaration) (journal ++ line_of w attempt reply ∷ []) t.honest in
         let l = length-append journal (line_of w attempt reply ∷ []) in
         omega (arith, k, l)
 
@@ -93,7 +92,7 @@ one_number xs x zero is h = absurd (omega arith)
 one_number xs x (suc place) is h = ap (λ ys. slice_get ys (suc place)) is
 
 -- the parts before any attempt are what the empty journal tells
-pub true_opened : (parts : Parts) (d : Declaration) (room : ℕ) → AreOpened parts d room → AreTrueTo parts room (opening_contents parts.declaration) []
+pub true_opened : (parts : PartsValue) (d : Declaration) (room : ℕ) → AreOpened parts d room → AreTrueTo parts room (opening_contents parts.declaration) []
 true_opened parts d room o = record {
   lawful = subst Lawful (sym o.declaration) o.lawful;
   honest = tt;

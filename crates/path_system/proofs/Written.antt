@@ -21,15 +21,13 @@ use Rattle.path_model.specs.Devices.{serves, outcome_of, contents_left}
 use Rattle.path_model.specs.Journals.{IsQuiet, activation_of, admitted_history, without, with_line}
 use Rattle.path_model.specs.Contents.{contents_after, line_applied, verb_applied}
 use Rattle.path_model.specs.Honest.{IsHonest}
-use Rattle.path_model.proofs.JournalLists.{begun_more, begun_quiet, live_quiet, history_quiet, contents_more, quiet_use, quiet_reply}
-use Rattle.path_model.proofs.HonestJournals.{line_of, honest_more, live_started, live_finished, live_found}
-use Rattle.path_model.proofs.Progress.{history_started, history_finished}
+use Rattle.path_model.proofs.CallerLemmas.{begun_more, begun_quiet, live_quiet, history_quiet, contents_more, quiet_use, quiet_reply, line_of, honest_more, live_started, live_finished, live_found, history_started, history_finished}
 use Rattle.path_gate.specs.Standings.{IsAt}
 use Rattle.path_ledger.specs.Ledgers.{Book}
-use Rattle.path_system.specs.Parts.{Parts, Acts, IsStarted, IsOver, MovesStart, MovesUse, MovesFinish, Moves, has_room, Answers, AreTrueTo}
+use Rattle.path_system.specs.Parts.{PartsValue, Acts, IsStarted, IsOver, MovesStart, MovesUse, MovesFinish, Moves, has_room, Answers, AreTrueTo}
 use Rattle.path_system.proofs.Answered.{owed_is, found_live, law_is, resource_in}
 
-module _ (old : Parts) (room : ℕ) (openings : List (List ℕ)) (journal : List Line) (s : AreTrueTo old room openings journal) where
+module _ (old : PartsValue) (room : ℕ) (openings : List (List ℕ)) (journal : List Line) (s : AreTrueTo old room openings journal) where
   -- a line that moves nothing
   true_quiet : (w : ℕ) (attempt : Attempt) (reply : Reply) → IsQuiet w attempt reply
       → ((r : ℕ) → line_applied old.declaration r journal attempt reply (contents_after old.declaration openings journal r) ≡ contents_after old.declaration openings journal r)
@@ -49,7 +47,7 @@ module _ (old : Parts) (room : ℕ) (openings : List (List ℕ)) (journal : List
   }
 
   -- a start that was admitted
-  true_started : (w : ℕ) (a : OpId) (n : ActId) (new : Parts) → IsStarted old w a n new
+  true_started : (w : ℕ) (a : OpId) (n : ActId) (new : PartsValue) → IsStarted old w a n new
       → IsHonest old.declaration room openings (journal ++ line_of w (Start a) (Started n) ∷ []) → AreTrueTo new room openings (journal ++ line_of w (Start a) (Started n) ∷ [])
   true_started w a n new m honest =
       let line : Line = line_of w (Start a) (Started n) in
@@ -71,7 +69,7 @@ module _ (old : Parts) (room : ℕ) (openings : List (List ℕ)) (journal : List
       })
 
   -- a finish of one's own live activation
-  true_over : (w : ℕ) (n : ActId) (a : Activation) (reply : Reply) (new : Parts) → activation_of n old.book.live ≡ Some a → IsOver old n a reply new
+  true_over : (w : ℕ) (n : ActId) (a : Activation) (reply : Reply) (new : PartsValue) → activation_of n old.book.live ≡ Some a → IsOver old n a reply new
       → IsHonest old.declaration room openings (journal ++ line_of w (Finish n) Finished ∷ []) → AreTrueTo new room openings (journal ++ line_of w (Finish n) Finished ∷ [])
   true_over w n a reply new is m honest =
       let line : Line = line_of w (Finish n) Finished in
@@ -183,7 +181,7 @@ module _ (old : Parts) (room : ℕ) (openings : List (List ℕ)) (journal : List
   true_acted w n (Add y) a reply left is acts honest = as_refused w n (Add y) a reply left is acts.1 acts.0 honest
 
   -- a line that refuses
-  true_still_line : (w : ℕ) (attempt : Attempt) (reply : Reply) (told : Reply) (new : Parts) → reply ≡ told → new ≡ old
+  true_still_line : (w : ℕ) (attempt : Attempt) (reply : Reply) (told : Reply) (new : PartsValue) → reply ≡ told → new ≡ old
       → (IsHonest old.declaration room openings (journal ++ line_of w attempt told ∷ []) → AreTrueTo old room openings (journal ++ line_of w attempt told ∷ []))
       → IsHonest old.declaration room openings (journal ++ line_of w attempt reply ∷ []) → AreTrueTo new room openings (journal ++ line_of w attempt reply ∷ [])
   true_still_line w attempt reply told new is same quiet honest =
@@ -192,7 +190,7 @@ module _ (old : Parts) (room : ℕ) (openings : List (List ℕ)) (journal : List
       (quiet (subst (λ y. IsHonest old.declaration room openings (journal ++ line_of w attempt y ∷ [])) is honest)))
 
   -- a start
-  true_start : (w : ℕ) (a : OpId) (reply : Reply) (new : Parts) → MovesStart old w a reply new
+  true_start : (w : ℕ) (a : OpId) (reply : Reply) (new : PartsValue) → MovesStart old w a reply new
       → IsHonest old.declaration room openings (journal ++ line_of w (Start a) reply ∷ []) → AreTrueTo new room openings (journal ++ line_of w (Start a) reply ∷ [])
   true_start w a (Started n) new m honest = true_started w a n new m honest
   true_start w a (Blocked p) new m honest =
@@ -203,7 +201,7 @@ module _ (old : Parts) (room : ℕ) (openings : List (List ℕ)) (journal : List
   true_start w a reply new m honest = absurd m
 
   -- a use
-  true_use : (w : ℕ) (n : ActId) (verb : Verb) (o : Option Activation) (reply : Reply) (new : Parts) → activation_of n old.book.live ≡ o → MovesUse old w verb o reply new
+  true_use : (w : ℕ) (n : ActId) (verb : Verb) (o : Option Activation) (reply : Reply) (new : PartsValue) → activation_of n old.book.live ≡ o → MovesUse old w verb o reply new
       → IsHonest old.declaration room openings (journal ++ line_of w (Apply n verb) reply ∷ []) → AreTrueTo new room openings (journal ++ line_of w (Apply n verb) reply ∷ [])
   true_use w n verb None reply new is m honest =
       true_still_line w (Apply n verb) reply Stale new m.0 m.1 (true_quiet w (Apply n verb) Stale (quiet_use w n verb Stale) (λ r. refl)) honest
@@ -213,7 +211,7 @@ module _ (old : Parts) (room : ℕ) (openings : List (List ℕ)) (journal : List
   ]
 
   -- a finish
-  true_finish : (w : ℕ) (n : ActId) (o : Option Activation) (reply : Reply) (new : Parts) → activation_of n old.book.live ≡ o → MovesFinish old w n o reply new
+  true_finish : (w : ℕ) (n : ActId) (o : Option Activation) (reply : Reply) (new : PartsValue) → activation_of n old.book.live ≡ o → MovesFinish old w n o reply new
       → IsHonest old.declaration room openings (journal ++ line_of w (Finish n) reply ∷ []) → AreTrueTo new room openings (journal ++ line_of w (Finish n) reply ∷ [])
   true_finish w n None reply new is m honest =
       true_still_line w (Finish n) reply Stale new m.0 m.1 (true_quiet w (Finish n) Stale (quiet_reply w (Finish n) Stale (λ k e. cc) (λ e. cc)) (λ r. refl)) honest
@@ -223,14 +221,14 @@ module _ (old : Parts) (room : ℕ) (openings : List (List ℕ)) (journal : List
     | inr other ↦ true_still_line w (Finish n) reply NotYours new (m.0 other).0 (m.0 other).1 (true_quiet w (Finish n) NotYours (quiet_reply w (Finish n) NotYours (λ k e. cc) (λ e. cc)) (λ r. refl)) honest
   ]
 
-  true_moved : (w : ℕ) (attempt : Attempt) (reply : Reply) (new : Parts) → Moves old w attempt reply new
+  true_moved : (w : ℕ) (attempt : Attempt) (reply : Reply) (new : PartsValue) → Moves old w attempt reply new
       → IsHonest old.declaration room openings (journal ++ line_of w attempt reply ∷ []) → AreTrueTo new room openings (journal ++ line_of w attempt reply ∷ [])
   true_moved w (Start a) reply new m honest = true_start w a reply new m honest
   true_moved w (Apply n verb) reply new m honest = true_use w n verb (activation_of n old.book.live) reply new refl m honest
   true_moved w (Finish n) reply new m honest = true_finish w n (activation_of n old.book.live) reply new refl m honest
 
   -- with a line
-  pub true_line : (w : ℕ) (attempt : Attempt) (reply : Reply) (new : Parts) → Answers old room (length journal) w attempt reply new → reply ≢ NoRoom
+  pub true_line : (w : ℕ) (attempt : Attempt) (reply : Reply) (new : PartsValue) → Answers old room (length journal) w attempt reply new → reply ≢ NoRoom
       → AreTrueTo new room openings (journal ++ line_of w attempt reply ∷ [])
   true_line w attempt reply new answers some = go _ refl
     where
@@ -253,32 +251,32 @@ plain_acted Look before left reply acts = plain_along reply _ acts.0 (record { n
 plain_acted Take before left reply acts = plain_along reply _ acts.0 (record { no_room = λ e. cc; not_failed = λ e. cc })
 plain_acted (Add y) before left reply acts = plain_along reply _ acts.0 (record { no_room = λ e. cc; not_failed = λ e. cc })
 
-plain_start : (old new : Parts) (w : ℕ) (a : OpId) (reply : Reply) → MovesStart old w a reply new → IsPlain reply
+plain_start : (old new : PartsValue) (w : ℕ) (a : OpId) (reply : Reply) → MovesStart old w a reply new → IsPlain reply
 plain_start old new w a (Started n) m = record { no_room = λ e. cc; not_failed = λ e. cc }
 plain_start old new w a (Blocked p) m = record { no_room = λ e. cc; not_failed = λ e. cc }
 plain_start old new w a UnknownOperation m = record { no_room = λ e. cc; not_failed = λ e. cc }
 plain_start old new w a reply m = absurd m
 
-plain_use : (old new : Parts) (w : ℕ) (verb : Verb) (o : Option Activation) (reply : Reply) → MovesUse old w verb o reply new → IsPlain reply
+plain_use : (old new : PartsValue) (w : ℕ) (verb : Verb) (o : Option Activation) (reply : Reply) → MovesUse old w verb o reply new → IsPlain reply
 plain_use old new w verb None reply m = plain_along reply Stale m.0 (record { no_room = λ e. cc; not_failed = λ e. cc })
 plain_use old new w verb (Some a) reply m = elim (cases_eq a.worker w) [
   | inl own ↦ plain_acted verb _ _ reply (m.1 own).acts
   | inr other ↦ plain_along reply NotYours (m.0 other).0 (record { no_room = λ e. cc; not_failed = λ e. cc })
 ]
 
-plain_finish : (old new : Parts) (w : ℕ) (n : ActId) (o : Option Activation) (reply : Reply) → MovesFinish old w n o reply new → IsPlain reply
+plain_finish : (old new : PartsValue) (w : ℕ) (n : ActId) (o : Option Activation) (reply : Reply) → MovesFinish old w n o reply new → IsPlain reply
 plain_finish old new w n None reply m = plain_along reply Stale m.0 (record { no_room = λ e. cc; not_failed = λ e. cc })
 plain_finish old new w n (Some a) reply m = elim (cases_eq a.worker w) [
   | inl own ↦ plain_along reply Finished (m.1 own).told (record { no_room = λ e. cc; not_failed = λ e. cc })
   | inr other ↦ plain_along reply NotYours (m.0 other).0 (record { no_room = λ e. cc; not_failed = λ e. cc })
 ]
 
-plain_moved : (old new : Parts) (w : ℕ) (attempt : Attempt) (reply : Reply) → Moves old w attempt reply new → IsPlain reply
+plain_moved : (old new : PartsValue) (w : ℕ) (attempt : Attempt) (reply : Reply) → Moves old w attempt reply new → IsPlain reply
 plain_moved old new w (Start a) reply m = plain_start old new w a reply m
 plain_moved old new w (Apply n verb) reply m = plain_use old new w verb (activation_of n old.book.live) reply m
 plain_moved old new w (Finish n) reply m = plain_finish old new w n (activation_of n old.book.live) reply m
 
-module _ (old new : Parts) (room lines w : ℕ) (attempt : Attempt) (reply : Reply) (answers : Answers old room lines w attempt reply new) where
+module _ (old new : PartsValue) (room lines w : ℕ) (attempt : Attempt) (reply : Reply) (answers : Answers old room lines w attempt reply new) where
   -- no cell fails
   pub never_failed : reply ≢ DeviceFailed
   never_failed failed = go _ refl

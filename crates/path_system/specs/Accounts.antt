@@ -13,3 +13,7 @@ pub record Account : Type 0 where
 -- each resource opens with one number, which is 0
 abbrev pub opening_contents : Declaration → List (List ℕ)
 opening_contents d = map (λ r. 0 ∷ []) d.resources
+
+-- the account of a system that was opened under the declaration
+abbrev pub account_of : Declaration → ℕ → List Line → Account
+account_of d room journal = record { declaration = d; room = room; openings = opening_contents d; journal = journal }

@@ -3,7 +3,7 @@ use Rattle.std.specs.Prelude.{◌≡◌, ◌≢◌, ℕ, ◌<◌, ◌^◌, List,
 use Rattle.std.specs.List.{flat_map}
 use Rattle.path_model.specs.declared.journal.Attempt.{Attempt}
 use Rattle.path_model.specs.Declarations.{Declaration}
-use Rattle.path_decl.specs.Names.{IsName}
+use Rattle.path_lex.specs.Names.{IsName}
 use Rattle.path_system.specs.declared.texts.TheConstants.{LIMIT}
 use Rattle.path_system.specs.declared.entry.LineFault.{LineFault}
 use Rattle.path_system.specs.declared.entry.LineFault.TheVariants as line_faults
@@ -17,8 +17,8 @@ abbrev pub Entry : Type 0
 Entry = ℕ × Attempt
 
 -- a worker's number has at most 32 bits
-abbrev pub EntryFits : Declaration → Entry → Type 0
-EntryFits d e = (e.0 < 2 ^ 32) × AttemptFits d e.1
+abbrev pub EntryFits : Entry → Type 0
+EntryFits e = (e.0 < 2 ^ 32) × AttemptFits e.1
 
 -- a line and its line feed
 abbrev pub entry_line : Declaration → Entry → List ℕ
@@ -30,12 +30,16 @@ entries_text d es = flat_map (entry_line d) es
 
 -- the text has these attempts, one a line; the last line feed may be missing
 pub record IsAttemptsText (d : Declaration) (text : List ℕ) (es : List Entry) : Type 0 where
-  pub fits : All (EntryFits d) es
+  pub fits : All EntryFits es
   pub spelled : (text ≡ entries_text d es) ⊎ (text ++ 10 ∷ [] ≡ entries_text d es)
+
+-- the text has no such attempts
+abbrev pub IsNoAttemptsText : Declaration → List ℕ → Type 0
+IsNoAttemptsText d text = (es : List Entry) → IsAttemptsText d text es → ⊥
 
 -- no worker's attempt has this line
 abbrev pub IsNoEntry : Declaration → List ℕ → Type 0
-IsNoEntry d line = (w : ℕ) (a : Attempt) → w < 2 ^ 32 → AttemptFits d a → line ≢ line_text d w a
+IsNoEntry d line = (w : ℕ) (a : Attempt) → w < 2 ^ 32 → AttemptFits a → line ≢ line_text d w a
 
 -- the start of an operation by a name that none has
 pub record StartsUndeclared (d : Declaration) (text : List ℕ) : Type 0 where
@@ -66,12 +70,20 @@ IsLineFault d line line_faults.Undeclared = IsUndeclaredLine d line
 abbrev pub IsFirstLine : List ℕ → List ℕ → Type 0
 IsFirstLine line text = HasNone 10 line × ((text ≡ line) ⊎ ((rest : List ℕ) × (text ≡ line ++ 10 ∷ rest)))
 
+-- the first line of a text is no attempt, and is at fault so
+abbrev pub IsFirstFault : Declaration → List ℕ → LineFault → Type 0
+IsFirstFault d text fault = (line : List ℕ) × IsFirstLine line text × IsNoEntry d line × IsLineFault d line fault
+
+-- behind no attempts does the text go on as a text of attempts
+abbrev pub IsNoRest : Declaration → List ℕ → Type 0
+IsNoRest d text = (before : List Entry) → All EntryFits before → IsNoAttemptsText d (entries_text d before ++ text)
+
 -- behind n lines that are attempts stands this line, which is none
 pub record IsFaultyLine (d : Declaration) (text : List ℕ) (n : ℕ) (line : List ℕ) : Type 0 where
   pub before : List Entry
   pub rest : List ℕ
   pub count : length before ≡ n
-  pub fits : All (EntryFits d) before
+  pub fits : All EntryFits before
   pub parts : text ≡ entries_text d before ++ rest
   pub more : rest ≢ []
   pub first : IsFirstLine line rest

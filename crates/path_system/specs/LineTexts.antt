@@ -1,12 +1,13 @@
 -- The texts of attempts, replies and the lines of a journal. Each value has one text.
-use Rattle.std.specs.Prelude.{ℕ, ◌<◌, ◌^◌, List, ◌∷◌, ◌++◌, length, map, codes, decimal, slice_get, Option, Some, None}
+use Rattle.std.specs.Prelude.{ℕ, ◌<◌, ◌^◌, List, [], ◌∷◌, ◌++◌, map, codes, decimal, slice_get, Option, Some, None}
 use Rattle.path_model.specs.declared.ids.OpId.{OpId}
 use Rattle.path_model.specs.declared.journal.Verb.{Verb}
 use Rattle.path_model.specs.declared.journal.Verb.TheVariants.{Put, Take, Look, Add}
 use Rattle.path_model.specs.declared.journal.Attempt.{Attempt}
 use Rattle.path_model.specs.declared.journal.Attempt.TheVariants.{Start, Apply, Finish}
 use Rattle.path_model.specs.declared.journal.Reply.{Reply}
-use Rattle.path_model.specs.declared.journal.Reply.TheVariants.{Started, Blocked, UnknownOperation, Used, NotOffered, Empty, Full, Overflow, DeviceFailed, Finished, Stale, NotYours, NoRoom}
+use Rattle.path_model.specs.declared.journal.Reply.TheVariants.{Started, Blocked, UnknownOperation, Used, NotOffered, Empty, Full}
+use Rattle.path_model.specs.declared.journal.Reply.TheVariants.{Overflow, DeviceFailed, Finished, Stale, NotYours, NoRoom}
 use Rattle.path_model.specs.declared.journal.Line.{Line}
 use Rattle.path_model.specs.Declarations.{Declaration}
 
@@ -44,6 +45,11 @@ attempt_text d (Finish n) = codes "finish " ++ decimal n.0
 abbrev pub line_text : Declaration → ℕ → Attempt → List ℕ
 line_text d w a = decimal w ++ (32 ∷ attempt_text d a)
 
+-- a number where there is one
+abbrev pub digits : Option ℕ → List ℕ
+digits None = []
+digits (Some n) = decimal n
+
 -- what a worker is told
 abbrev pub reply_text : Reply → List ℕ
 reply_text (Started n) = codes "started " ++ decimal n.0
@@ -71,8 +77,8 @@ VerbFits Take = Unit {0}
 VerbFits Look = Unit {0}
 VerbFits (Add x) = x < 2 ^ 64
 
--- the operation is declared, and each number has at most 64 bits
-abbrev pub AttemptFits : Declaration → Attempt → Type 0
-AttemptFits d (Start a) = a.0 < length d.operations
-AttemptFits d (Apply n verb) = (n.0 < 2 ^ 64) × VerbFits verb
-AttemptFits d (Finish n) = n.0 < 2 ^ 64
+-- the number of an operation has at most 32 bits, each other at most 64
+abbrev pub AttemptFits : Attempt → Type 0
+AttemptFits (Start a) = a.0 < 2 ^ 32
+AttemptFits (Apply n verb) = (n.0 < 2 ^ 64) × VerbFits verb
+AttemptFits (Finish n) = n.0 < 2 ^ 64

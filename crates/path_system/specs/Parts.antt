@@ -22,9 +22,10 @@ use Rattle.path_model.specs.Honest.{IsHonest}
 use Rattle.path_decl.specs.Lawful.{Lawful}
 use Rattle.path_gate.specs.Standings.{Standing, IsNamed, IsAt, Admitted, Released}
 use Rattle.path_ledger.specs.Ledgers.{Book}
+use Rattle.path_system.specs.Accounts.{opening_contents}
 
 -- the declaration, the gate, the ledger, and the number in each cell
-pub record Parts : Type 0 where
+pub record PartsValue : Type 0 where
   pub declaration : Declaration
   pub standing : Standing
   pub book : Book
@@ -36,9 +37,11 @@ Acts (serves x after) reply before left = (reply ≡ Used x) × (after ≡ left 
 Acts (refuses r) reply before left = (reply ≡ r) × (left ≡ before)
 
 -- the start of a is admitted with the number n
-pub record IsStarted (old : Parts) (w : ℕ) (a : OpId) (n : ActId) (new : Parts) : Type 0 where
+pub record IsStarted (old : PartsValue) (w : ℕ) (a : OpId) (n : ActId) (new : PartsValue) : Type 0 where
   pub declared : a.0 < length old.declaration.operations
-  pub admits : (h : List Event) → legal.Legal old.standing.paths h → IsAt old.standing h → legal.Legal old.standing.paths (h ++ Began a ∷ [])
+  pub admits :
+      (h : List Event) → legal.Legal old.standing.paths h → IsAt old.standing h
+      → legal.Legal old.standing.paths (h ++ Began a ∷ [])
   pub number : n.0 ≡ old.book.begun
   pub declaration : new.declaration ≡ old.declaration
   pub standing : Admitted old.standing a new.standing
@@ -46,30 +49,36 @@ pub record IsStarted (old : Parts) (w : ℕ) (a : OpId) (n : ActId) (new : Parts
   pub cells : new.cells ≡ old.cells
 
 -- p is the first path that forbids the start of a
-pub record IsBlocked (old : Parts) (a : OpId) (p : PathId) : Type 0 where
+pub record IsBlocked (old : PartsValue) (a : OpId) (p : PathId) : Type 0 where
   pub declared : a.0 < length old.declaration.operations
-  pub forbids : (h : List Event) → legal.Legal old.standing.paths h → IsAt old.standing h → legal.First (legal.Forbids h a) old.standing.paths p.0
+  pub forbids :
+      (h : List Event) → legal.Legal old.standing.paths h → IsAt old.standing h
+      → legal.First (legal.Forbids h a) old.standing.paths p.0
 
 -- a start of a leads from old parts to new ones with this reply
-abbrev pub MovesStart : Parts → ℕ → OpId → Reply → Parts → Type 0
+abbrev pub MovesStart : PartsValue → ℕ → OpId → Reply → PartsValue → Type 0
 MovesStart old w a (Started n) new = IsStarted old w a n new
 MovesStart old w a (Blocked p) new = IsBlocked old a p × (new ≡ old)
 MovesStart old w a UnknownOperation new = (length old.declaration.operations ≤ a.0) × (new ≡ old)
 MovesStart old w a reply new = ⊥
 
--- the cell of the activation's resource answers
-pub record IsUse (old : Parts) (a : Activation) (verb : Verb) (reply : Reply) (new : Parts) : Type 0 where
+-- the number in the cell of the activation's resource
+abbrev pub held_by : PartsValue → Activation → ℕ
+held_by old a = slice_index old.cells (resource_of old.declaration a.op.0)
+
+-- that cell answers
+pub record IsUse (old : PartsValue) (a : Activation) (verb : Verb) (reply : Reply) (new : PartsValue) : Type 0 where
   pub left : ℕ
-  pub acts : Acts (outcome_of Cell verb (slice_index old.cells (resource_of old.declaration a.op.0) ∷ [])) reply (slice_index old.cells (resource_of old.declaration a.op.0)) left
+  pub acts : Acts (outcome_of Cell verb (held_by old a ∷ [])) reply (held_by old a) left
   pub others : new ≡ record old { cells = slice_set old.cells (resource_of old.declaration a.op.0) left }
 
 -- a use of the activation, if it is live, leads from old parts to new ones with this reply
-abbrev pub MovesUse : Parts → ℕ → Verb → Option Activation → Reply → Parts → Type 0
+abbrev pub MovesUse : PartsValue → ℕ → Verb → Option Activation → Reply → PartsValue → Type 0
 MovesUse old w verb None reply new = (reply ≡ Stale) × (new ≡ old)
 MovesUse old w verb (Some a) reply new = (a.worker ≢ w → (reply ≡ NotYours) × (new ≡ old)) × (a.worker ≡ w → IsUse old a verb reply new)
 
 -- the activation a, whose number is n, is over
-pub record IsOver (old : Parts) (n : ActId) (a : Activation) (reply : Reply) (new : Parts) : Type 0 where
+pub record IsOver (old : PartsValue) (n : ActId) (a : Activation) (reply : Reply) (new : PartsValue) : Type 0 where
   pub told : reply ≡ Finished
   pub declaration : new.declaration ≡ old.declaration
   pub standing : Released old.standing a.op new.standing
@@ -77,12 +86,12 @@ pub record IsOver (old : Parts) (n : ActId) (a : Activation) (reply : Reply) (ne
   pub cells : new.cells ≡ old.cells
 
 -- a finish of the activation of the number n, if it is live, leads from old parts to new ones with this reply
-abbrev pub MovesFinish : Parts → ℕ → ActId → Option Activation → Reply → Parts → Type 0
+abbrev pub MovesFinish : PartsValue → ℕ → ActId → Option Activation → Reply → PartsValue → Type 0
 MovesFinish old w n None reply new = (reply ≡ Stale) × (new ≡ old)
 MovesFinish old w n (Some a) reply new = (a.worker ≢ w → (reply ≡ NotYours) × (new ≡ old)) × (a.worker ≡ w → IsOver old n a reply new)
 
 -- one attempt for which there is room leads from old parts to new ones with this reply
-abbrev pub Moves : Parts → ℕ → Attempt → Reply → Parts → Type 0
+abbrev pub Moves : PartsValue → ℕ → Attempt → Reply → PartsValue → Type 0
 Moves old w (Start a) reply new = MovesStart old w a reply new
 Moves old w (Apply n verb) reply new = MovesUse old w verb (activation_of n old.book.live) reply new
 Moves old w (Finish n) reply new = MovesFinish old w n (activation_of n old.book.live) reply new
@@ -105,22 +114,25 @@ has_place activations w attempt = false
 
 -- whether the attempt finds room after so many lines
 abbrev pub has_room : ℕ → ℕ → List Activation → ℕ → Attempt → Bool
-has_room room lines activations w attempt = nat_le (lines + length activations + wanted_places attempt) room || has_place activations w attempt
+has_room room lines activations w attempt =
+    nat_le (lines + length activations + wanted_places attempt) room || has_place activations w attempt
 
 -- the parts move where there is room, and else stay
-pub record Answers (old : Parts) (room lines w : ℕ) (attempt : Attempt) (reply : Reply) (new : Parts) : Type 0 where
+pub record Answers (old : PartsValue) (room lines w : ℕ) (attempt : Attempt) (reply : Reply) (new : PartsValue) : Type 0 where
   pub inside : has_room room lines old.book.live w attempt ≡ true → Moves old w attempt reply new
   pub outside : has_room room lines old.book.live w attempt ≡ false → (reply ≡ NoRoom) × (new ≡ old)
 
 -- the parts fit one another: what is live was declared, and is in progress where paths name it
-pub record AreReady (parts : Parts) : Type 0 where
+pub record AreReady (parts : PartsValue) : Type 0 where
   pub lawful : Lawful parts.declaration
   pub cells : length parts.cells ≡ length parts.declaration.resources
   pub declared : (n : ActId) (a : Activation) → activation_of n parts.book.live ≡ Some a → a.op.0 < length parts.declaration.operations
-  pub running : (n : ActId) (a : Activation) → activation_of n parts.book.live ≡ Some a → IsNamed parts.standing.paths a.op → 0 < slice_index parts.standing.in_progress a.op.0
+  pub running :
+      (n : ActId) (a : Activation) → activation_of n parts.book.live ≡ Some a → IsNamed parts.standing.paths a.op
+      → 0 < slice_index parts.standing.in_progress a.op.0
 
 -- the parts are what an honest journal tells
-pub record AreTrueTo (parts : Parts) (room : ℕ) (openings : List (List ℕ)) (journal : List Line) : Type 0 where
+pub record AreTrueTo (parts : PartsValue) (room : ℕ) (openings : List (List ℕ)) (journal : List Line) : Type 0 where
   pub lawful : Lawful parts.declaration
   pub honest : IsHonest parts.declaration room openings journal
   pub paths : parts.standing.paths ≡ paths_of parts.declaration
@@ -131,10 +143,17 @@ pub record AreTrueTo (parts : Parts) (room : ℕ) (openings : List (List ℕ)) (
   pub places : parts.book.room ≡ room
   pub declared : All (λ a. a.op.0 < length parts.declaration.operations) parts.book.live
   pub cells : length parts.cells ≡ length parts.declaration.resources
-  pub contents : (r : ℕ) → r < length parts.declaration.resources → contents_after parts.declaration openings journal r ≡ slice_index parts.cells r ∷ []
+  pub contents :
+      (r : ℕ) → r < length parts.declaration.resources
+      → contents_after parts.declaration openings journal r ≡ slice_index parts.cells r ∷ []
+
+-- what always holds of a system: its parts are what its journal tells, and each line has its place
+pub record IsTold (parts : PartsValue) (room : ℕ) (journal : List Line) (places : ℕ) : Type 0 where
+  pub told : AreTrueTo parts room (opening_contents parts.declaration) journal
+  pub reserved : room ≤ places
 
 -- the parts before any attempt
-pub record AreOpened (parts : Parts) (d : Declaration) (room : ℕ) : Type 0 where
+pub record AreOpened (parts : PartsValue) (d : Declaration) (room : ℕ) : Type 0 where
   pub lawful : Lawful d
   pub declaration : parts.declaration ≡ d
   pub paths : parts.standing.paths ≡ paths_of d

@@ -1,14 +1,20 @@
-//! From a line of an attempt text to the worker and the attempt that it tells.
+//! From the first line of a text to the worker and the attempt that it tells.
+//!
+//! Each reader takes a text and answers what it begins with and what follows that, so a line is read in one pass.
 
-ghost use Rattle.std.specs.Prelude.{◌≡◌, ◌≢◌, ◌↔◌, ℕ, ◌<◌, ◌^◌, All, Contains, slice_get, IfSome, IfNone, IfOk, IfErr, OnErr};
+ghost use Rattle.std.specs.Prelude.{◌≡◌, ◌≢◌, ◌↔◌, ℕ, ◌<◌, ◌≤◌, ◌^◌, [], ◌∷◌, ◌++◌, List, decimal, length, All, Contains};
+ghost use Rattle.std.specs.Prelude.{Some, slice_get, IfSome, IfNone, IfOk, IfErr, OnErr, MatchOption};
+ghost use Rattle.path_model.specs.declared.ids.OpId.{OpId};
 ghost use Rattle.path_model.specs.declared.journal.Verb.{Verb};
 ghost use Rattle.path_model.specs.declared.journal.Attempt.{Attempt};
-ghost use Rattle.path_decl.specs.Names.{IsName};
-ghost use Rattle.path_system.specs.LineTexts.{operation_names, verb_text, use_text, attempt_text, line_text, VerbFits, AttemptFits};
-ghost use Rattle.path_system.specs.AttemptTexts.{EntryFits, IsNoEntry, IsAttemptFault, IsLineFault};
+ghost use Rattle.path_lex.specs.Names.{IsName};
+ghost use Rattle.path_fields.specs.Splits.{EndsAt};
+ghost use Rattle.path_system.specs.LineTexts.{operation_names, operation_text, verb_text, use_text, attempt_text, line_text};
+ghost use Rattle.path_system.specs.LineTexts.{VerbFits, AttemptFits};
+ghost use Rattle.path_system.specs.AttemptTexts.{EntryFits, IsAttemptFault, IsFirstLine, IsFirstFault, IsNoRest};
 
-use path_decl::{Decl, is_name, operation};
-use path_fields::{after, cut, number};
+use path_decl::{Decl, counts, is_name, operation};
+use path_fields::{number, strip, until};
 use path_model::{ActId, Attempt, OpId, Verb};
 use std::alloc::Allocator;
 
@@ -21,93 +27,167 @@ pub enum LineFault {
     Undeclared,
 }
 
-/// The verb that the text tells, with its number where it has one.
-fn read_verb(text: &[u8]) -> Option<Verb>
-    ensures some { IfSome result (λ v. (text.now ≡ verb_text v) × VerbFits v) }
-    ensures none { IfNone result ((v : Verb) → VerbFits v → text.now ≢ verb_text v) }
+/// What the first line of a text tells.
+#[derive(Clone, Copy, Debug, PartialEq, Eq)]
+pub struct FirstLine {
+    /// Who attempts it.
+    pub worker: u32,
+    /// What is attempted.
+    pub attempt: Attempt,
+    /// The bytes of the line, without its line feed.
+    pub length: usize,
+}
+
+/// The text itself, where the line ended before it: it is empty or begins with a line feed.
+fn at_end(rest: &[u8]) -> Option<&[u8]>
+    ensures { MatchOption result (EndsAt 10 rest.now → ⊥) (λ same. (same.now ≡ rest.now) × EndsAt 10 same.now) }
 {
-    if text == b"take".as_slice() {
-        return Some(Verb::Take);
+    match rest.first() {
+        None => Some(rest),
+        Some(byte) if *byte == b'\n' => Some(rest),
+        Some(_) => None,
     }
-    if text == b"look".as_slice() {
-        return Some(Verb::Look);
+}
+
+/// A number with which the line ends.
+fn last_number(text: &[u8]) -> Option<(u64, &[u8])>
+    ensures some { IfSome result (λ p. (text.now ≡ decimal p.0 ++ p.1.now) × (p.0 < 2 ^ 64) × EndsAt 10 p.1.now) }
+    ensures none { IfNone result ((n : ℕ) (rest : List ℕ) → n < 2 ^ 64 → EndsAt 10 rest → text.now ≢ decimal n ++ rest) }
+{
+    let (value, rest) = number(text)?;
+    let rest = at_end(rest)?;
+    Some((value, rest))
+}
+
+/// A verb with which the line ends, with its number where it has one.
+fn read_verb(text: &[u8]) -> Option<(Verb, &[u8])>
+    ensures some { IfSome result (λ p. (text.now ≡ verb_text p.0 ++ p.1.now) × VerbFits p.0 × EndsAt 10 p.1.now) }
+    ensures none { IfNone result ((v : Verb) (rest : List ℕ) → VerbFits v → EndsAt 10 rest → text.now ≢ verb_text v ++ rest) }
+{
+    if let Some(rest) = strip(text, b"put ") {
+        let (value, rest) = last_number(rest)?;
+        return Some((Verb::Put(value), rest));
     }
-    if let Some(digits) = after(text, b"put ") {
-        return Some(Verb::Put(number(digits)?));
+    if let Some(rest) = strip(text, b"look") {
+        let rest = at_end(rest)?;
+        return Some((Verb::Look, rest));
     }
-    let digits = after(text, b"add ")?;
-    Some(Verb::Add(number(digits)?))
+    if let Some(rest) = strip(text, b"take") {
+        let rest = at_end(rest)?;
+        return Some((Verb::Take, rest));
+    }
+    let rest = strip(text, b"add ")?;
+    let (value, rest) = last_number(rest)?;
+    Some((Verb::Add(value), rest))
 }
 
 /// Which activation is used, and how.
-fn read_use(text: &[u8]) -> Option<(ActId, Verb)>
-    ensures some { IfSome result (λ p. (text.now ≡ use_text p.0.0 p.1) × (p.0.0 < 2 ^ 64) × VerbFits p.1) }
-    ensures none { IfNone result ((n : ℕ) (v : Verb) → n < 2 ^ 64 → VerbFits v → text.now ≢ use_text n v) }
+fn read_use(text: &[u8]) -> Option<(ActId, Verb, &[u8])>
+    ensures some { IfSome result (λ p. (text.now ≡ use_text p.0.0 p.1 ++ p.2.now) × (p.0.0 < 2 ^ 64) × VerbFits p.1 × EndsAt 10 p.2.now) }
+    ensures none { IfNone result ((n : ℕ) (v : Verb) (r : List ℕ) → n < 2 ^ 64 → VerbFits v → EndsAt 10 r → text.now ≢ use_text n v ++ r) }
 {
-    let (digits, rest) = cut(text, b' ')?;
-    let act = number(digits)?;
-    let verb = read_verb(rest)?;
-    Some((ActId(act), verb))
+    let (act, rest) = number(text)?;
+    let rest = strip(rest, b" ")?;
+    let (verb, rest) = read_verb(rest)?;
+    Some((ActId(act), verb, rest))
 }
 
-/// The operation of this name.
-fn read_operation<A: Allocator + Copy>(decl: &Decl<A>, name: &[u8]) -> Result<OpId, LineFault>
-    requires { All IsName (operation_names decl.now) }
-    ensures ok { IfOk result (λ a. slice_get (operation_names decl.now) a.0 ≡ Some name.now) }
-    ensures err { OnErr result (Contains (operation_names decl.now) name.now → ⊥) }
-    ensures fault { IfErr result (λ f. f ≡ LineFault.Undeclared ↔ IsName name.now) }
+/// The operation whose number stands behind `#`. It is none of the declared ones, of which there are so many.
+fn undeclared(text: &[u8], operations: u32) -> Option<OpId>
+    ensures some { IfSome result (λ a. (text.now ≡ 35 ∷ decimal a.0) × (operations ≤ a.0) × (a.0 < 2 ^ 32)) }
+    ensures none { IfNone result ((n : ℕ) → operations ≤ n → n < 2 ^ 32 → text.now ≢ 35 ∷ decimal n) }
 {
-    let Ok(text) = std::str::from_utf8(name) else {
-        return Err(LineFault::Bad);
-    };
-    match operation(decl, text) {
+    let digits = strip(text, b"#")?;
+    let (value, rest) = number(digits)?;
+    if !rest.is_empty() {
+        return None;
+    }
+    let value = u32::try_from(value).ok()?;
+    if value < operations {
+        return None;
+    }
+    Some(OpId(value))
+}
+
+/// The operation with this name. Names are ASCII, so nothing else is looked up.
+fn declared<A: Allocator + Copy>(decl: &Decl<A>, name: &[u8]) -> Option<OpId>
+    ensures some { IfSome result (λ a. slice_get (operation_names decl.now.declaration) a.0 ≡ Some name.now) }
+    ensures none { IfNone result (Contains (operation_names decl.now.declaration) name.now → ⊥) }
+{
+    if !name.is_ascii() {
+        return None;
+    }
+    let name = unsafe { std::str::from_utf8_unchecked(name) };
+    operation(decl, name)
+}
+
+/// The operation with this name or, where none has it, with the number behind `#`.
+fn read_operation<A: Allocator + Copy>(decl: &Decl<A>, text: &[u8]) -> Result<OpId, LineFault>
+    ensures ok { IfOk result (λ a. (text.now ≡ operation_text decl.now.declaration a) × (a.0 < 2 ^ 32)) }
+    ensures err { OnErr result ((a : OpId) → a.0 < 2 ^ 32 → text.now ≢ operation_text decl.now.declaration a) }
+    ensures unnamed { OnErr result (Contains (operation_names decl.now.declaration) text.now → ⊥) }
+    ensures fault { IfErr result (λ f. f ≡ LineFault.Undeclared ↔ IsName text.now) }
+{
+    if let Some(op) = declared(decl, text) {
+        return Ok(op);
+    }
+    let operations = counts(decl).operations;
+    match undeclared(text, operations) {
         Some(op) => Ok(op),
-        None if is_name(name) => Err(LineFault::Undeclared),
+        None if is_name(text) => Err(LineFault::Undeclared),
         None => Err(LineFault::Bad),
     }
 }
 
-/// What stands behind the worker's number.
-fn read_attempt<A: Allocator + Copy>(decl: &Decl<A>, text: &[u8]) -> Result<Attempt, LineFault>
-    requires { All IsName (operation_names decl.now) }
-    ensures ok { IfOk result (λ a. (text.now ≡ attempt_text decl.now a) × AttemptFits decl.now a) }
-    ensures err { OnErr result ((a : Attempt) → AttemptFits decl.now a → text.now ≢ attempt_text decl.now a) }
-    ensures fault { IfErr result (λ f. IsAttemptFault decl.now text.now f) }
-{
-    if let Some(name) = after(text, b"start ") {
-        let op = read_operation(decl, name)?;
-        return Ok(Attempt::Start(op));
-    }
-    if let Some(digits) = after(text, b"finish ") {
-        let act = number(digits).ok_or(LineFault::Bad)?;
-        return Ok(Attempt::Finish(ActId(act)));
-    }
-    let rest = after(text, b"use ").ok_or(LineFault::Bad)?;
-    let (act, verb) = read_use(rest).ok_or(LineFault::Bad)?;
-    Ok(Attempt::Apply(act, verb))
-}
-
-/// The worker and the attempt that a line without its line feed tells. A fault says why it tells none. One pass over
-/// the line and one look-up of a name; takes no memory.
-pub fn read_entry<A: Allocator + Copy>(
+/// What stands behind the worker's number, to the end of the line.
+fn read_attempt<'a, A: Allocator + Copy>(
     decl: &Decl<A>,
-    line: &[u8],
-) -> Result<(u32, Attempt), LineFault>
-    // The names of operations are names, as they are in each declaration.
-    requires { All IsName (operation_names decl.now) }
-    ensures ok { IfOk result (λ e. (line.now ≡ line_text decl.now e.0 e.1) × EntryFits decl.now e) }
-    ensures err { OnErr result (IsNoEntry decl.now line.now) }
-    ensures fault { IfErr result (λ f. IsLineFault decl.now line.now f) }
+    text: &'a [u8],
+) -> Result<(Attempt, &'a [u8]), LineFault>
+    ensures ok { IfOk result (λ p. (text.now ≡ attempt_text decl.now.declaration p.0 ++ p.1.now) × AttemptFits p.0 × EndsAt 10 p.1.now) }
+    ensures err { OnErr result ((a : Attempt) (r : List ℕ) → AttemptFits a → EndsAt 10 r → text.now ≢ attempt_text decl.now.declaration a ++ r) }
+    ensures fault { IfErr result (λ f. (line : List ℕ) → IsFirstLine line text.now → IsAttemptFault decl.now.declaration line f) }
 {
-    let Some((digits, rest)) = cut(line, b' ') else {
+    if let Some(rest) = strip(text, b"use ") {
+        let (act, verb, rest) = read_use(rest).ok_or(LineFault::Bad)?;
+        return Ok((Attempt::Apply(act, verb), rest));
+    }
+    if let Some(rest) = strip(text, b"finish ") {
+        let (act, rest) = last_number(rest).ok_or(LineFault::Bad)?;
+        return Ok((Attempt::Finish(ActId(act)), rest));
+    }
+    let Some(rest) = strip(text, b"start ") else {
         return Err(LineFault::Bad);
     };
-    let Some(worker) = number(digits) else {
+    let (name, rest) = until(rest, b'\n');
+    let op = read_operation(decl, name)?;
+    Ok((Attempt::Start(op), rest))
+}
+
+/// The worker and the attempt that the first line of a text tells, and the length of that line. The line ends at its
+/// line feed or at the end of the text; an empty text has an empty first line, which is bad. A fault says why the line
+/// tells no attempt. One pass over the line and one look-up of a name; takes no memory.
+pub fn first_entry<A: Allocator + Copy>(decl: &Decl<A>, text: &[u8]) -> Result<FirstLine, LineFault>
+    ensures line { IfOk result (λ f. IsFirstLine (line_text decl.now.declaration f.worker f.attempt) text.now) }
+    ensures fits { IfOk result (λ f. EntryFits (f.worker, f.attempt)) }
+    ensures length { IfOk result (λ f. f.length ≡ length (line_text decl.now.declaration f.worker f.attempt)) }
+    ensures err { IfErr result (λ fault. IsFirstFault decl.now.declaration text.now fault) }
+    // No attempts in front of such a text make it a text of attempts.
+    ensures none { OnErr result (text.now ≢ [] → IsNoRest decl.now.declaration text.now) }
+{
+    let Some((worker, rest)) = number(text) else {
         return Err(LineFault::Bad);
     };
     let Ok(worker) = u32::try_from(worker) else {
         return Err(LineFault::Bad);
     };
-    let attempt = read_attempt(decl, rest)?;
-    Ok((worker, attempt))
+    let Some(rest) = strip(rest, b" ") else {
+        return Err(LineFault::Bad);
+    };
+    let (attempt, rest) = read_attempt(decl, rest)?;
+    Ok(FirstLine {
+        worker,
+        attempt,
+        length: text.len() - rest.len(),
+    })
 }

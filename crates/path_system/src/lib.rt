@@ -7,6 +7,7 @@ mod parts;
 mod system;
 mod texts;
 
-pub use lines::{push_line, write_line};
-pub use system::{OpenFault, System};
-pub use texts::{LIMIT, TextFault, read_attempts};
+pub use entry::{FirstLine, LineFault, first_entry};
+pub use lines::{push_line, push_reply, write_line};
+pub use system::{MOST_LINES, OpenFault, System};
+pub use texts::{LIMIT, TextFault, fault_at, read_attempts};

@@ -2,8 +2,10 @@
 
 ghost use Rattle.std.specs.Prelude.{◌≡◌, ◌++◌, ◌∷◌, IfOk, OnOk};
 ghost use Rattle.std.specs.String.{string_bytes};
-ghost use Rattle.path_system.specs.LineTexts.{verb_text, operation_text, use_text, attempt_text, line_text, reply_text, journal_line_text};
+ghost use Rattle.path_system.specs.LineTexts.{verb_text, operation_text, use_text, attempt_text, line_text};
+ghost use Rattle.path_system.specs.LineTexts.{digits, reply_text, journal_line_text};
 
+use itoa::Buffer;
 use path_decl::{Decl, op_name};
 use path_model::{ActId, Attempt, Line, OpId, OutOfMemory, Reply, Verb};
 use std::alloc::Allocator;
@@ -27,7 +29,7 @@ fn push_operation<A: Allocator + Copy, B: Allocator + Copy>(
     decl: &Decl<B>,
     op: OpId,
 ) -> Result<(), OutOfMemory>
-    ensures { OnOk result (string_bytes out.new ≡ string_bytes out.old ++ operation_text decl.now op) }
+    ensures { OnOk result (string_bytes out.new ≡ string_bytes out.old ++ operation_text decl.now.declaration op) }
 {
     match op_name(decl, op) {
         Some(name) => out.push_str(name)?,
@@ -45,7 +47,7 @@ fn push_attempt<A: Allocator + Copy, B: Allocator + Copy>(
     decl: &Decl<B>,
     attempt: Attempt,
 ) -> Result<(), OutOfMemory>
-    ensures { OnOk result (string_bytes out.new ≡ string_bytes out.old ++ attempt_text decl.now attempt) }
+    ensures { OnOk result (string_bytes out.new ≡ string_bytes out.old ++ attempt_text decl.now.declaration attempt) }
 {
     match attempt {
         Attempt::Start(op) => {
@@ -61,30 +63,52 @@ fn push_attempt<A: Allocator + Copy, B: Allocator + Copy>(
     Ok(())
 }
 
-/// Appends a reply, with its number where it has one.
-fn push_reply<A: Allocator + Copy>(out: &mut String<A>, reply: Reply) -> Result<(), OutOfMemory>
-    ensures { OnOk result (string_bytes out.new ≡ string_bytes out.old ++ reply_text reply) }
+/// The words of a reply, up to its number where it has one, and that number.
+fn spelled(reply: Reply) -> (&'static str, Option<u64>)
+    ensures { reply_text reply ≡ result.0.now ++ digits result.1 }
 {
     match reply {
-        Reply::Started(act) => {
-            let number = act.0;
-            write!(out, "started {number}")?;
-        }
-        Reply::Blocked(path) => {
-            let number = path.0;
-            write!(out, "blocked {number}")?;
-        }
-        Reply::UnknownOperation => out.push_str("unknown operation")?,
-        Reply::Used(answer) => write!(out, "used {answer}")?,
-        Reply::NotOffered => out.push_str("not offered")?,
-        Reply::Empty => out.push_str("empty")?,
-        Reply::Full => out.push_str("full")?,
-        Reply::Overflow => out.push_str("overflow")?,
-        Reply::DeviceFailed => out.push_str("device failed")?,
-        Reply::Finished => out.push_str("finished")?,
-        Reply::Stale => out.push_str("stale")?,
-        Reply::NotYours => out.push_str("not yours")?,
-        Reply::NoRoom => out.push_str("no room")?,
+        Reply::Started(act) => ("started ", Some(act.0)),
+        Reply::Blocked(path) => ("blocked ", Some(u64::from(path.0))),
+        Reply::UnknownOperation => ("unknown operation", None),
+        Reply::Used(answer) => ("used ", Some(answer)),
+        Reply::NotOffered => ("not offered", None),
+        Reply::Empty => ("empty", None),
+        Reply::Full => ("full", None),
+        Reply::Overflow => ("overflow", None),
+        Reply::DeviceFailed => ("device failed", None),
+        Reply::Finished => ("finished", None),
+        Reply::Stale => ("stale", None),
+        Reply::NotYours => ("not yours", None),
+        Reply::NoRoom => ("no room", None),
+    }
+}
+
+/// Appends the text of a reply, with its number where it has one. Where memory is wanting, a front of the text may have
+/// been appended. Grows the list only where its capacity doesn't suffice.
+pub fn push_reply<A: Allocator + Copy>(
+    out: &mut Vec<u8, A>,
+    reply: Reply,
+) -> Result<(), OutOfMemory>
+    ensures { OnOk result (out.new.items ≡ out.old.items ++ reply_text reply) }
+{
+    let (words, number) = spelled(reply);
+    out.extend_from_slice(words.as_bytes())?;
+    if let Some(number) = number {
+        let mut buffer = Buffer::new();
+        out.extend_from_slice(buffer.format(number).as_bytes())?;
+    }
+    Ok(())
+}
+
+/// Appends the text of a reply to a text.
+fn push_answer<A: Allocator + Copy>(out: &mut String<A>, reply: Reply) -> Result<(), OutOfMemory>
+    ensures { OnOk result (string_bytes out.new ≡ string_bytes out.old ++ reply_text reply) }
+{
+    let (words, number) = spelled(reply);
+    out.push_str(words)?;
+    if let Some(number) = number {
+        write!(out, "{number}")?;
     }
     Ok(())
 }
@@ -97,13 +121,13 @@ pub fn push_line<A: Allocator + Copy, B: Allocator + Copy>(
     decl: &Decl<B>,
     line: &Line,
 ) -> Result<(), OutOfMemory>
-    ensures { OnOk result (string_bytes out.new ≡ string_bytes out.old ++ journal_line_text decl.now line.now) }
+    ensures { OnOk result (string_bytes out.new ≡ string_bytes out.old ++ journal_line_text decl.now.declaration line.now) }
 {
     let worker = line.worker;
     write!(out, "{worker} ")?;
     push_attempt(out, decl, line.attempt)?;
     out.push_str(": ")?;
-    push_reply(out, line.reply)
+    push_answer(out, line.reply)
 }
 
 /// The text of a line without a line feed: the attempt, `: ` and the reply. Refused only for want of memory.
@@ -112,7 +136,7 @@ pub fn write_line<A: Allocator + Copy, B: Allocator + Copy>(
     decl: &Decl<B>,
     line: &Line,
 ) -> Result<String<A>, OutOfMemory>
-    ensures { IfOk result (λ text. string_bytes text ≡ journal_line_text decl.now line.now) }
+    ensures { IfOk result (λ text. string_bytes text ≡ journal_line_text decl.now.declaration line.now) }
 {
     let mut text = String::new(alloc);
     push_line(&mut text, decl, line)?;

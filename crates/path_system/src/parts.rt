@@ -5,35 +5,35 @@ ghost use Rattle.path_model.specs.declared.resource.Law.TheVariants.{Cell};
 ghost use Rattle.path_model.specs.Declarations as declarations;
 ghost use Rattle.path_model.specs.Devices.{outcome_of};
 ghost use Rattle.path_model.specs.Journals.{activation_of};
-ghost use Rattle.path_system.specs.Parts.{Acts, Answers, AreOpened, AreReady, MovesFinish, MovesStart, MovesUse, is_own_of};
+ghost use Rattle.path_system.specs.Parts.{Acts, Answers, AreOpened, AreReady, MovesFinish, MovesStart, MovesUse};
 
 use path_decl::{Decl, counts, resource_of};
 use path_gate::Gate;
-use path_ledger::Ledger;
+use path_ledger::{EndFault, Ledger};
 use path_model::{ActId, Attempt, OpId, OutOfMemory, Reply, ResId, Verb};
 use std::alloc::{Allocator, Global};
 use std::marker::Model;
 
 /// The declaration, the gate, the ledger, and the number in the cell of each resource.
 #[derive(Drop)]
-pub struct Core<A: Allocator + Copy = Global> {
+pub struct Parts<A: Allocator + Copy = Global> {
     decl: Decl<A>,
     gate: Gate<A>,
     ledger: Ledger<A>,
     cells: Vec<u64, A>,
 }
 
-impl<A: Allocator + Copy> Model for Core<A> {
+impl<A: Allocator + Copy> Model for Parts<A> {
     ghost use Rattle.std.specs.Coded.{codes};
     ghost use Rattle.path_decl.specs.Stored.{declaration_code};
     ghost use Rattle.path_gate.specs.Standings.{standing_code};
-    ghost use Rattle.path_system.specs.Parts.{Parts};
+    ghost use Rattle.path_system.specs.Parts.{PartsValue};
 
-    ghost Value = { Parts };
+    ghost Value = { PartsValue };
 
     ghost coded = { Prim.hlevel (codes, declaration_code, standing_code) };
 
-    ghost view = { λ c. record { declaration = c.decl; standing = c.gate; book = c.ledger; cells = c.cells.items } };
+    ghost view = { λ p. record { declaration = p.decl.declaration; standing = p.gate; book = p.ledger; cells = p.cells.items } };
 }
 
 /// What a cell answers to a verb.
@@ -53,23 +53,23 @@ fn act_on(cell: &mut u64, verb: Verb) -> Reply
 
 /// The resource of a declared operation.
 fn resource_at<A: Allocator + Copy>(decl: &Decl<A>, op: OpId) -> ResId
-    requires { op.0 < length decl.now.operations }
-    ensures { result.0 ≡ declarations.resource_of decl.now op.0 }
+    requires { op.0 < length decl.now.declaration.operations }
+    ensures { result.0 ≡ declarations.resource_of decl.now.declaration op.0 }
 {
     resource_of(decl, op).unwrap()
 }
 
-impl<A: Allocator + Copy> Core<A> {
+impl<A: Allocator + Copy> Parts<A> {
     /// The parts before any attempt: the gate at the empty history, nothing live, 0 in each cell. All places are taken
     /// now. The only error is want of memory.
-    pub fn open(alloc: A, decl: Decl<A>, room: u32) -> Result<Core<A>, OutOfMemory>
-        ensures { IfOk result (λ core. AreOpened core decl room) }
+    pub fn open(alloc: A, decl: Decl<A>, room: u32) -> Result<Parts<A>, OutOfMemory>
+        ensures { IfOk result (λ parts. AreOpened parts decl.declaration room) }
     {
         let resources = counts(&decl).resources as usize;
         let gate = Gate::open(alloc, &decl)?;
         let ledger = Ledger::with_room(alloc, room)?;
         let cells = vec![in alloc; 0; resources]?;
-        Ok(Core {
+        Ok(Parts {
             decl,
             gate,
             ledger,
@@ -79,7 +79,7 @@ impl<A: Allocator + Copy> Core<A> {
 
     /// The declaration.
     pub fn decl(&self) -> &Decl<A>
-        ensures { result.now ≡ self.now.declaration }
+        ensures { result.now.declaration ≡ self.now.declaration }
     {
         &self.decl
     }
@@ -90,16 +90,6 @@ impl<A: Allocator + Copy> Core<A> {
         ensures { result ≡ slice_index self.now.cells resource.0 }
     {
         self.cells[resource.0 as usize]
-    }
-
-    /// Whether the activation is live and the worker's own.
-    fn is_own(&self, worker: u32, act: ActId) -> bool
-        ensures { result ≡ is_own_of worker (activation_of act self.now.book.live) }
-    {
-        match self.ledger.find(act) {
-            None => false,
-            Some(activation) => activation.worker == worker,
-        }
     }
 
     /// A start, which there is room for.
@@ -135,25 +125,23 @@ impl<A: Allocator + Copy> Core<A> {
         }
     }
 
-    /// A finish, which there is room for or which needs none.
+    /// A finish, which there is room for or which needs none. The activation is looked for once.
     fn finish(&mut self, worker: u32, act: ActId) -> Reply
         requires { AreReady self.old }
         ensures { MovesFinish self.old worker act (activation_of act self.old.book.live) result self.new }
     {
-        match self.ledger.find(act) {
-            None => Reply::Stale,
-            Some(activation) => {
-                if activation.worker != worker {
-                    return Reply::NotYours;
-                }
-                let _ = self.ledger.end(act);
+        match self.ledger.end_own(worker, act) {
+            Err(EndFault::Stale) => Reply::Stale,
+            Err(EndFault::NotYours) => Reply::NotYours,
+            Ok(activation) => {
                 self.gate.release(activation.op);
                 Reply::Finished
             }
         }
     }
 
-    /// One attempt after so many lines, in a journal of this room. It takes no memory.
+    /// One attempt after so many lines, in a journal of this room. It takes no memory. A use or a finish looks for its
+    /// activation once.
     pub fn answer(&mut self, room: u32, lines: usize, worker: u32, attempt: Attempt) -> Reply
         requires ready { AreReady self.old }
         requires few { lines + length self.old.book.live ≤ room }
@@ -180,8 +168,9 @@ impl<A: Allocator + Copy> Core<A> {
                 }
             }
             Attempt::Finish(act) => {
-                if taken + 1 <= room || self.is_own(worker, act) {
-                    self.finish(worker, act)
+                let reply = self.finish(worker, act);
+                if taken + 1 <= room || matches!(reply, Reply::Finished) {
+                    reply
                 } else {
                     Reply::NoRoom
                 }

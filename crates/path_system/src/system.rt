@@ -2,14 +2,14 @@
 
 ghost use Rattle.std.specs.Prelude.{◌≡◌, ◌≢◌, ◌↔◌, ◌+◌, ◌<◌, ◌≤◌, [], ◌∷◌, ◌⊎◌, IsTrue, IsErrOf, IfOk, length, slice_get};
 ghost use Rattle.path_system.specs.declared.system.OpenFault.TheVariants as faults;
-ghost use Rattle.path_system.specs.Accounts.{opening_contents};
+ghost use Rattle.path_system.specs.Accounts.{account_of};
 ghost use Rattle.path_model.specs.declared.journal.Reply.TheVariants as replies;
 ghost use Rattle.path_model.specs.Journals.{with_line};
 ghost use Rattle.path_model.specs.Contents.{contents_after};
 ghost use Rattle.path_model.specs.Owed.{Owed, taken};
 ghost use Rattle.path_model.specs.Honest.{IsHonest};
 
-use crate::parts::Core;
+use crate::parts::Parts;
 use path_decl::Decl;
 use path_model::{Attempt, Line, OutOfMemory, Reply, ResId};
 use std::alloc::{AllocError, Allocator, Global};
@@ -17,12 +17,12 @@ use std::marker::Model;
 use thiserror::Error;
 
 /// The most lines that a journal may have room for.
-const MOST_LINES: u32 = 65536;
+pub const MOST_LINES: u32 = 1048576;
 
 /// Why a system can't be opened.
 #[derive(Clone, Copy, Debug, PartialEq, Eq, Error)]
 pub enum OpenFault {
-    /// The room is 0 or above 65,536 lines.
+    /// The room is 0 or above 1,048,576 lines.
     #[error("bad room")]
     BadRoom,
     /// A growth of memory was refused.
@@ -50,25 +50,25 @@ impl From<AllocError> for OpenFault {
 /// Contracts see the declaration, the room, the opening contents and the journal: all else follows from these.
 #[derive(Drop)]
 pub struct System<A: Allocator + Copy = Global> {
-    core: Core<A>,
+    parts: Parts<A>,
     journal: Vec<Line, A>,
     room: u32,
 }
 
 impl<A: Allocator + Copy> Model for System<A> {
-    ghost use Rattle.std.specs.Prelude.{◌≤◌, vec_capacity};
+    ghost use Rattle.std.specs.Prelude.{vec_capacity};
     ghost use Rattle.std.specs.Coded.{codes};
     ghost use Rattle.path_decl.specs.Stored.{declaration_code};
-    ghost use Rattle.path_system.specs.Accounts.{Account, opening_contents};
-    ghost use Rattle.path_system.specs.Parts.{AreTrueTo};
+    ghost use Rattle.path_system.specs.Accounts.{Account, account_of};
+    ghost use Rattle.path_system.specs.Parts.{IsTold};
 
     ghost Value = { Account };
 
     ghost coded = { Prim.hlevel (codes, declaration_code) };
 
-    ghost view = { λ s. record { declaration = s.core.declaration; room = s.room; openings = opening_contents s.core.declaration; journal = s.journal.items } };
+    ghost view = { λ s. account_of s.parts.declaration s.room s.journal.items };
 
-    ghost invariant = { λ s. record { told : AreTrueTo s.core s.room (opening_contents s.core.declaration) s.journal.items; reserved : s.room ≤ vec_capacity s.journal } };
+    ghost invariant = { λ s. IsTold s.parts s.room s.journal.items (vec_capacity s.journal) };
 }
 
 fn is_no_room(reply: Reply) -> bool
@@ -79,19 +79,20 @@ fn is_no_room(reply: Reply) -> bool
 
 impl<A: Allocator + Copy> System<A> {
     /// A system of this declaration, in which each resource contains the number 0 and nothing was attempted. Its
-    /// journal has room for so many lines, 1 to 65,536; any other number is a bad room. All places are taken now, so no
-    /// later call wants memory. The cost is that of [`Gate::open`](crate::gate::Gate::open) and of the room.
+    /// journal has room for so many lines, 1 to [`MOST_LINES`]; it is a `BadRoom` exactly where the number is another. All
+    /// places are taken now, so no later call wants memory. On a refusal the declaration is given up. The cost is that of
+    /// [`Gate::open`](path_gate::Gate::open), and of the places of so many lines and activations.
     pub fn open(alloc: A, decl: Decl<A>, room: u32) -> Result<System<A>, OpenFault>
         ensures bad_room { IsErrOf result faults.BadRoom ↔ ((room ≡ 0) ⊎ (MOST_LINES < room)) }
-        ensures ok { IfOk result (λ system. system ≡ record { declaration = decl; room = room; openings = opening_contents decl; journal = [] }) }
+        ensures ok { IfOk result (λ system. system ≡ account_of decl.declaration room []) }
     {
         if room == 0 || room > MOST_LINES {
             return Err(OpenFault::BadRoom);
         }
-        let core = Core::open(alloc, decl, room)?;
+        let parts = Parts::open(alloc, decl, room)?;
         let journal = Vec::with_capacity(alloc, room as usize)?;
         Ok(System {
-            core,
+            parts,
             journal,
             room,
         })
@@ -108,7 +109,7 @@ impl<A: Allocator + Copy> System<A> {
         ensures never_failed { result ≢ replies.DeviceFailed }
     {
         let reply = self
-            .core
+            .parts
             .answer(self.room, self.journal.len(), worker, attempt);
         if !is_no_room(reply) {
             self.journal.push_reserved(Line {
@@ -132,9 +133,9 @@ impl<A: Allocator + Copy> System<A> {
 
     /// The declaration under which the system was opened.
     pub fn decl(&self) -> &Decl<A>
-        ensures { result.now ≡ self.now.declaration }
+        ensures { result.now.declaration ≡ self.now.declaration }
     {
-        self.core.decl()
+        self.parts.decl()
     }
 
     /// The number at a place of what a resource contains; `None` past the end. The resource is declared.
@@ -142,7 +143,7 @@ impl<A: Allocator + Copy> System<A> {
         requires { resource.0 < length self.now.declaration.resources }
         ensures { result ≡ slice_get (contents_after self.now.declaration self.now.openings self.now.journal resource.0) place }
     {
-        let number = self.core.number_in(resource);
+        let number = self.parts.number_in(resource);
         if place == 0 { Some(number) } else { None }
     }
 }

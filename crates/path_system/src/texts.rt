@@ -1,12 +1,11 @@
 //! Texts of attempts, one a line.
 
-ghost use Rattle.std.specs.Prelude.{◌≡◌, ◌≢◌, ◌<◌, ◌↔◌, ℕ, List, length, IfOk, IfErr, OnErr, IsErrOf};
+ghost use Rattle.std.specs.Prelude.{◌≡◌, ◌≢◌, ◌<◌, ◌↔◌, ◌+◌, ◌≤◌, ℕ, List, length, drop, IfOk, IfErr, OnErr, IsErrOf};
 ghost use Rattle.path_system.specs.declared.texts.TextFault.TheVariants.{OutOfMemory};
-ghost use Rattle.path_system.specs.AttemptTexts.{Entry, IsAttemptsText, IsTextFault, fault_of};
+ghost use Rattle.path_system.specs.AttemptTexts.{Entry, IsAttemptsText, IsNoAttemptsText, IsTextFault, fault_of};
 
-use crate::entry::{LineFault, read_entry};
-use path_decl::{Decl, counts};
-use path_fields::cut;
+use crate::entry::{LineFault, first_entry};
+use path_decl::Decl;
 use path_model::Attempt;
 use std::alloc::{AllocError, AllocFailed, Allocator};
 use thiserror::Error;
@@ -53,8 +52,16 @@ fn lines_at_most(text: &[u8]) -> usize {
     ends.min(text.len() / 10) + 1
 }
 
+/// What follows a line of this length and its line feed, which the last line of a text may lack.
+fn after_line(text: &[u8], line: usize) -> &[u8]
+    requires { line ≤ length text.now }
+    ensures { result.now ≡ drop (line + 1) text.now }
+{
+    text.get(line + 1..).unwrap_or(&[])
+}
+
 /// The text fault of a line's fault.
-fn fault_at(line: u32, fault: LineFault) -> TextFault
+pub fn fault_at(line: u32, fault: LineFault) -> TextFault
     ensures { result ≡ fault_of line fault }
 {
     match fault {
@@ -71,33 +78,27 @@ pub fn read_attempts<A: Allocator + Copy, B: Allocator + Copy>(
     decl: &Decl<A>,
     text: &[u8],
 ) -> Result<Vec<(u32, Attempt), B>, TextFault>
-    ensures ok { IfOk result (λ v. IsAttemptsText decl.now text.now v.items) }
+    ensures ok { IfOk result (λ v. IsAttemptsText decl.now.declaration text.now v.items) }
     // A text tells one list.
-    ensures one { IfOk result (λ v. (es : List Entry) → IsAttemptsText decl.now text.now es → es ≡ v.items) }
-    ensures err { IfErr result (λ e. IsTextFault decl.now text.now e) }
+    ensures one { IfOk result (λ v. (es : List Entry) → IsAttemptsText decl.now.declaration text.now es → es ≡ v.items) }
+    ensures err { IfErr result (λ e. IsTextFault decl.now.declaration text.now e) }
     ensures too_long { IsErrOf result TextFault.TooLong ↔ (LIMIT < length text.now) }
     // What is refused, but for its length or want of memory, is the text of no attempts.
-    ensures none { IfErr result (λ e. e ≢ TextFault.TooLong → e ≢ TextFault.OutOfMemory → (es : List Entry) → IsAttemptsText decl.now text.now es → ⊥) }
+    ensures none { IfErr result (λ e. e ≢ TextFault.TooLong → e ≢ TextFault.OutOfMemory → IsNoAttemptsText decl.now.declaration text.now) }
 {
     if text.len() > LIMIT {
         return Err(TextFault::TooLong);
     }
-    let _names = counts(decl);
     let mut entries = Vec::with_capacity(alloc, lines_at_most(text))?;
     let mut rest = text;
-    while let Some((line, after)) = cut(rest, b'\n') {
-        match read_entry(decl, line) {
-            Ok(entry) => entries.push(entry)?,
+    while !rest.is_empty() {
+        match first_entry(decl, rest) {
+            Ok(line) => {
+                entries.push((line.worker, line.attempt))?;
+                rest = after_line(rest, line.length);
+            }
             Err(fault) => return Err(fault_at(entries.len() as u32, fault)),
         }
-        rest = after;
-    }
-    if rest.is_empty() {
-        return Ok(entries);
-    }
-    match read_entry(decl, rest) {
-        Ok(entry) => entries.push(entry)?,
-        Err(fault) => return Err(fault_at(entries.len() as u32, fault)),
     }
     Ok(entries)
 }

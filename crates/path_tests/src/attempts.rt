@@ -1,8 +1,8 @@
 //! Texts of attempts.
 
 use path_decl::read;
-use path_model::{ActId, Attempt, OpId, Verb};
-use path_system::{TextFault, read_attempts};
+use path_model::{ActId, Attempt, Line, OpId, Reply, Verb};
+use path_system::{FirstLine, LineFault, TextFault, fault_at, first_entry, read_attempts, write_line};
 use refusing::Refusing;
 use std::test::Fail;
 
@@ -27,6 +27,146 @@ fn reads_each_form(rt: HostRuntime) {
         panic!(rt; "refused");
     };
     assert_eq!(rt; entries.as_slice(), want.as_slice());
+}
+
+/// What a line tells, and nothing of what follows it.
+#[test]
+fn reads_the_first_line(rt: HostRuntime) {
+    let Ok(decl) = read(rt.alloc(), DECLARATION) else {
+        panic!(rt; "no declaration");
+    };
+    let rows = [
+        ("1 start b\n2 start a\n", 1, Attempt::Start(OpId(1)), 9),
+        ("4294967295 start #2", u32::MAX, Attempt::Start(OpId(2)), 19),
+        ("1 start #256\n", 1, Attempt::Start(OpId(256)), 12),
+        ("1 start #4294967295\nx", 1, Attempt::Start(OpId(u32::MAX)), 19),
+        ("0 use 0 put 0\n", 0, Attempt::Apply(ActId(0), Verb::Put(0)), 13),
+        ("0 use 1 take\n\n", 0, Attempt::Apply(ActId(1), Verb::Take), 12),
+        ("0 use 1 look", 0, Attempt::Apply(ActId(1), Verb::Look), 12),
+        (
+            "0 use 18446744073709551615 add 18446744073709551615\n",
+            0,
+            Attempt::Apply(ActId(u64::MAX), Verb::Add(u64::MAX)),
+            51,
+        ),
+        ("7 finish 10\n", 7, Attempt::Finish(ActId(10)), 11),
+    ];
+    for (text, worker, attempt, length) in rows {
+        let want = FirstLine {
+            worker,
+            attempt,
+            length,
+        };
+        assert_eq!(rt; first_entry(&decl, text.as_bytes()), Ok(want), "at {text}");
+    }
+}
+
+/// The declaration has the operations 0 and 1.
+#[test]
+fn names_the_fault_of_the_first_line(rt: HostRuntime) {
+    let Ok(decl) = read(rt.alloc(), DECLARATION) else {
+        panic!(rt; "no declaration");
+    };
+    let bad = [
+        "",
+        "\n1 start a",
+        "1",
+        "1 ",
+        "1 start",
+        "1 start ",
+        "1 start  a",
+        "1  start a",
+        " 1 start a",
+        "1 start a ",
+        "1 start a\r\n",
+        "1 start a b",
+        "1 start #",
+        "1 start #0",
+        "1 start #1",
+        "1 start #02",
+        "1 start #2 ",
+        "1 start ##2",
+        "1 start 2",
+        "1 start #4294967296",
+        "1 start path",
+        "1 start abcdefghijklmnopqrstuvwxyzabcdefg",
+        "1 start \u{e9}",
+        "4294967296 start a",
+        "01 start a",
+        "x start c",
+        "1 Start a",
+        "1 use 0",
+        "1 use 0 ",
+        "1 use 00 look",
+        "1 use 0 look ",
+        "1 use 0 put",
+        "1 use 0 put ",
+        "1 use 0 put 01",
+        "1 use 0 put 18446744073709551616",
+        "1 use 0 drop 1",
+        "1 finish",
+        "1 finish ",
+        "1 finish #0",
+        "1 finish 0 ",
+        "%",
+    ];
+    for text in bad {
+        assert_eq!(rt; first_entry(&decl, text.as_bytes()), Err(LineFault::Bad), "at {text:?}");
+    }
+    let undeclared = [
+        "1 start c",
+        "1 start c\n1 start a\n",
+        "1 start A",
+        "1 start abcdefghijklmnopqrstuvwxyzabcdef",
+    ];
+    for text in undeclared {
+        assert_eq!(rt; first_entry(&decl, text.as_bytes()), Err(LineFault::Undeclared), "at {text:?}");
+    }
+    assert_eq!(rt; fault_at(3, LineFault::Bad), TextFault::BadLine(3));
+    assert_eq!(rt; fault_at(3, LineFault::Undeclared), TextFault::Undeclared(3));
+}
+
+/// An operation that isn't declared is read by its number, and written so again.
+#[test]
+fn numbers_of_operations_are_written_back(rt: HostRuntime) {
+    let Ok(decl) = read(rt.alloc(), DECLARATION) else {
+        panic!(rt; "no declaration");
+    };
+    let Ok(first) = first_entry(&decl, b"1 start #256") else {
+        panic!(rt; "refused");
+    };
+    let line = Line {
+        worker: first.worker,
+        attempt: first.attempt,
+        reply: Reply::UnknownOperation,
+    };
+    let Ok(text) = write_line(rt.alloc(), &decl, &line) else {
+        panic!(rt; "no memory");
+    };
+    assert_eq!(rt; text.as_str(), "1 start #256: unknown operation");
+}
+
+/// The first line that is none is named, by its place.
+#[test]
+fn names_the_first_faulty_line(rt: HostRuntime) {
+    let Ok(decl) = read(rt.alloc(), DECLARATION) else {
+        panic!(rt; "no declaration");
+    };
+    let rows = [
+        ("1 start a\n\n", TextFault::BadLine(1)),
+        ("1 start a\n1 start c\n1 start #0\n", TextFault::Undeclared(1)),
+        ("1 start a\n1 start #2\n1 start #1", TextFault::BadLine(2)),
+        ("\n", TextFault::BadLine(0)),
+    ];
+    for (text, want) in rows {
+        match read_attempts(rt.alloc(), &decl, text.as_bytes()) {
+            Ok(_) => panic!(rt; "taken: {text:?}"),
+            Err(fault) => assert_eq!(rt; fault, want, "at {text:?}"),
+        }
+    }
+    for text in ["", "1 start #2", "1 start #2\n"] {
+        assert!(rt; read_attempts(rt.alloc(), &decl, text.as_bytes()).is_ok(), "at {text:?}");
+    }
 }
 
 #[test]

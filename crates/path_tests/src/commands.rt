@@ -1,10 +1,10 @@
 //! Both parts from bytes to bytes: what is printed and traced, and each refusal with its status.
 
-use path_commands::{check_to, trace_bytes};
+use crate::writers::{Failing, Full};
+use path_commands::{ROOM, Status, check_to, trace_bytes};
 use refusing::Refusing;
 use std::alloc::Global;
-use std::io;
-use std::io::Write;
+use std::io::ErrorKind;
 use std::process::Abort;
 
 const SLOT: &[u8] = b"resource slot cell operation deposit, remove path deposit ; remove end end";
@@ -13,40 +13,27 @@ const ATTEMPTS: &[u8] =
     b"1 start deposit\n2 start remove\n1 use 0 put 7\n1 finish 0\n2 start remove\n2 use 1 look";
 
 const TRACE: &[u8] =
-    b"1 start deposit: started 0\n2 start remove: blocked 0\n1 use 0 put 7: used 0\n1 finish 0: finished\n2 start remove: started 1\n2 use 1 look: used 7\n";
-
-/// A writer that takes nothing.
-#[derive(Drop)]
-struct Broken;
-
-impl Write for Broken {
-    fn write(&mut self, _buf: &[u8]) -> io::Result<usize> {
-        Err(io::Error::from(io::ErrorKind::Other))
-    }
-
-    fn flush(&mut self) -> io::Result<()> {
-        Ok(())
-    }
-}
+    b"1 start deposit: started 0\n2 start remove: blocked 0\n1 use 0 put 7: used 0\n\
+      1 finish 0: finished\n2 start remove: started 1\n2 use 1 look: used 7\n";
 
 // A trace ends with this status, after writing this, and having said that.
 fn traces(
     rt: &impl Abort,
     heap: Global,
     texts: (&[u8], &[u8]),
-    status: u8,
+    status: Status,
     written: &[u8],
     said: &[u8],
 ) {
     let mut out: Vec<u8> = Vec::new(heap);
     let mut err: Vec<u8> = Vec::new(heap);
-    let ended = trace_bytes(heap, texts.0, texts.1, &mut out, &mut err);
+    let ended = trace_bytes(heap, texts.0, ROOM, texts.1, &mut out, &mut err);
     assert_eq!(rt; ended, status);
     assert_eq!(rt; out.as_slice(), written);
     assert_eq!(rt; err.as_slice(), said);
 }
 
-fn checks(rt: &impl Abort, heap: Global, text: &[u8], status: u8, written: &[u8], said: &[u8]) {
+fn checks(rt: &impl Abort, heap: Global, text: &[u8], status: Status, written: &[u8], said: &[u8]) {
     let mut out: Vec<u8> = Vec::new(heap);
     let mut err: Vec<u8> = Vec::new(heap);
     let ended = check_to(heap, text, &mut out, &mut err);
@@ -57,8 +44,8 @@ fn checks(rt: &impl Abort, heap: Global, text: &[u8], status: u8, written: &[u8]
 
 #[test]
 fn slot(rt: HostRuntime) {
-    traces(&rt, rt.alloc(), (SLOT, ATTEMPTS), 0, TRACE, b"");
-    traces(&rt, rt.alloc(), (SLOT, b""), 0, b"", b"");
+    traces(&rt, rt.alloc(), (SLOT, ATTEMPTS), Status::Done, TRACE, b"");
+    traces(&rt, rt.alloc(), (SLOT, b""), Status::Done, b"", b"");
 }
 
 #[test]
@@ -68,7 +55,7 @@ fn the_first_cause_counts(rt: HostRuntime) {
         &rt,
         heap,
         (b"", b"x"),
-        1,
+        Status::DeclarationRefused,
         b"",
         b"declaration: unexpected at 0\n",
     );
@@ -76,7 +63,7 @@ fn the_first_cause_counts(rt: HostRuntime) {
         &rt,
         heap,
         (b"resource _r", b""),
-        1,
+        Status::DeclarationRefused,
         b"",
         b"declaration: bad byte at 9\n",
     );
@@ -84,7 +71,7 @@ fn the_first_cause_counts(rt: HostRuntime) {
         &rt,
         heap,
         (SLOT, b"1 start deposit\n01 start deposit"),
-        4,
+        Status::TextRefused,
         b"",
         b"text: bad line 1\n",
     );
@@ -92,7 +79,7 @@ fn the_first_cause_counts(rt: HostRuntime) {
         &rt,
         heap,
         (SLOT, b"1 start insert"),
-        4,
+        Status::TextRefused,
         b"",
         b"text: undeclared in line 0\n",
     );
@@ -102,67 +89,92 @@ fn the_first_cause_counts(rt: HostRuntime) {
 fn other_trees(rt: HostRuntime) {
     let text = b"resource r cell operation a, b, c path a ; b ; c end path a ; ( b ; c ) end end";
     let printed = b"resource r cell operation a, b, c path a; b; c end path a; ( b; c ) end end\n";
-    checks(&rt, rt.alloc(), text, 0, printed, b"");
+    checks(&rt, rt.alloc(), text, Status::Done, printed, b"");
     let twice = b"resource r cell operation a, a end";
     checks(
         &rt,
         rt.alloc(),
         twice,
-        1,
+        Status::DeclarationRefused,
         b"",
         b"declaration: duplicate operation at 29\n",
     );
 }
 
 #[test]
-fn a_broken_writer(rt: HostRuntime) {
+fn a_full_writer(rt: HostRuntime) {
+    let heap = rt.alloc();
+    let mut err: Vec<u8> = Vec::new(heap);
+    assert_eq!(rt;
+        check_to(heap, SLOT, &mut Full, &mut err),
+        Status::StreamFailed
+    );
+    assert_eq!(rt; err.as_slice(), b"output: cannot write\n".as_slice());
+}
+
+#[test]
+fn a_fault_that_cannot_be_told(rt: HostRuntime) {
     let heap = rt.alloc();
     let mut out: Vec<u8> = Vec::new(heap);
+    assert_eq!(rt;
+        check_to(heap, b"", &mut out, &mut Full),
+        Status::StreamFailed
+    );
+    assert_eq!(rt;
+        trace_bytes(heap, b"", ROOM, b"", &mut out, &mut Full),
+        Status::StreamFailed
+    );
+    assert!(rt; out.is_empty());
+}
+
+#[test]
+fn a_print_that_wants_memory(rt: HostRuntime) {
+    let heap = rt.alloc();
+    let mut out = Failing::new(heap, 3, ErrorKind::OutOfMemory);
     let mut err: Vec<u8> = Vec::new(heap);
-    assert_eq!(rt; trace_bytes(heap, SLOT, ATTEMPTS, &mut Broken, &mut err), 3);
-    assert_eq!(rt; check_to(heap, SLOT, &mut Broken, &mut err), 3);
-    let said = b"output: cannot write\noutput: cannot write\n";
-    assert_eq!(rt; err.as_slice(), said.as_slice());
-    assert_eq!(rt; trace_bytes(heap, b"", b"", &mut out, &mut Broken), 3);
-    assert_eq!(rt; check_to(heap, b"", &mut out, &mut Broken), 3);
+    assert_eq!(rt; check_to(heap, SLOT, &mut out, &mut err), Status::NoMemory);
+    assert_eq!(rt; out.bytes.as_slice(), b"resource slot c".as_slice());
+    assert_eq!(rt; err.as_slice(), b"out of memory\n".as_slice());
 }
 
-// The status is 6 and a front of the trace was written, until the trace passes.
-#[test]
-fn each_request_of_a_trace_is_refused(rt: HostRuntime) {
-    let heap = rt.alloc();
-    for number in 1..200u64 {
-        let refusing = Refusing::new(heap, number);
-        let mut out: Vec<u8> = Vec::new(heap);
-        let mut err: Vec<u8> = Vec::new(heap);
-        let status = trace_bytes(&refusing, SLOT, ATTEMPTS, &mut out, &mut err);
-        if status == 0 {
-            assert!(rt; !refusing.has_refused());
-            assert_eq!(rt; out.as_slice(), TRACE);
-            return;
-        }
-        assert!(rt; refusing.has_refused());
-        assert_eq!(rt; status, 6);
-        assert!(rt; TRACE.starts_with(out.as_slice()));
+// Whether the request of this number was made and refused; the status then says so, and nothing was written.
+fn trace_is_refused_at(rt: &impl Abort, heap: Global, number: u64) -> bool {
+    let refusing = Refusing::new(heap, number);
+    let mut out: Vec<u8> = Vec::new(heap);
+    let mut err: Vec<u8> = Vec::new(heap);
+    let status = trace_bytes(&refusing, SLOT, ROOM, ATTEMPTS, &mut out, &mut err);
+    if !refusing.has_refused() {
+        return false;
     }
-    panic!(rt; "never passed");
+    assert_eq!(rt; status, Status::NoMemory, "at {number}");
+    assert!(rt; out.is_empty());
+    true
+}
+
+// The same of a check.
+fn check_is_refused_at(rt: &impl Abort, heap: Global, number: u64) -> bool {
+    let refusing = Refusing::new(heap, number);
+    let mut out: Vec<u8> = Vec::new(heap);
+    let mut err: Vec<u8> = Vec::new(heap);
+    let status = check_to(&refusing, SLOT, &mut out, &mut err);
+    if !refusing.has_refused() {
+        return false;
+    }
+    assert_eq!(rt; status, Status::NoMemory, "at {number}");
+    assert!(rt; out.is_empty());
+    true
 }
 
 #[test]
-fn each_request_of_a_check_is_refused(rt: HostRuntime) {
-    let heap = rt.alloc();
-    for number in 1..200u64 {
-        let refusing = Refusing::new(heap, number);
-        let mut out: Vec<u8> = Vec::new(heap);
-        let mut err: Vec<u8> = Vec::new(heap);
-        let status = check_to(&refusing, SLOT, &mut out, &mut err);
-        if status == 0 {
-            assert!(rt; !refusing.has_refused());
-            return;
-        }
-        assert!(rt; refusing.has_refused());
-        assert_eq!(rt; status, 6);
-        assert_eq!(rt; out.len(), 0);
+fn each_request_is_refused(rt: HostRuntime) {
+    let mut traces = 1u64;
+    while traces < 200 && trace_is_refused_at(&rt, rt.alloc(), traces) {
+        traces += 1;
     }
-    panic!(rt; "never passed");
+    assert!(rt; traces > 1 && traces < 200);
+    let mut checks = 1u64;
+    while checks < 200 && check_is_refused_at(&rt, rt.alloc(), checks) {
+        checks += 1;
+    }
+    assert!(rt; checks > 1 && checks < 200);
 }

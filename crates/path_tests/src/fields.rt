@@ -1,17 +1,19 @@
 //! Fields of texts.
 
-use path_fields::{after, cut, number};
+use path_fields::{cut, number, strip, until};
 
 #[test]
 fn numbers(rt: HostRuntime) {
     let right = [
-        ("0", 0),
-        ("7", 7),
-        ("4096", 4096),
-        ("18446744073709551615", u64::MAX),
+        ("0", 0, ""),
+        ("7 put", 7, " put"),
+        ("0 01", 0, " 01"),
+        ("4096\n", 4096, "\n"),
+        ("1a", 1, "a"),
+        ("18446744073709551615:", u64::MAX, ":"),
     ];
-    for (text, want) in right {
-        assert_eq!(rt; number(text.as_bytes()), Some(want), "at {text}");
+    for (text, value, rest) in right {
+        assert_eq!(rt; number(text.as_bytes()), Some((value, rest.as_bytes())), "at {text}");
     }
     let wrong = [
         "",
@@ -20,9 +22,10 @@ fn numbers(rt: HostRuntime) {
         "+1",
         "-1",
         " 1",
-        "1 ",
-        "1a",
+        "a1",
         "18446744073709551616",
+        "99999999999999999999",
+        "184467440737095516150",
     ];
     for text in wrong {
         assert_eq!(rt; number(text.as_bytes()), None, "at {text}");
@@ -36,6 +39,17 @@ fn cuts_at_the_first(rt: HostRuntime) {
         Some((b"1".as_slice(), b"use 0".as_slice()))
     );
     assert_eq!(rt; cut(b"", b' '), None);
-    assert_eq!(rt; after(b"put 7", b"put "), Some(b"7".as_slice()));
-    assert_eq!(rt; after(b"pu", b"put "), None);
+    assert_eq!(rt;
+        until(b"a\nb\n", b'\n'),
+        (b"a".as_slice(), b"\nb\n".as_slice())
+    );
+    assert_eq!(rt; until(b"a", b'\n'), (b"a".as_slice(), b"".as_slice()));
+}
+
+#[test]
+fn strips_a_front(rt: HostRuntime) {
+    assert_eq!(rt; strip(b"put 7", b"put "), Some(b"7".as_slice()));
+    assert_eq!(rt; strip(b"put ", b"put "), Some(b"".as_slice()));
+    assert_eq!(rt; strip(b"pu", b"put "), None);
+    assert_eq!(rt; strip(b"add 7", b"put "), None);
 }

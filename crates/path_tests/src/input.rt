@@ -1,11 +1,13 @@
 //! Bounded input.
 
-use path_commands::read_all;
+use path_commands::{Fault, read_all};
+use refusing::Refusing;
+use std::alloc::Allocator;
 use std::io;
 use std::io::{ErrorKind, Read};
-use std::test::Fail;
+use std::process::Abort;
 
-/// A reader that gives three bytes and then fails.
+/// A reader that gives a byte at a time, so many of them, and then fails.
 #[derive(Drop)]
 struct Failing {
     left: u32,
@@ -22,16 +24,55 @@ impl Read for Failing {
     }
 }
 
-#[test]
-fn reads_all(rt: HostRuntime) -> Result<(), Fail> {
-    let Some(bytes) = read_all(rt.alloc(), b"abc".as_slice())? else {
-        panic!(rt; "too long");
-    };
-    assert_eq!(rt; bytes.as_slice(), b"abc".as_slice());
-    Ok(())
+// What is read of a text, at most three bytes.
+fn read<A: Allocator + Copy>(alloc: A, text: &str) -> Result<Vec<u8, A>, Fault<'static>> {
+    read_all(alloc, text.as_bytes(), 3, "standard input")
 }
 
 #[test]
-fn tells_a_failing_read(rt: HostRuntime) {
-    assert!(rt; read_all(rt.alloc(), Failing { left: 3 }).is_err());
+fn reads_up_to_the_limit(rt: HostRuntime) {
+    for text in ["", "a", "abc"] {
+        match read(rt.alloc(), text) {
+            Ok(bytes) => assert_eq!(rt; bytes.as_slice(), text.as_bytes()),
+            Err(_) => panic!(rt; "not read"),
+        }
+    }
+}
+
+fn refuses(rt: &impl Abort, read: Result<Vec<u8>, Fault<'static>>, want: Fault<'static>) {
+    match read {
+        Ok(_) => panic!(rt; "read"),
+        Err(fault) => assert_eq!(rt; fault, want),
+    }
+}
+
+#[test]
+fn refuses_what_is_too_long(rt: HostRuntime) {
+    refuses(
+        &rt,
+        read(rt.alloc(), "abcd"),
+        Fault::TooLong("standard input"),
+    );
+    refuses(
+        &rt,
+        read(rt.alloc(), "abcde"),
+        Fault::TooLong("standard input"),
+    );
+}
+
+#[test]
+fn refuses_what_fails(rt: HostRuntime) {
+    for left in 0..4u32 {
+        let read = read_all(rt.alloc(), Failing { left }, 9, "slot");
+        refuses(&rt, read, Fault::Unreadable("slot"));
+    }
+}
+
+#[test]
+fn says_that_memory_is_wanting(rt: HostRuntime) {
+    let refusing = Refusing::new(rt.alloc(), 1);
+    match read(&refusing, "abc") {
+        Ok(_) => panic!(rt; "read"),
+        Err(fault) => assert_eq!(rt; fault, Fault::OutOfMemory),
+    }
 }

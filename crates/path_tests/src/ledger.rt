@@ -1,6 +1,6 @@
 //! The ledger.
 
-use path_ledger::Ledger;
+use path_ledger::{EndFault, Ledger};
 use path_model::{ActId, Activation, OpId, OutOfMemory};
 use refusing::Refusing;
 use std::alloc::Allocator;
@@ -53,4 +53,22 @@ fn second_finish_ends_none(rt: HostRuntime) {
     assert_eq!(rt; ledger.find(ActId(2)).map(|a| a.worker), Some(12));
     assert_eq!(rt; ledger.find(ActId(4294967296)).map(|a| a.worker), None);
     assert_eq!(rt; ledger.live().len(), 2);
+}
+
+#[test]
+fn only_its_own_worker_ends_it(rt: HostRuntime) {
+    let Ok(mut ledger) = Ledger::with_room(rt.alloc(), 2) else {
+        panic!(rt; "out of memory");
+    };
+    let _ = ledger.begin(1, OpId(0));
+    let _ = ledger.begin(2, OpId(1));
+    assert_eq!(rt; ledger.end_own(2, ActId(0)).err(), Some(EndFault::NotYours));
+    assert_eq!(rt; ledger.end_own(1, ActId(2)).err(), Some(EndFault::Stale));
+    assert_eq!(rt; ledger.live().len(), 2);
+    assert_eq!(rt;
+        ledger.end_own(1, ActId(0)).ok().map(|a| a.op),
+        Some(OpId(0))
+    );
+    assert_eq!(rt; ledger.end_own(1, ActId(0)).err(), Some(EndFault::Stale));
+    assert_eq!(rt; ledger.live().len(), 1);
 }

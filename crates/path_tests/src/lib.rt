@@ -1,4 +1,4 @@
-//! Tests of the public calls of all libraries.
+//! Tests of the public calls of all libraries. The crate has no other code, so that no library is proved twice.
 #![tactic(auto)]
 
 #[cfg(test)]
@@ -6,9 +6,15 @@ mod attempts;
 #[cfg(test)]
 mod commands;
 #[cfg(test)]
+mod decl;
+#[cfg(test)]
+mod faults;
+#[cfg(test)]
 mod fields;
 #[cfg(test)]
 mod gate;
+#[cfg(test)]
+mod in_turn;
 #[cfg(test)]
 mod input;
 #[cfg(test)]
@@ -16,10 +22,12 @@ mod ledger;
 #[cfg(test)]
 mod lines;
 #[cfg(test)]
+mod model;
+#[cfg(test)]
 mod system;
 #[cfg(test)]
 mod trace;
 #[cfg(test)]
-mod unread;
-#[cfg(test)]
 mod whole;
+#[cfg(test)]
+mod writers;

@@ -2,7 +2,7 @@
 
 use path_decl::read;
 use path_model::{ActId, Attempt, Line, OpId, OutOfMemory, PathId, Reply, Verb};
-use path_system::write_line;
+use path_system::{push_reply, write_line};
 use refusing::Refusing;
 
 #[test]
@@ -83,6 +83,10 @@ fn each_reply_has_its_text(rt: HostRuntime) {
             panic!(rt; "no memory");
         };
         assert_eq!(rt; text.as_str(), want);
+        let mut bytes = Vec::new(rt.alloc());
+        assert!(rt; push_reply(&mut bytes, reply).is_ok());
+        assert!(rt; want.as_bytes().ends_with(bytes.as_slice()));
+        assert!(rt; want.as_bytes()[..want.len() - bytes.len()].ends_with(b": "));
     }
 }
 
@@ -105,6 +109,24 @@ fn each_request_of_a_line_is_refused(rt: HostRuntime) {
                     text.as_str(),
                     "4000000000 use 18446744073709551615 put 18446744073709551615: unknown operation"
                 );
+                return;
+            }
+            Err(OutOfMemory) => assert!(rt; refusing.has_refused()),
+        }
+    }
+    panic!(rt; "never passed");
+}
+
+#[test]
+fn each_request_of_a_reply_is_refused(rt: HostRuntime) {
+    for k in 1..50u64 {
+        let refusing = Refusing::new(rt.alloc(), k);
+        let mut bytes = Vec::new(&refusing);
+        match push_reply(&mut bytes, Reply::Used(u64::MAX)) {
+            Ok(()) => {
+                assert!(rt; k > 1);
+                assert!(rt; !refusing.has_refused());
+                assert_eq!(rt; bytes.as_slice(), b"used 18446744073709551615".as_slice());
                 return;
             }
             Err(OutOfMemory) => assert!(rt; refusing.has_refused()),

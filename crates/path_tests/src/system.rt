@@ -151,8 +151,8 @@ fn rooms_are_refused_at_the_limit(rt: HostRuntime) {
     for (room, want) in [
         (0, false),
         (1, true),
-        (65536, true),
-        (65537, false),
+        (1048576, true),
+        (1048577, false),
         (u32::MAX, false),
     ] {
         let Ok(decl) = read(rt.alloc(), SLOT) else {

@@ -1,10 +1,12 @@
 //! Attempts in, replies out: worked examples, failing writers and want of memory.
 
-use path_commands::trace_to;
+use crate::writers::{Failing, Full, Interrupted, Unflushed};
+use path_commands::{ROOM, Status, trace_to};
 use path_decl::{DeclFault, read};
+use path_system::MOST_LINES;
 use refusing::Refusing;
-use std::io;
-use std::io::Write;
+use std::alloc::Allocator;
+use std::io::{ErrorKind, Write};
 use std::process::Abort;
 
 const SLOT: &str = "resource slot cell operation deposit, remove path deposit ; remove end end";
@@ -15,47 +17,58 @@ const FORK: &str = "resource r cell operation a, b, c path a ; b end path a ; c 
 
 const TWIN: &str = "resource r cell operation a, b path a ; b end path ( a ; b ) end end";
 
+// Traces the attempts into the writers; none where the declaration wants memory.
+fn try_trace<A: Allocator + Copy, O: Write, E: Write>(
+    alloc: A,
+    declaration: &str,
+    room: u32,
+    attempts: &str,
+    out: &mut O,
+    err: &mut E,
+) -> Result<Status, DeclFault> {
+    let decl = read(alloc, declaration.as_bytes())?;
+    Ok(trace_to(alloc, decl, room, attempts.as_bytes(), out, err))
+}
+
 // The status of a trace, and what it wrote on its output and on standard error.
 fn trace<R: Abort + AllocGlobal>(
     rt: &R,
     declaration: &str,
+    room: u32,
     attempts: &str,
-) -> (u8, Vec<u8>, Vec<u8>) {
-    let Ok(decl) = read(rt.alloc(), declaration.as_bytes()) else {
-        panic!(rt; "no declaration");
-    };
+) -> (Status, Vec<u8>, Vec<u8>) {
     let mut out = Vec::new(rt.alloc());
     let mut err = Vec::new(rt.alloc());
-    let status = trace_to(rt.alloc(), decl, attempts.as_bytes(), &mut out, &mut err);
-    (status, out, err)
+    match try_trace(rt.alloc(), declaration, room, attempts, &mut out, &mut err) {
+        Ok(status) => (status, out, err),
+        Err(_) => panic!(rt; "no declaration"),
+    }
 }
 
 fn answers_so<R: Abort + AllocGlobal>(rt: &R, declaration: &str, attempts: &str, want: &str) {
-    let (status, out, err) = trace(rt, declaration, attempts);
+    let (status, out, err) = trace(rt, declaration, ROOM, attempts);
     assert_eq!(rt; out.as_slice(), want.as_bytes(), "for {attempts:?}");
     assert_eq!(rt; err.as_slice(), b"".as_slice());
-    assert_eq!(rt; status, 0);
+    assert_eq!(rt; status, Status::Done);
 }
 
-fn is_refused_so<R: Abort + AllocGlobal>(rt: &R, attempts: &str, want: &str) {
-    let (status, out, err) = trace(rt, SLOT, attempts);
+fn is_refused_so<R: Abort + AllocGlobal>(rt: &R, room: u32, attempts: &str, want: (Status, &str)) {
+    let (status, out, err) = trace(rt, SLOT, room, attempts);
     assert_eq!(rt; out.as_slice(), b"".as_slice());
-    assert_eq!(rt; err.as_slice(), want.as_bytes(), "for {attempts:?}");
-    assert_eq!(rt; status, 4);
+    assert_eq!(rt; err.as_slice(), want.1.as_bytes(), "for {attempts:?}");
+    assert_eq!(rt; status, want.0);
 }
 
 const SLOT_ATTEMPTS: &str =
     "1 start deposit\n2 start remove\n1 use 0 put 7\n1 finish 0\n2 start remove\n2 use 1 look\n";
 
+const SLOT_TRACE: &str =
+    "1 start deposit: started 0\n2 start remove: blocked 0\n1 use 0 put 7: used 0\n\
+     1 finish 0: finished\n2 start remove: started 1\n2 use 1 look: used 7\n";
+
 #[test]
 fn slot(rt: HostRuntime) {
-    answers_so(
-        &rt,
-        SLOT,
-        SLOT_ATTEMPTS,
-        "1 start deposit: started 0\n2 start remove: blocked 0\n1 use 0 put 7: used 0\n\
-         1 finish 0: finished\n2 start remove: started 1\n2 use 1 look: used 7\n",
-    );
+    answers_so(&rt, SLOT, SLOT_ATTEMPTS, SLOT_TRACE);
     answers_so(&rt, SLOT, "", "");
     answers_so(
         &rt,
@@ -132,7 +145,6 @@ fn attempt_texts(rt: HostRuntime) {
         "1 start deposit ",
         "1 use 0 take 3",
         "1 start #0",
-        "1 start #2",
         "1 start path",
         "1 start ",
         "1 start a123456789012345678901234567890_2",
@@ -145,125 +157,171 @@ fn attempt_texts(rt: HostRuntime) {
         "%",
     ];
     for attempts in bad {
-        is_refused_so(&rt, attempts, "text: bad line 0\n");
+        is_refused_so(
+            &rt,
+            ROOM,
+            attempts,
+            (Status::TextRefused, "text: bad line 0\n"),
+        );
     }
-    is_refused_so(&rt, "1 start insert", "text: undeclared in line 0\n");
-    is_refused_so(
+    let rows = [
+        ("1 start insert", "text: undeclared in line 0\n"),
+        (
+            "1 start Deposit\n1 start #0",
+            "text: undeclared in line 0\n",
+        ),
+        ("01 start insert", "text: bad line 0\n"),
+        ("1 finish 0\n1 start deposit\n\n", "text: bad line 2\n"),
+        (
+            "1 finish 0\n1 start insert\n1 start #0",
+            "text: undeclared in line 1\n",
+        ),
+    ];
+    for (attempts, want) in rows {
+        is_refused_so(&rt, ROOM, attempts, (Status::TextRefused, want));
+    }
+}
+
+#[test]
+fn undeclared_numbers(rt: HostRuntime) {
+    answers_so(
         &rt,
-        "1 start Deposit\n1 start #0",
-        "text: undeclared in line 0\n",
-    );
-    is_refused_so(&rt, "01 start insert", "text: bad line 0\n");
-    is_refused_so(&rt, "1 finish 0\n1 start deposit\n\n", "text: bad line 2\n");
-    is_refused_so(
-        &rt,
-        "1 finish 0\n1 start insert\n1 start #0",
-        "text: undeclared in line 1\n",
+        SLOT,
+        "1 start #2\n1 start #4294967295",
+        "1 start #2: unknown operation\n1 start #4294967295: unknown operation\n",
     );
 }
 
-/// A writer that takes five bytes at a time, and fails at its k-th write.
-#[derive(Drop)]
-struct Failing {
-    left: u32,
+// A room of which no journal is, with a text that is right and one that is not, which counts first.
+#[test]
+fn bad_room(rt: HostRuntime) {
+    for room in [0, MOST_LINES + 1, u32::MAX] {
+        is_refused_so(
+            &rt,
+            room,
+            "1 start deposit",
+            (Status::CommandRefused, "open: bad room\n"),
+        );
+        is_refused_so(
+            &rt,
+            room,
+            "1 start #0",
+            (Status::TextRefused, "text: bad line 0\n"),
+        );
+    }
 }
 
-impl Write for Failing {
-    fn write(&mut self, buf: &[u8]) -> io::Result<usize> {
-        if self.left == 0 {
-            return Err(io::Error::from(io::ErrorKind::Other));
-        }
-        self.left -= 1;
-        Ok(buf.len().min(5))
-    }
+#[test]
+fn least_and_most_room(rt: HostRuntime) {
+    let (status, out, _) = trace(&rt, SLOT, 1, "1 start deposit\n1 finish 0\n1 finish 0");
+    assert_eq!(rt; status, Status::Done);
+    let want = b"1 start deposit: no room\n1 finish 0: stale\n1 finish 0: no room\n";
+    assert_eq!(rt; out.as_slice(), want.as_slice());
+    let (status, out, _) = trace(&rt, SLOT, MOST_LINES, "1 start deposit");
+    assert_eq!(rt; status, Status::Done);
+    assert_eq!(rt; out.as_slice(), b"1 start deposit: started 0\n".as_slice());
+}
 
-    fn flush(&mut self) -> io::Result<()> {
-        Ok(())
+// The slot's trace into a writer: its status, and what was said on standard error.
+fn writes<R: Abort + AllocGlobal, O: Write>(rt: &R, out: &mut O) -> (Status, Vec<u8>) {
+    let mut err = Vec::new(rt.alloc());
+    match try_trace(rt.alloc(), SLOT, ROOM, SLOT_ATTEMPTS, out, &mut err) {
+        Ok(status) => (status, err),
+        Err(_) => panic!(rt; "no declaration"),
     }
 }
 
-// The output of the slot has 143 bytes, so 29 writes.
+fn fails_so<R: Abort + AllocGlobal, O: Write>(rt: &R, out: &mut O, want: (Status, &str)) {
+    let (status, err) = writes(rt, out);
+    assert_eq!(rt; status, want.0);
+    assert_eq!(rt; err.as_slice(), want.1.as_bytes());
+}
+
+const UNWRITABLE: (Status, &str) = (Status::StreamFailed, "output: cannot write\n");
+
+const NO_MEMORY: (Status, &str) = (Status::NoMemory, "out of memory\n");
+
+// The output of the slot has 143 bytes, so 29 writes of five. A front of it was taken.
 #[test]
 fn each_write_fails_in_turn(rt: HostRuntime) {
-    for k in 0..32u32 {
-        let Ok(decl) = read(rt.alloc(), SLOT.as_bytes()) else {
-            panic!(rt; "no declaration");
-        };
-        let mut err: Vec<u8> = Vec::new(rt.alloc());
-        let status = trace_to(
-            rt.alloc(),
-            decl,
-            SLOT_ATTEMPTS.as_bytes(),
-            &mut Failing { left: k },
-            &mut err,
-        );
-        if k < 29 {
-            assert_eq!(rt; status, 3, "at {k}");
-            assert_eq!(rt; err.as_slice(), b"output: cannot write\n".as_slice());
-        } else {
-            assert_eq!(rt; status, 0, "at {k}");
-        }
+    for k in 0..29u32 {
+        let mut out = Failing::new(rt.alloc(), k, ErrorKind::Other);
+        fails_so(&rt, &mut out, UNWRITABLE);
+        assert_eq!(rt; out.bytes.len(), 5 * k as usize);
     }
+    let mut out = Failing::new(rt.alloc(), 29, ErrorKind::Other);
+    fails_so(&rt, &mut out, (Status::Done, ""));
+    assert_eq!(rt; out.bytes.as_slice(), SLOT_TRACE.as_bytes());
+}
+
+#[test]
+fn each_write_wants_memory_in_turn(rt: HostRuntime) {
+    for k in 0..29u32 {
+        let mut out = Failing::new(rt.alloc(), k, ErrorKind::OutOfMemory);
+        fails_so(&rt, &mut out, NO_MEMORY);
+        assert_eq!(rt; out.bytes.len(), 5 * k as usize);
+        assert!(rt; SLOT_TRACE.as_bytes().starts_with(out.bytes.as_slice()));
+    }
+}
+
+#[test]
+fn an_interrupted_write(rt: HostRuntime) {
+    let mut out = Interrupted::new(rt.alloc());
+    fails_so(&rt, &mut out, (Status::Done, ""));
+    assert_eq!(rt; out.bytes.as_slice(), SLOT_TRACE.as_bytes());
+}
+
+#[test]
+fn a_write_of_nothing(rt: HostRuntime) {
+    fails_so(&rt, &mut Full, UNWRITABLE);
+}
+
+#[test]
+fn a_flush_that_fails(rt: HostRuntime) {
+    fails_so(&rt, &mut Unflushed(ErrorKind::Other), UNWRITABLE);
+    fails_so(&rt, &mut Unflushed(ErrorKind::OutOfMemory), NO_MEMORY);
 }
 
 #[test]
 fn a_fault_that_cannot_be_told(rt: HostRuntime) {
-    let Ok(decl) = read(rt.alloc(), SLOT.as_bytes()) else {
-        panic!(rt; "no declaration");
-    };
     let mut out: Vec<u8> = Vec::new(rt.alloc());
-    let status = trace_to(
-        rt.alloc(),
-        decl,
-        b"1 start #0",
-        &mut out,
-        &mut Failing { left: 0 },
-    );
-    assert_eq!(rt; status, 3);
+    let ended = try_trace(rt.alloc(), SLOT, ROOM, "1 start #0", &mut out, &mut Full);
+    assert_eq!(rt; ended, Ok(Status::StreamFailed));
     assert!(rt; out.is_empty());
+}
+
+// Whether the request of this number was made and refused; the status then says so, and nothing was written.
+fn is_refused_at<R: Abort + AllocGlobal>(rt: &R, number: u64, room: u32) -> bool {
+    let refusing = Refusing::new(rt.alloc(), number);
+    let mut out: Vec<u8> = Vec::new(rt.alloc());
+    let mut err: Vec<u8> = Vec::new(rt.alloc());
+    let ended = try_trace(&refusing, SLOT, room, SLOT_ATTEMPTS, &mut out, &mut err);
+    if !refusing.has_refused() {
+        return false;
+    }
+    match ended {
+        Ok(status) => assert_eq!(rt; status, Status::NoMemory, "at {number}"),
+        Err(fault) => assert_eq!(rt; fault, DeclFault::OutOfMemory, "at {number}"),
+    }
+    assert!(rt; out.is_empty());
+    true
 }
 
 #[test]
 fn each_request_of_a_trace_is_refused(rt: HostRuntime) {
-    for k in 1..200u64 {
-        let refusing = Refusing::new(rt.alloc(), k);
-        match read(&refusing, SLOT.as_bytes()) {
-            Err(fault) => {
-                assert!(rt; fault == DeclFault::OutOfMemory);
-                assert!(rt; refusing.has_refused());
-            }
-            Ok(decl) => {
-                let mut out: Vec<u8> = Vec::new(rt.alloc());
-                let mut err: Vec<u8> = Vec::new(rt.alloc());
-                let status = trace_to(
-                    &refusing,
-                    decl,
-                    SLOT_ATTEMPTS.as_bytes(),
-                    &mut out,
-                    &mut err,
-                );
-                if !refusing.has_refused() {
-                    assert_eq!(rt; status, 0);
-                    return;
-                }
-                assert_eq!(rt; status, 6, "at {k}");
-                assert!(rt; out.is_empty());
-                assert_eq!(rt; err.as_slice(), b"out of memory\n".as_slice());
-            }
+    for room in [ROOM, 0] {
+        let mut number = 1u64;
+        while number < 200 && is_refused_at(&rt, number, room) {
+            number += 1;
         }
+        assert!(rt; number > 1 && number < 200);
     }
-    panic!(rt; "never passed");
 }
 
 #[test]
 fn a_writer_without_memory(rt: HostRuntime) {
-    let Ok(decl) = read(rt.alloc(), SLOT.as_bytes()) else {
-        panic!(rt; "no declaration");
-    };
     let refusing = Refusing::new(rt.alloc(), 1);
     let mut out = Vec::new(&refusing);
-    let mut err: Vec<u8> = Vec::new(rt.alloc());
-    let status = trace_to(rt.alloc(), decl, b"1 start deposit", &mut out, &mut err);
-    assert_eq!(rt; status, 6);
+    fails_so(&rt, &mut out, NO_MEMORY);
     assert!(rt; out.is_empty());
 }

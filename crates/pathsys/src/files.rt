@@ -1,30 +1,27 @@
 //! Bounded files and standard input.
 
-use path_commands::{Unread, read_all};
+ghost use Rattle.std.specs.Prelude.{◌≤◌, length, IfOk};
+
+use path_commands::{Fault, read_all};
+use path_system::LIMIT;
+use std::fs;
 use std::rt::Files;
-use std::{fs, io};
 
-/// The bytes that were read, or why there are none.
-fn settled(read: io::Result<Option<Vec<u8>>>) -> Result<Vec<u8>, Unread> {
-    match read {
-        Ok(Some(bytes)) => Ok(bytes),
-        Ok(None) => Err(Unread::TooLong),
-        Err(error) if error.kind() == io::ErrorKind::OutOfMemory => Err(Unread::OutOfMemory),
-        Err(_) => Err(Unread::Unreadable),
+/// The bytes of the file of this name, at most [`LIMIT`]. `Unreadable` where it can't be opened or read, `TooLong` where it
+/// has more. The cost is that of the bytes.
+pub fn read_file<'a, R: Files + AllocGlobal>(rt: &R, name: &'a str) -> Result<Vec<u8>, Fault<'a>>
+    ensures { IfOk result (λ bytes. length bytes.items ≤ LIMIT) }
+{
+    match fs::open(rt, name) {
+        Ok(file) => read_all(rt.alloc(), file, LIMIT, name),
+        Err(error) => Err(Fault::of_reading(name, &error)),
     }
 }
 
-/// The bytes of the file of this name, at most [`LIMIT`](path_system::LIMIT). Unreadable where it can't be opened or
-/// read. The cost is that of the bytes.
-pub fn read_file<R: Files + AllocGlobal>(rt: &R, path: &str) -> Result<Vec<u8>, Unread> {
-    match fs::open(rt, path) {
-        Ok(file) => settled(read_all(rt.alloc(), file)),
-        Err(error) => settled(Err(error)),
-    }
-}
-
-/// The bytes of standard input, at most [`LIMIT`](path_system::LIMIT). Unreadable where a read fails. The cost is that
-/// of the bytes.
-pub fn read_stdin<R: Input + AllocGlobal>(rt: &R) -> Result<Vec<u8>, Unread> {
-    settled(read_all(rt.alloc(), rt.reader()))
+/// The bytes of standard input, at most [`LIMIT`]. `Unreadable` where a read fails, `TooLong` where there are more. The cost
+/// is that of the bytes.
+pub fn read_stdin<R: Input + AllocGlobal>(rt: &R) -> Result<Vec<u8>, Fault<'static>>
+    ensures { IfOk result (λ bytes. length bytes.items ≤ LIMIT) }
+{
+    read_all(rt.alloc(), rt.reader(), LIMIT, "standard input")
 }

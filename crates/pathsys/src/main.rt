@@ -9,5 +9,5 @@ use crate::perform::perform;
 use std::process::ExitCode;
 
 fn main(rt: HostRuntime) -> ExitCode {
-    ExitCode::from(perform(&rt, &mut rt.stdout(), &mut rt.stderr()))
+    ExitCode::from(u8::from(perform(&rt, &mut rt.stdout(), &mut rt.stderr())))
 }

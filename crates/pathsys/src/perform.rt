@@ -1,33 +1,33 @@
 //! What the words of the command line ask for.
 
-ghost use Rattle.pathsys.specs.Statuses.{IsStatus};
+ghost use Rattle.std.specs.Prelude.{◌≢◌};
+ghost use Rattle.clap.specs.Words.{kind_of};
 
 use crate::command::command;
 use crate::files::{read_file, read_stdin};
 use clap::error::ErrorKind;
 use clap::{ArgMatches, Error};
-use path_commands::{
-    COMMAND_REFUSED, NO_MEMORY, STREAM_FAILED, check_to, tell, tell_unread, trace_bytes, whole,
-};
+use path_commands::{Fault, ROOM, Status, check_to, tell, trace_bytes, whole};
 use std::env;
 use std::io::Write;
 use std::rt::{Env, Files};
 
-/// What clap has to say: help on standard output, all else on standard error.
-fn refused<O: Write, E: Write>(error: &Error, out: &mut O, err: &mut E) -> u8
-    ensures { IsStatus result }
+/// Tells what clap has to say: help and the version on standard output, all else on standard error.
+fn tell_words<O: Write, E: Write>(error: &Error, out: &mut O, err: &mut E) -> Status
+    // What is refused isn't done.
+    ensures { kind_of error.now ≢ ErrorKind.DisplayHelp → kind_of error.now ≢ ErrorKind.DisplayVersion → result ≢ Status.Done }
 {
     if error.kind() == ErrorKind::OutOfMemory {
-        return tell(err, "out of memory", NO_MEMORY);
+        return tell(err, Fault::OutOfMemory);
     }
-    let (told, status) = if error.use_stderr() {
-        (write!(err, "{error}"), COMMAND_REFUSED)
+    let (written, status) = if error.use_stderr() {
+        (write!(err, "{error}"), Status::CommandRefused)
     } else {
-        (write!(out, "{error}"), 0)
+        (write!(out, "{error}"), Status::Done)
     };
-    match told {
+    match written {
         Ok(()) => status,
-        Err(_) => STREAM_FAILED,
+        Err(error) => tell(err, Fault::of_writing(&error)),
     }
 }
 
@@ -37,13 +37,11 @@ fn check<R: Files + AllocGlobal, O: Write, E: Write>(
     words: &ArgMatches<'_>,
     out: &mut O,
     err: &mut E,
-) -> u8
-    ensures { IsStatus result }
-{
+) -> Status {
     let name = words.get_str("DECL").unwrap_or("");
     match read_file(rt, name) {
         Ok(text) => check_to(rt.alloc(), &text, out, err),
-        Err(why) => tell_unread(err, name, why),
+        Err(fault) => tell(err, fault),
     }
 }
 
@@ -53,52 +51,49 @@ fn trace<R: Files + AllocGlobal, O: Write, E: Write>(
     words: &ArgMatches<'_>,
     out: &mut O,
     err: &mut E,
-) -> u8
-    ensures { IsStatus result }
-{
-    let name = words.get_str("DECL").unwrap_or("");
-    let declaration = match read_file(rt, name) {
+) -> Status {
+    let declaration = match read_file(rt, words.get_str("DECL").unwrap_or("")) {
         Ok(text) => text,
-        Err(why) => return tell_unread(err, name, why),
+        Err(fault) => return tell(err, fault),
     };
-    let name = words.get_str("ATTEMPTS").unwrap_or("");
-    match read_file(rt, name) {
-        Ok(attempts) => trace_bytes(rt.alloc(), &declaration, &attempts, out, err),
-        Err(why) => tell_unread(err, name, why),
+    let room = words.get_one("room").unwrap_or(ROOM);
+    match read_file(rt, words.get_str("ATTEMPTS").unwrap_or("")) {
+        Ok(attempts) => trace_bytes(rt.alloc(), &declaration, room, &attempts, out, err),
+        Err(fault) => tell(err, fault),
     }
 }
 
 /// Traces what standard input holds.
-fn without_words<R: Input + AllocGlobal, O: Write, E: Write>(rt: &R, out: &mut O, err: &mut E) -> u8
-    ensures { IsStatus result }
-{
+fn without_words<R: Input + AllocGlobal, O: Write, E: Write>(
+    rt: &R,
+    out: &mut O,
+    err: &mut E,
+) -> Status {
     match read_stdin(rt) {
         Ok(input) => {
             let (declaration, attempts) = whole(&input);
-            trace_bytes(rt.alloc(), declaration, attempts, out, err)
+            trace_bytes(rt.alloc(), declaration, ROOM, attempts, out, err)
         }
-        Err(why) => tell_unread(err, "standard input", why),
+        Err(fault) => tell(err, fault),
     }
 }
 
-/// Does what the words of the command line ask for, and answers the exit status: 0 where it was done or help was asked
-/// for, 1 where the declaration is refused, 2 where the words are, 3 where a file or stream failed, 4 where the attempts
-/// are refused, 6 for want of memory. Where several causes stand, the first counts: words, files, declaration, attempts.
+/// Does what the words of the command line ask for. Where several causes stand, the first counts: words, files,
+/// declaration, attempts, room.
 pub fn perform<R: Env + Files + Input + AllocGlobal, O: Write, E: Write>(
     rt: &R,
     out: &mut O,
     err: &mut E,
-) -> u8
-    ensures { IsStatus result }
-{
-    let Ok(words) = env::args(rt) else {
-        return tell(err, "arguments: cannot read", COMMAND_REFUSED);
+) -> Status {
+    let words = match env::args(rt) {
+        Ok(words) => words,
+        Err(error) => return tell(err, Fault::of_arguments(&error)),
     };
     let Ok(words) = words.collect::<Vec<String>>(rt.alloc()) else {
-        return tell(err, "out of memory", NO_MEMORY);
+        return tell(err, Fault::OutOfMemory);
     };
     let Ok(command) = command(rt.alloc()) else {
-        return tell(err, "out of memory", NO_MEMORY);
+        return tell(err, Fault::OutOfMemory);
     };
     match command.try_get_matches_from(words.as_slice()) {
         Ok(matches) => match matches.subcommand() {
@@ -106,6 +101,6 @@ pub fn perform<R: Env + Files + Input + AllocGlobal, O: Write, E: Write>(
             Some((_, words)) => trace(rt, words, out, err),
             None => without_words(rt, out, err),
         },
-        Err(error) => refused(&error, out, err),
+        Err(error) => tell_words(&error, out, err),
     }
 }

@@ -1,69 +1,88 @@
 //! The table of a gate: the terms of each operation and the opening values of all semaphores.
 
-ghost use Rattle.std.specs.Prelude.{◌≡◌, ◌+◌, ◌<◌, ◌++◌, ◌^◌, length, map, IfOk, OnOk, replicate, slice_index_or, []};
+ghost use Rattle.std.specs.Prelude.{◌≡◌, ◌+◌, ◌<◌, ◌≤◌, ◌++◌, ◌^◌, length, IfOk, OnOk, replicate, []};
 ghost use Rattle.path_model.specs.declared.ids.OpId.{OpId};
-ghost use Rattle.path_model.specs.Trees.{shape, NoBraces};
+ghost use Rattle.path_model.specs.Trees.{shape, NoBraces, WellFormed};
 ghost use Rattle.path_model.specs.Machine.{semicolons};
-ghost use Rattle.path_gate.specs.Translation.{NamesBelow, terms_in, opening_of};
+ghost use Rattle.path_gate.specs.Translation.{NamesBelow, IsAdded, IsTranslated, rows_of, terms_for, waiting_in, signalled, opening_of};
 
 use crate::gate::Term;
 use path_model::{Expr, OpId, OutOfMemory, PathId};
 use std::alloc::Allocator;
 
-/// How many semicolons a tree has.
-fn count_semicolons<A: Allocator + Copy>(tree: &Expr<A>) -> u32
-    requires { semicolons (shape tree.now) < 2 ^ 32 }
-    ensures { result ≡ semicolons (shape tree.now) }
-{
-    match tree {
-        Expr::Op(_) => 0,
-        Expr::Seq(left, right) => count_semicolons(left) + count_semicolons(right) + 1,
-        Expr::Alt(left, right) => count_semicolons(left) + count_semicolons(right),
-        Expr::Burst(inner) => count_semicolons(inner),
-    }
-}
-
-/// Adds the terms that a tree gives to its operations. Its first semicolon has the number `next`.
-fn add_terms<A: Allocator + Copy>(
+/// Adds a term for each name of a tree, from the left to the right: it waits where `term` waits, and at the right of a
+/// `;` on the semaphore of that. The first `;` has the number `next`; what is answered is the number after the last one.
+fn add_waits<A: Allocator + Copy>(
     by_op: &mut Vec<Vec<Term, A>, A>,
     tree: &Expr<A>,
     next: u32,
     term: Term,
-) -> Result<(), OutOfMemory>
+) -> Result<u32, OutOfMemory>
     requires named { NamesBelow (length by_op.old.items) (shape tree.now) }
     requires plain { NoBraces (shape tree.now) }
     requires few { next + semicolons (shape tree.now) < 2 ^ 32 }
+    ensures end { IfOk result (λ end. end ≡ next + semicolons (shape tree.now)) }
     ensures kept { OnOk result (length by_op.new.items ≡ length by_op.old.items) }
-    ensures added { OnOk result ((a : OpId) → slice_index_or (map (λ terms. terms.items) by_op.new.items) a.0 [] ≡ slice_index_or (map (λ terms. terms.items) by_op.old.items) a.0 [] ++ terms_in (shape tree.now) next term a) }
+    ensures added { OnOk result (IsAdded (waiting_in (shape tree.now) next term) by_op.old.items by_op.new.items) }
 {
     match tree {
         Expr::Op(op) => {
             let terms = &mut by_op[op.0 as usize];
             terms.push(term)?;
+            Ok(next)
         }
         Expr::Seq(left, right) => {
-            let middle = next + count_semicolons(left);
-            let before = Term {
-                signal: middle,
-                ..term
-            };
+            let middle = add_waits(by_op, left, next, term)?;
             let after = Term {
                 wait: middle,
                 ..term
             };
-            add_terms(by_op, left, next, before)?;
-            add_terms(by_op, right, middle + 1, after)?;
+            add_waits(by_op, right, middle + 1, after)
         }
         Expr::Alt(left, right) => {
-            add_terms(by_op, left, next, term)?;
-            add_terms(by_op, right, next + count_semicolons(left), term)?;
+            let middle = add_waits(by_op, left, next, term)?;
+            add_waits(by_op, right, middle, term)
         }
         Expr::Burst(_) => unreachable!(),
     }
-    Ok(())
 }
 
-/// Adds a path: the semaphores that it opens, and the terms of its operations.
+/// Lets the last term of each name of a tree give to `signal`, and at the left of a `;` to the semaphore of that. It goes
+/// from the right to the left: the number after the last `;` is `end`, and what is answered is that of the first one.
+fn set_signals<A: Allocator + Copy>(
+    by_op: &mut Vec<Vec<Term, A>, A>,
+    tree: &Expr<A>,
+    end: u32,
+    signal: u32,
+) -> u32
+    requires named { NamesBelow (length by_op.old.items) (shape tree.now) }
+    requires plain { NoBraces (shape tree.now) }
+    requires few { semicolons (shape tree.now) ≤ end }
+    ensures first { result + semicolons (shape tree.now) ≡ end }
+    ensures kept { length by_op.new.items ≡ length by_op.old.items }
+    ensures set { (a : OpId) → terms_for by_op.new.items a ≡ signalled (shape tree.now) result signal a (terms_for by_op.old.items a) }
+{
+    match tree {
+        Expr::Op(op) => {
+            let terms = &mut by_op[op.0 as usize];
+            if let Some(term) = terms.last_mut() {
+                term.signal = signal;
+            }
+            end
+        }
+        Expr::Seq(left, right) => {
+            let middle = set_signals(by_op, right, end, signal) - 1;
+            set_signals(by_op, left, middle, middle)
+        }
+        Expr::Alt(left, right) => {
+            let middle = set_signals(by_op, right, end, signal);
+            set_signals(by_op, left, middle, signal)
+        }
+        Expr::Burst(_) => unreachable!(),
+    }
+}
+
+/// Adds a path: the semaphores that it opens, and the terms of its operations. The cost is two walks over its tree.
 pub fn add_path<A: Allocator + Copy>(
     semaphores: &mut Vec<u64, A>,
     by_op: &mut Vec<Vec<Term, A>, A>,
@@ -71,22 +90,24 @@ pub fn add_path<A: Allocator + Copy>(
     tree: &Expr<A>,
 ) -> Result<(), OutOfMemory>
     requires named { NamesBelow (length by_op.old.items) (shape tree.now) }
+    requires formed { WellFormed (shape tree.now) }
     requires plain { NoBraces (shape tree.now) }
     requires few { length semaphores.old.items + semicolons (shape tree.now) + 1 < 2 ^ 32 }
     ensures opened { OnOk result (semaphores.new.items ≡ semaphores.old.items ++ opening_of (shape tree.now)) }
     ensures kept { OnOk result (length by_op.new.items ≡ length by_op.old.items) }
-    ensures added { OnOk result ((a : OpId) → slice_index_or (map (λ terms. terms.items) by_op.new.items) a.0 [] ≡ slice_index_or (map (λ terms. terms.items) by_op.old.items) a.0 [] ++ terms_in (shape tree.now) (length semaphores.old.items + 1) (record { path = path; wait = length semaphores.old.items; signal = length semaphores.old.items }) a) }
+    ensures added { OnOk result (IsTranslated (length semaphores.old.items) path.0 (shape tree.now) by_op.old.items by_op.new.items) }
 {
     let own = semaphores.len() as u32;
-    let semicolons = count_semicolons(tree);
-    semaphores.push(1)?;
-    semaphores.resize(semaphores.len() + semicolons as usize, 0)?;
     let term = Term {
         path,
         wait: own,
         signal: own,
     };
-    add_terms(by_op, tree, own + 1, term)
+    let end = add_waits(by_op, tree, own + 1, term)?;
+    set_signals(by_op, tree, end, own);
+    semaphores.push(1)?;
+    semaphores.resize(end as usize, 0)?;
+    Ok(())
 }
 
 /// No terms, for each of so many operations.
@@ -94,7 +115,7 @@ pub fn no_terms<A: Allocator + Copy>(
     alloc: A,
     operations: u32,
 ) -> Result<Vec<Vec<Term, A>, A>, OutOfMemory>
-    ensures { IfOk result (λ v. map (λ terms. terms.items) v.items ≡ replicate operations []) }
+    ensures { IfOk result (λ v. rows_of v.items ≡ replicate operations []) }
 {
     let mut by_op = Vec::new(alloc);
     for _ in 0..operations {

@@ -1,29 +1,33 @@
--- The declaration is refused, or its print was written.
-use Rattle.std.proofs.Common.{◌∙◌, arith}
-use Rattle.path_commands.proofs.PutLemmas.{appends_to, of_four, of_last}
+-- The text is refused, or its print was written.
+use Rattle.path_commands.specs.declared.status.Status.TheVariants.{Done, DeclarationRefused, CommandRefused, TextRefused}
+use Rattle.path_commands.specs.Statuses.{status_of}
+use Rattle.path_commands.specs.Prints.{IsPrintOf, IsUndeclared}
+use Rattle.path_commands.proofs.PutLemmas.{appends_some, appends_front}
 use Rattle.path_commands.proofs.TraceLemmas.{keeps_same}
-use Rattle.path_commands.proofs.DeclarationLemmas.{no_declaration}
+use Rattle.path_commands.proofs.FaultLemmas.{told, ends_write}
 use Rattle.path_commands.proofs.check.check_to.Goals as goal
+
+pub returns-in-Ok-clause-done : goal.returns-in-Ok-clause-done
+returns-in-Ok-clause-done g c = λ e. appends_some _ _ (IsPrintOf c.args.text.now) _ _ c.as_bytes.ensures.value c.in-Ok.ensures.ok (c.put_text.ensures.done e)
+
+pub returns-in-Ok-clause-refused : goal.returns-in-Ok-clause-refused
+returns-in-Ok-clause-refused g c = λ e. absurd (ends_write _ DeclarationRefused c.put_text.ensures.statuses e)
+
+pub returns-in-Ok-clause-memory : goal.returns-in-Ok-clause-memory
+returns-in-Ok-clause-memory g c = λ e. appends_front _ _ (IsPrintOf c.args.text.now) _ _ c.as_bytes.ensures.value c.in-Ok.ensures.ok (c.put_text.ensures.memory e)
+
+pub returns-in-Ok-clause-statuses : goal.returns-in-Ok-clause-statuses
+returns-in-Ok-clause-statuses g c = (λ e. ends_write _ CommandRefused c.put_text.ensures.statuses e, λ e. ends_write _ TextRefused c.put_text.ensures.statuses e)
+
+pub returns-in-Err-clause-done : goal.returns-in-Err-clause-done
+returns-in-Err-clause-done g c = λ e. absurd (told (IsUndeclared c.args.text.now) (status_of c.in-Err.fault) _ Done c.in-Err.ensures.err c.tell.ensures (λ h. cc) e)
 
 pub returns-in-Err-clause-refused : goal.returns-in-Err-clause-refused
 returns-in-Err-clause-refused g c = λ e.
-    (keeps_same (g.O.Write.contents c.args.out.now), no_declaration c.args.text.now c.in-Err.fault c.in-Err.ensures.err (c.tell_declaration_fault.ensures.refused e))
+    (keeps_same (g.O.Write.contents c.args.out.now), told (IsUndeclared c.args.text.now) (status_of c.in-Err.fault) _ DeclarationRefused c.in-Err.ensures.err c.tell.ensures (λ h. cc) e)
 
-pub returns-in-Ok-print-clause-done : goal.returns-in-Ok-print-clause-done
-returns-in-Ok-print-clause-done g c = λ e.
-    (c.in-Ok.decl, c.in-Ok.ensures.ok, appends_to _ _ _ _ (c.as_bytes.ensures.value ∙ c.in-Ok-print.ensures.text) (c.put_text.ensures.done e))
-
-pub returns-in-Ok-print-clause-refused : goal.returns-in-Ok-print-clause-refused
-returns-in-Ok-print-clause-refused g c = λ e. absurd (omega (arith, c.put_text.ensures.statuses))
-
-pub returns-in-Ok-print-clause-statuses : goal.returns-in-Ok-print-clause-statuses
-returns-in-Ok-print-clause-statuses g c = of_four _ c.put_text.ensures.statuses
-
-pub returns-clause-done : goal.returns-clause-done
-returns-clause-done g c = λ e. absurd (omega (arith, c.tell.ensures))
-
-pub returns-clause-refused : goal.returns-clause-refused
-returns-clause-refused g c = λ e. absurd (omega (arith, c.tell.ensures))
-
-pub returns-clause-statuses : goal.returns-clause-statuses
-returns-clause-statuses g c = of_last _ c.tell.ensures
+pub returns-in-Err-clause-statuses : goal.returns-in-Err-clause-statuses
+returns-in-Err-clause-statuses g c = (
+  λ e. told (IsUndeclared c.args.text.now) (status_of c.in-Err.fault) _ CommandRefused c.in-Err.ensures.err c.tell.ensures (λ h. cc) e,
+  λ e. told (IsUndeclared c.args.text.now) (status_of c.in-Err.fault) _ TextRefused c.in-Err.ensures.err c.tell.ensures (λ h. cc) e,
+)

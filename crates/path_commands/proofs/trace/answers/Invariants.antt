@@ -1,8 +1,10 @@
--- Some attempts were answered.
-use Rattle.std.proofs.Common.{take}
-use Rattle.std.specs.String.{string_bytes}
+-- The first attempts were answered.
+use Rattle.std.proofs.Common.{length}
 use Rattle.path_commands.proofs.TraceLemmas.{AnswersSoFar}
 use Rattle.path_commands.proofs.trace.answers.Given as goal
 
-abbrev pub invariant-loop-worker : goal.invariant-loop-worker
-invariant-loop-worker g l = AnswersSoFar l.fn.decl 4096 l.system (take l.worker-index l.entries) (string_bytes l.text)
+abbrev pub invariant-loop-rest : goal.invariant-loop-rest
+invariant-loop-rest g l = AnswersSoFar l.initial.system l.system l.attempts l.rest l.trace.items l.number
+
+abbrev pub decreases-loop-rest : goal.decreases-loop-rest
+decreases-loop-rest g l = length l.rest

@@ -1,6 +1,6 @@
 -- Each way out cuts the input, and a cut is one.
 use Rattle.std.proofs.Common.{refl}
-use Rattle.path_fields.proofs.SplitLemmas.{is_text, is_other}
+use Rattle.path_fields.proofs.CallerLemmas.{is_text, is_other}
 use Rattle.path_commands.proofs.WholeLemmas.{passes, ends_at_mark, ends_at_last, ends_past, only_cut}
 use Rattle.path_commands.proofs.whole_input.whole.Goals as goal
 

@@ -3,9 +3,9 @@ use Rattle.path_decl.proofs.TableLemmas.{is_place, no_place, names_of_resources}
 use Rattle.path_decl.proofs.decl.resource.Goals as goal
 
 pub returns-in_err-place-clause-none : goal.returns-in_err-place-clause-none
-returns-in_err-place-clause-none g c = rw c.from_residual.ensures (subst (λ d. Contains (map (λ o. o.name) d.resources) c.args.name.now → ⊥) c.decl.view_is
+returns-in_err-place-clause-none g c = rw c.from_residual.ensures (subst (λ d. Contains (map (λ o. o.name) d.declaration.resources) c.args.name.now → ⊥) c.decl.view_is
     (rw names_of_resources (no_place _ _ None c.in_err-place.ensures.found)))
 
 pub returns-clause-some : goal.returns-clause-some
-returns-clause-some g c = subst (λ d. slice_get (map (λ o. o.name) d.resources) c.in_ok-place.place ≡ Some c.args.name.now) c.decl.view_is
+returns-clause-some g c = subst (λ d. slice_get (map (λ o. o.name) d.declaration.resources) c.in_ok-place.place ≡ Some c.args.name.now) c.decl.view_is
     (rw names_of_resources (is_place _ _ (Some c.in_ok-place.place) c.in_ok-place.ensures.index))

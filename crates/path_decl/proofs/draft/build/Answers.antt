@@ -4,7 +4,7 @@ use Rattle.std.proofs.lemmas.Result.{err_from_is_err_and}
 use Rattle.path_decl.specs.Parts.{saying}
 use Rattle.path_decl.specs.Table.{operations_of}
 use Rattle.path_decl.specs.Building.{nothing, AllAllowed, after_all}
-use Rattle.path_decl.proofs.Lengths.{parted}
+use Rattle.path_lex.proofs.CallerLemmas.{parted}
 use Rattle.path_decl.proofs.Unit.{fails_then}
 use Rattle.path_decl.proofs.Taken.{more_taken, stuck_at, says_more}
 use Rattle.path_decl.proofs.draft.build.Goals as goal

@@ -1,6 +1,6 @@
 use Rattle.std.proofs.Common.{ap, subst, ◌∙◌, inl, inr}
 use Rattle.std.proofs.lemmas.Result.{err_from_is_err_and}
-use Rattle.path_decl.specs.Spelling.{views}
+use Rattle.path_lex.specs.Spelling.{views}
 use Rattle.path_decl.specs.Grammar.{IsFile}
 use Rattle.path_decl.specs.Parts.{sayings}
 use Rattle.path_decl.specs.Reading.{told}
@@ -13,21 +13,44 @@ returns-in_err-draft-clause-err g c =
     let f = c.in_ok-parts.ensures.found in
     rw (p.1, p.2) (refuses_then c.args.text.now _ (λ none. no_rules_text _ (views c.in_ok-tokens.tokens.items) f.0 _ c.in_ok-tokens.ensures.only (subst (λ x. IsFile (told x) f.0) c.deref.ensures.value f.1) (ap sayings c.deref-2.ensures.value ∙ f.2) none) c.in_err-draft.ensures.none)
 
-pub finish-requires-clause-lawful : goal.finish-requires-clause-lawful
-finish-requires-clause-lawful g c =
+pub finish-requires : goal.finish-requires
+finish-requires g c =
     let f = c.in_ok-parts.ensures.found in
-    let r = is_read c.args.text.now (views c.in_ok-tokens.tokens.items) f.0 _ _ c.in_ok-tokens.ensures.ok (subst (λ x. IsFile (told x) f.0) c.deref.ensures.value f.1) (ap sayings c.deref-2.ensures.value ∙ f.2) c.in_ok-draft.ensures.built.0 c.in_ok-draft.ensures.built.1 in r.0
-
-pub finish-requires-clause-declared : goal.finish-requires-clause-declared
-finish-requires-clause-declared g c =
-    let f = c.in_ok-parts.ensures.found in
-    let r = is_read c.args.text.now (views c.in_ok-tokens.tokens.items) f.0 _ _ c.in_ok-tokens.ensures.ok (subst (λ x. IsFile (told x) f.0) c.deref.ensures.value f.1) (ap sayings c.deref-2.ensures.value ∙ f.2) c.in_ok-draft.ensures.built.0 c.in_ok-draft.ensures.built.1 in (c.args.text.now, r.1)
+    let r = is_read c.args.text.now (views c.in_ok-tokens.tokens.items) f.0 _ _ c.in_ok-tokens.ensures.ok (subst (λ x. IsFile (told x) f.0) c.deref.ensures.value f.1) (ap sayings c.deref-2.ensures.value ∙ f.2) c.in_ok-draft.ensures.built.0 c.in_ok-draft.ensures.built.1 in (c.args.text.now, r)
 
 pub returns-clause-ok : goal.returns-clause-ok
 returns-clause-ok g c =
     let f = c.in_ok-parts.ensures.found in
     let r = is_read c.args.text.now (views c.in_ok-tokens.tokens.items) f.0 _ _ c.in_ok-tokens.ensures.ok (subst (λ x. IsFile (told x) f.0) c.deref.ensures.value f.1) (ap sayings c.deref-2.ensures.value ∙ f.2) c.in_ok-draft.ensures.built.0 c.in_ok-draft.ensures.built.1 in
-    rw c.in_ok-decl.ensures r.1
+    rw c.in_ok-decl.ensures r
 
 pub returns-clause-bad_byte : goal.returns-clause-bad_byte
 returns-clause-bad_byte g c = λ at le bad. elim (c.in_ok-tokens.ensures.bad_byte at le bad) [ inl x ↦ absurd (cc) | inr x ↦ absurd (cc) ]
+
+pub returns-in_err-tokens-clause-word_too_long : goal.returns-in_err-tokens-clause-word_too_long
+returns-in_err-tokens-clause-word_too_long g c = λ at le long.
+    let p = err_from_is_err_and c.from_residual.result c.from_residual.ensures.1 in
+    rw (p.1, p.2) (elim (c.in_err-tokens.ensures.word_too_long at le long) [ inl x ↦ inl (cc) | inr x ↦ inr (cc) ])
+
+pub returns-in_err-parts-clause-word_too_long : goal.returns-in_err-parts-clause-word_too_long
+returns-in_err-parts-clause-word_too_long g c = λ at le long. elim (c.in_ok-tokens.ensures.word_too_long at le long) [ inl x ↦ absurd (cc) | inr x ↦ absurd (cc) ]
+
+pub returns-in_err-draft-clause-word_too_long : goal.returns-in_err-draft-clause-word_too_long
+returns-in_err-draft-clause-word_too_long g c = λ at le long. elim (c.in_ok-tokens.ensures.word_too_long at le long) [ inl x ↦ absurd (cc) | inr x ↦ absurd (cc) ]
+
+pub returns-clause-word_too_long : goal.returns-clause-word_too_long
+returns-clause-word_too_long g c = λ at le long. elim (c.in_ok-tokens.ensures.word_too_long at le long) [ inl x ↦ absurd (cc) | inr x ↦ absurd (cc) ]
+
+pub returns-in_err-tokens-clause-number_too_long : goal.returns-in_err-tokens-clause-number_too_long
+returns-in_err-tokens-clause-number_too_long g c = λ at le long.
+    let p = err_from_is_err_and c.from_residual.result c.from_residual.ensures.1 in
+    rw (p.1, p.2) (elim (c.in_err-tokens.ensures.number_too_long at le long) [ inl x ↦ inl (cc) | inr x ↦ inr (cc) ])
+
+pub returns-in_err-parts-clause-number_too_long : goal.returns-in_err-parts-clause-number_too_long
+returns-in_err-parts-clause-number_too_long g c = λ at le long. elim (c.in_ok-tokens.ensures.number_too_long at le long) [ inl x ↦ absurd (cc) | inr x ↦ absurd (cc) ]
+
+pub returns-in_err-draft-clause-number_too_long : goal.returns-in_err-draft-clause-number_too_long
+returns-in_err-draft-clause-number_too_long g c = λ at le long. elim (c.in_ok-tokens.ensures.number_too_long at le long) [ inl x ↦ absurd (cc) | inr x ↦ absurd (cc) ]
+
+pub returns-clause-number_too_long : goal.returns-clause-number_too_long
+returns-clause-number_too_long g c = λ at le long. elim (c.in_ok-tokens.ensures.number_too_long at le long) [ inl x ↦ absurd (cc) | inr x ↦ absurd (cc) ]

@@ -1,5 +1,5 @@
 use Rattle.path_model.proofs.theorems.each_value_is_bounded.Goals as goal
-use Rattle.path_model.proofs.Bounds.{each_value_is_bounded}
+use Rattle.path_model.proofs.BoundedValues.{each_value_is_bounded}
 
 pub returns : goal.returns
 returns c = each_value_is_bounded

@@ -1,11 +1,11 @@
--- Names are text.
-use Rattle.std.proofs.lemmas.List.Elements.{All-contains}
-use Rattle.path_decl.specs.Names.{IsName}
-use Rattle.path_system.proofs.NameLemmas.{name_is_text}
+-- What has neither a name nor a number is no operation.
+use Rattle.path_system.proofs.EntryLemmas.{no_operation}
 use Rattle.path_system.proofs.entry.read_operation.Goals as goal
 
-pub returns-in_default-clause-err : goal.returns-in_default-clause-err
-returns-in_default-clause-err g c = λ found. c.in_default.ensures.cases.0 (name_is_text _ (All-contains IsName _ _ c.requires found))
+pub returns-in-None-clause-err : goal.returns-in-None-clause-err
+returns-in-None-clause-err g c = λ a lt e.
+    no_operation c.args.decl.now.declaration c.args.text.now c.counts-operations.result.operations c.counts-operations.ensures.operations c.in_default.ensures.none c.in-None.ensures.none a lt e
 
-pub returns-in_default-clause-fault : goal.returns-in_default-clause-fault
-returns-in_default-clause-fault g c = (λ e. cc, λ is. absurd (c.in_default.ensures.cases.0 (name_is_text _ is)))
+pub returns-in-None-2-clause-err : goal.returns-in-None-2-clause-err
+returns-in-None-2-clause-err g c = λ a lt e.
+    no_operation c.args.decl.now.declaration c.args.text.now c.counts-operations.result.operations c.counts-operations.ensures.operations c.in_default.ensures.none c.in-None-2.ensures.none a lt e

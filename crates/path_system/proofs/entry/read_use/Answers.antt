@@ -1,19 +1,19 @@
--- A use is cut behind its number.
-use Rattle.path_system.proofs.EntryLemmas.{number_cut, number_uncut}
+-- A use begins with one number.
+use Rattle.std.proofs.Common.{◌∷◌, ◌++◌, ◌∙◌, rules}
 use Rattle.path_system.specs.LineTexts.{verb_text}
+use Rattle.path_system.proofs.EntryLemmas.{space_ends, same_number, number_spaced}
 use Rattle.path_system.proofs.entry.read_use.Goals as goal
 
-pub returns-in_err-digits-clause-none : goal.returns-in_err-digits-clause-none
-returns-in_err-digits-clause-none c = rw c.from_residual.ensures (λ n v lt f e. number_uncut _ n (verb_text v) c.in_err-digits.ensures.none e)
-
-pub returns-in_err-act-clause-none : goal.returns-in_err-act-clause-none
-returns-in_err-act-clause-none c =
-    rw c.from_residual-in_err-act.ensures (λ n v lt f e.
-    let p = number_cut _ _ _ n (verb_text v) c.in_ok-digits.ensures.some c.in_ok-digits.ensures.first lt e in
-    c.in_err-act.ensures.none n lt p.0)
+pub returns-in_err-rest-clause-none : goal.returns-in_err-rest-clause-none
+returns-in_err-rest-clause-none c =
+    rw c.from_residual-in_err-rest.ensures (λ n v rest lt fits end e.
+    let p = same_number c.args.text.now c.in_ok-act.act n c.in_ok-act.rest.now (32 ∷ (verb_text v ++ rest)) c.in_ok-act.ensures.some c.in_ok-act.ensures.end (search rules) lt (space_ends (verb_text v ++ rest)) (e ∙ number_spaced n (verb_text v) rest) in
+    c.in_err-rest.ensures (verb_text v ++ rest) p.1)
 
 pub returns-in_err-verb-clause-none : goal.returns-in_err-verb-clause-none
 returns-in_err-verb-clause-none c =
-    rw c.from_residual-in_err-verb.ensures (λ n v lt f e.
-    let p = number_cut _ _ _ n (verb_text v) c.in_ok-digits.ensures.some c.in_ok-digits.ensures.first lt e in
-    c.in_err-verb.ensures.none v f p.1)
+    rw c.from_residual-in_err-verb.ensures (λ n v rest lt fits end e.
+    let p = same_number c.args.text.now c.in_ok-act.act n c.in_ok-act.rest.now (32 ∷ (verb_text v ++ rest)) c.in_ok-act.ensures.some c.in_ok-act.ensures.end (search rules) lt (space_ends (verb_text v ++ rest)) (e ∙ number_spaced n (verb_text v) rest) in
+    let same = p.1 in
+    let cut = c.in_ok-rest.ensures in
+    c.in_err-verb.ensures.none v rest fits end cc)

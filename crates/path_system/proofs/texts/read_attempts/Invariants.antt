@@ -3,8 +3,8 @@ use Rattle.std.proofs.Common.{length}
 use Rattle.path_system.proofs.AttemptLemmas.{ReadEntries}
 use Rattle.path_system.proofs.texts.read_attempts.Given as goal
 
-abbrev pub invariant-loop-line : goal.invariant-loop-line
-invariant-loop-line g l = ReadEntries l.decl l.text l.entries.items l.rest
+abbrev pub invariant-loop-rest : goal.invariant-loop-rest
+invariant-loop-rest g l = ReadEntries l.decl.declaration l.text l.entries.items l.rest
 
-abbrev pub decreases-loop-line : goal.decreases-loop-line
-decreases-loop-line g l = length l.rest
+abbrev pub decreases-loop-rest : goal.decreases-loop-rest
+decreases-loop-rest g l = length l.rest

@@ -1,15 +1,15 @@
 -- The table holds the paths so far.
-use Rattle.std.proofs.Common.{◌≡◌, map, take, length, get_or, []}
+use Rattle.std.proofs.Common.{◌≡◌, take, length}
 use Rattle.path_model.specs.declared.ids.OpId.{OpId}
 use Rattle.path_model.specs.Declarations.{paths_of}
 use Rattle.path_model.specs.Flat.{sited}
 use Rattle.path_gate.specs.Rows.{terms_at}
-use Rattle.path_gate.specs.Translation.{openings}
+use Rattle.path_gate.specs.Translation.{terms_for, openings}
 use Rattle.path_gate.proofs.gate.Gate.open.Given as goal
 
 abbrev pub invariant-loop-number : goal.invariant-loop-number
 invariant-loop-number g l = record {
-  semaphores : l.semaphores.items ≡ openings (take l.number (paths_of l.decl));
-  rows : length l.by_op.items ≡ length l.decl.operations;
-  terms : (a : OpId) → get_or (map (λ terms. terms.items) l.by_op.items) a.0 [] ≡ terms_at (sited 0 0 (take l.number (paths_of l.decl))) a;
+  semaphores : l.semaphores.items ≡ openings (take l.number (paths_of l.decl.declaration));
+  rows : length l.by_op.items ≡ length l.decl.declaration.operations;
+  terms : (a : OpId) → terms_for l.by_op.items a ≡ terms_at (sited 0 0 (take l.number (paths_of l.decl.declaration))) a;
 }

@@ -10,6 +10,6 @@ returns-then-room-eq0-clause-bad_room g c =
 
 pub invariant_of-result : goal.invariant_of-result
 invariant_of-result g c = record {
-  told = rw c.in_ok-journal.ensures.items (true_opened c.in_ok-core.core c.args.decl c.args.room c.in_ok-core.ensures);
+  told = rw c.in_ok-journal.ensures.items (true_opened c.in_ok-parts.parts c.args.decl.declaration c.args.room c.in_ok-parts.ensures);
   reserved = search rules;
 }

@@ -22,15 +22,15 @@ pub answer-reply-requires-clause-admitted : goal.answer-reply-requires-clause-ad
 answer-reply-requires-clause-admitted g c = let k = admitted_few _ _ _ c.self.invariant.told in omega (arith, k, c.len.ensures, c.self.inside.journal.ok.0)
 
 -- what was answered, after the lines of the journal
-answered : (g : Over) (c : After-is_no_room g) → Answers c.self.inside.core c.self.inside.room (length c.self.inside.journal.items) c.args.worker c.args.attempt c.answer-reply.result c.answer-reply.new.self
+answered : (g : Over) (c : After-is_no_room g) → Answers c.self.inside.parts c.self.inside.room (length c.self.inside.journal.items) c.args.worker c.args.attempt c.answer-reply.result c.answer-reply.new.self
 answered g c =
     let e : c.len.result ≡ length c.self.inside.journal.items = c.len.ensures ∙ c.self.inside.journal.ok.0 in
-    subst (λ (n : ℕ). Answers c.self.inside.core c.self.inside.room n c.args.worker c.args.attempt c.answer-reply.result c.answer-reply.new.self) e c.answer-reply.ensures
+    subst (λ (n : ℕ). Answers c.self.inside.parts c.self.inside.room n c.args.worker c.args.attempt c.answer-reply.result c.answer-reply.new.self) e c.answer-reply.ensures
 
 pub push_reserved-requires : goal.push_reserved-requires
 push_reserved-requires g c =
     let other : c.answer-reply.result ≢ NoRoom = λ h. cc (c.is_no_room.ensures.1 h, c.if-not-is_no_room.true) in
-    let k = place_left c.self.inside.core c.self.inside.room c.self.inside.journal.items c.self.invariant.told c.answer-reply.new.self c.args.worker c.args.attempt c.answer-reply.result
+    let k = place_left c.self.inside.parts c.self.inside.room c.self.inside.journal.items c.self.invariant.told c.answer-reply.new.self c.args.worker c.args.attempt c.answer-reply.result
     (answered g ((goal.at.push_reserved-requires g c).After-is_no_room)) other in
     omega (arith, k, c.self.invariant.reserved, c.self.inside.journal.ok.0)
 
@@ -38,7 +38,7 @@ pub invariant_of-self : goal.invariant_of-self
 invariant_of-self g c =
     let other : c.answer-reply.result ≢ NoRoom = λ h. cc (c.is_no_room.ensures.1 h, c.if-not-is_no_room.true) in
     record {
-      told = rw c.push_reserved.ensures.items (true_more c.self.inside.core c.self.inside.room c.self.inside.journal.items c.self.invariant.told c.answer-reply.new.self c.args.worker c.args.attempt c.answer-reply.result
+      told = rw c.push_reserved.ensures.items (true_more c.self.inside.parts c.self.inside.room c.self.inside.journal.items c.self.invariant.told c.answer-reply.new.self c.args.worker c.args.attempt c.answer-reply.result
           (answered g ((goal.at.invariant_of-self g c).After-is_no_room)) other);
       reserved = omega (arith, c.push_reserved.ensures.capacity, c.self.invariant.reserved);
     }
@@ -46,17 +46,17 @@ invariant_of-self g c =
 pub invariant_of-self-else-not-is_no_room : goal.invariant_of-self-else-not-is_no_room
 invariant_of-self-else-not-is_no_room g c =
     record {
-      told = true_still c.self.inside.core c.self.inside.room c.self.inside.journal.items c.self.invariant.told c.answer-reply.new.self c.args.worker c.args.attempt c.answer-reply.result
+      told = true_still c.self.inside.parts c.self.inside.room c.self.inside.journal.items c.self.invariant.told c.answer-reply.new.self c.args.worker c.args.attempt c.answer-reply.result
           (answered g ((goal.at.invariant_of-self-else-not-is_no_room g c).After-is_no_room)) (c.is_no_room.ensures.0 c.if-not-is_no_room.false);
       reserved = c.self.invariant.reserved;
     }
 
 pub returns-then-not-is_no_room-clause-owed : goal.returns-then-not-is_no_room-clause-owed
 returns-then-not-is_no_room-clause-owed g c =
-    rw (← c.self.view_is) (owed_is c.self.inside.core c.self.inside.room (opening_contents c.self.inside.core.declaration) c.self.inside.journal.items c.self.invariant.told c.args.worker c.args.attempt c.answer-reply.result c.answer-reply.new.self
+    rw (← c.self.view_is) (owed_is c.self.inside.parts c.self.inside.room (opening_contents c.self.inside.parts.declaration) c.self.inside.journal.items c.self.invariant.told c.args.worker c.args.attempt c.answer-reply.result c.answer-reply.new.self
     (answered g ((goal.at.returns-then-not-is_no_room-clause-owed g c).After-is_no_room)))
 
 pub returns-else-not-is_no_room-clause-owed : goal.returns-else-not-is_no_room-clause-owed
 returns-else-not-is_no_room-clause-owed g c =
-    rw (← c.self.view_is) (owed_is c.self.inside.core c.self.inside.room (opening_contents c.self.inside.core.declaration) c.self.inside.journal.items c.self.invariant.told c.args.worker c.args.attempt c.answer-reply.result c.answer-reply.new.self
+    rw (← c.self.view_is) (owed_is c.self.inside.parts c.self.inside.room (opening_contents c.self.inside.parts.declaration) c.self.inside.journal.items c.self.invariant.told c.args.worker c.args.attempt c.answer-reply.result c.answer-reply.new.self
     (answered g ((goal.at.returns-else-not-is_no_room-clause-owed g c).After-is_no_room)))

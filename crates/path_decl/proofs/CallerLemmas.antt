@@ -1,0 +1,19 @@
+-- What callers may cite of declarations, beside the contracts.
+use Rattle.std.proofs.Common.{◌+◌, ◌≤◌, All, get_or, arith}
+use Rattle.path_model.specs.Trees.{Tree, op, seq, alt, burst}
+use Rattle.path_model.specs.Machine.{semicolons}
+use Rattle.path_model.specs.Declarations.{Declaration}
+use Rattle.path_decl.specs.Lawful.{names_count, Lawful}
+pub use Rattle.path_decl.proofs.FormRules.{KeepsPathRules, PathsKeepRules}
+pub use Rattle.path_decl.proofs.FromLawful.{forms_keep_rules}
+
+-- semicolons stand between names
+semicolons_between : (t : Tree) → semicolons t + 1 ≤ names_count t
+semicolons_between (op a) = omega arith
+semicolons_between (seq s t) = omega (arith, semicolons_between s, semicolons_between t)
+semicolons_between (alt s t) = omega (arith, semicolons_between s, semicolons_between t)
+semicolons_between (burst b s) = semicolons_between s
+
+-- a path has at most 63 semicolons
+pub few_semicolons : (d : Declaration) → Lawful d → All (λ p. semicolons p.tree ≤ 63) d.paths
+few_semicolons d law k p lt = let few = law.few_names k p lt in omega (arith, semicolons_between (get_or d.paths k p).tree)

@@ -1,0 +1,109 @@
+-- Which tokens a text is made of.
+use Rattle.std.specs.Prelude.{◌≡◌, ℕ, ◌+◌, ◌<◌, ◌≤◌, List, [], ◌∷◌, ◌++◌, length, take, drop, map, Option, Some, None}
+use Rattle.std.specs.List.{prefix_len, AllByRecursion}
+use Rattle.path_lex.specs.declared.token.Sign.{Sign}
+use Rattle.path_lex.specs.declared.token.Reserved.{Reserved}
+use Rattle.path_lex.specs.declared.token.Class.TheVariants as classes
+use Rattle.path_lex.specs.declared.token.Kind.{Kind}
+use Rattle.path_lex.specs.declared.token.Kind.TheVariants as kinds
+use Rattle.path_lex.specs.declared.token.Token.{Token}
+use Rattle.path_lex.specs.Bytes.{class_of, is_word_byte, is_number_byte}
+use Rattle.path_lex.specs.Names.{reserved_of}
+
+-- a token without where its bytes lie in memory
+pub data Piece : Type 0 where
+  sign : Sign → Piece
+  reserved : Reserved → Piece
+  name : List ℕ → Piece
+  number : List ℕ → Piece
+
+-- a token and the offset of its first byte
+pub record Placed : Type 0 where
+  pub piece : Piece
+  pub at : ℕ
+
+abbrev pub piece_of : Kind → Piece
+piece_of (kinds.Sign s) = sign s
+piece_of (kinds.Reserved r) = reserved r
+piece_of (kinds.Name n) = name n.now
+piece_of (kinds.Number n) = number n.now
+
+abbrev pub view : Token → Placed
+view t = record { piece = piece_of t.kind; at = t.at }
+
+abbrev pub views : List Token → List Placed
+views ts = map view ts
+
+-- tokens without their places
+abbrev pub pieces : List Placed → List Piece
+pieces ts = map (λ t. t.piece) ts
+
+abbrev pub placed : Piece → ℕ → Placed
+placed p i = record { piece = p; at = i }
+
+-- a word, where it is reserved or not
+abbrev pub word_or : Option Reserved → List ℕ → Piece
+word_or (Some r) w = reserved r
+word_or None w = name w
+
+-- what a word is: reserved, or a name
+abbrev pub word : List ℕ → Piece
+word w = word_or (reserved_of w) w
+
+-- how many bytes from the front on stand in a word, in a number
+abbrev pub word_len : List ℕ → ℕ
+word_len s = prefix_len is_word_byte s
+
+abbrev pub number_len : List ℕ → ℕ
+number_len s = prefix_len is_number_byte s
+
+-- These bytes, which stand at that offset, are made of these tokens.
+pub data Spells : ℕ → List ℕ → List Placed → Type 0 where
+  by_end : {at : ℕ} → Spells at [] []
+  -- white space separates tokens and is none
+  by_space : {at b : ℕ} {bs : List ℕ} {ts : List Placed} → class_of b ≡ classes.Space → Spells (at + 1) bs ts → Spells at (b ∷ bs) ts
+  -- a sign is one byte
+  by_mark : {at b : ℕ} {bs : List ℕ} {ts : List Placed} {s : Sign} → class_of b ≡ classes.Sign s → Spells (at + 1) bs ts
+      → Spells at (b ∷ bs) (placed (sign s) at ∷ ts)
+  -- a letter, and all letters, digits and underscores that follow it
+  by_word : {at b : ℕ} {bs : List ℕ} {ts : List Placed} → class_of b ≡ classes.Letter
+      → Spells (at + 1 + word_len bs) (drop (word_len bs) bs) ts → Spells at (b ∷ bs) (placed (word (b ∷ take (word_len bs) bs)) at ∷ ts)
+  -- a digit, and all digits that follow it
+  by_number : {at b : ℕ} {bs : List ℕ} {ts : List Placed} → class_of b ≡ classes.Digit
+      → Spells (at + 1 + number_len bs) (drop (number_len bs) bs) ts
+      → Spells at (b ∷ bs) (placed (number (b ∷ take (number_len bs) bs)) at ∷ ts)
+
+abbrev pub IsWithinPiece : Piece → Type 0
+IsWithinPiece (sign s) = Unit {0}
+IsWithinPiece (reserved r) = Unit {0}
+IsWithinPiece (name w) = length w ≤ 32
+IsWithinPiece (number n) = length n ≤ 9
+
+-- at most 32 bytes in a word, nine digits in a number
+abbrev pub IsWithin : Placed → Type 0
+IsWithin t = IsWithinPiece t.piece
+
+abbrev pub AreWithin : List Placed → Type 0
+AreWithin ts = AllByRecursion IsWithin ts
+
+-- what a text that can be cut is made of
+pub record AreTokensOf (s : List ℕ) (ts : List Placed) : Type 0 where
+  pub short : length s ≤ 65536
+  pub spelled : Spells 0 s ts
+  pub within : AreWithin ts
+
+-- of these tokens the first past its limit has more than that many bytes, and begins at that offset
+pub record FirstLong (ts : List Placed) (make : List ℕ → Piece) (most at : ℕ) : Type 0 where
+  pub before : List Placed
+  pub text : List ℕ
+  pub after : List Placed
+  pub long : most < length text
+  pub within : AreWithin before
+  pub parts : ts ≡ before ++ placed (make text) at ∷ after
+
+-- a text that can be cut, and of whose words and numbers the first that is too long is the word, the number, at that offset
+abbrev pub IsFirstLongWord : List ℕ → ℕ → Type 0
+IsFirstLongWord s at = (ts : List Placed) × Spells 0 s ts × FirstLong ts name 32 at
+
+abbrev pub IsFirstLongNumber : List ℕ → ℕ → Type 0
+IsFirstLongNumber s at = (ts : List Placed) × Spells 0 s ts × FirstLong ts number 9 at

@@ -1,0 +1,74 @@
+//! Why a text is no declaration.
+
+ghost use Rattle.std.specs.Prelude.{◌≡◌};
+ghost use Rattle.path_lex.specs.declared.fault.DeclFault.TheVariants.{OutOfMemory};
+
+use path_model::OutOfMemory;
+use std::alloc::{AllocError, AllocFailed};
+use thiserror::Error;
+
+/// Why a text is no declaration. A place is the offset of the first byte of the token at fault; at the end of the
+/// text it is the text's length.
+#[derive(Clone, Copy, Debug, PartialEq, Eq, Error)]
+pub enum DeclFault {
+    /// The text has more than 65,536 bytes.
+    #[error("text too long")]
+    TooLong,
+    /// A byte where a token would have to begin, and none can begin with it.
+    #[error("bad byte at {0}")]
+    BadByte(u32),
+    /// A word of more than 32 bytes.
+    #[error("word too long at {0}")]
+    WordTooLong(u32),
+    /// A number of more than nine digits.
+    #[error("number too long at {0}")]
+    NumberTooLong(u32),
+    /// The first token that continues no text of the grammar.
+    #[error("unexpected at {0}")]
+    Unexpected(u32),
+    /// A parenthesis that would be the 33rd open one.
+    #[error("too deep at {0}")]
+    TooDeep(u32),
+    /// The name of a resource that an earlier resource has.
+    #[error("duplicate resource at {0}")]
+    DuplicateResource(u32),
+    /// The name of an operation that was declared before, in any resource.
+    #[error("duplicate operation at {0}")]
+    DuplicateOperation(u32),
+    /// A name in a path that isn't an operation of the path's own resource.
+    #[error("undeclared at {0}")]
+    Undeclared(u32),
+    /// A name in a path that stands earlier in the same path.
+    #[error("repeated name at {0}")]
+    RepeatedName(u32),
+    /// One resource, operation, path or name in a path more than its limit allows.
+    #[error("too many at {0}")]
+    TooMany(u32),
+    /// A growth of memory was refused.
+    #[error("out of memory")]
+    OutOfMemory,
+}
+
+impl From<AllocError> for DeclFault {
+    ghost from_gives = { λ _ e. e ≡ OutOfMemory };
+
+    fn from(_error: AllocError) -> DeclFault {
+        DeclFault::OutOfMemory
+    }
+}
+
+impl<T: Drop> From<AllocFailed<T>> for DeclFault {
+    ghost from_gives = { λ _ e. e ≡ OutOfMemory };
+
+    fn from(_error: AllocFailed<T>) -> DeclFault {
+        DeclFault::OutOfMemory
+    }
+}
+
+impl From<OutOfMemory> for DeclFault {
+    ghost from_gives = { λ _ e. e ≡ OutOfMemory };
+
+    fn from(_error: OutOfMemory) -> DeclFault {
+        DeclFault::OutOfMemory
+    }
+}

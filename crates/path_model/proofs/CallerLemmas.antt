@@ -1,0 +1,27 @@
+-- What the crates above cite of these proofs, and all that they cite: the laws, each under its own name, and lemmas on trees, histories and journals.
+
+-- the laws: what the function of the same name in src/theorems.rt ensures
+pub use Rattle.path_model.proofs.OnePath.{each_path_admits_its_words}
+pub use Rattle.path_model.proofs.OpenBurst.{each_labelling_counts, counters_tell_open_braces}
+pub use Rattle.path_model.proofs.AmongOthers.{each_path_guards}
+pub use Rattle.path_model.proofs.AllPaths.{all_paths_judge, projections_keep_progress, each_event_moves, first_is_one, starts_only_block, each_block_stays, finishes_unblock}
+pub use Rattle.path_model.proofs.Trimmed.{each_path_trims, trimming_keeps_answers, trimmed_admits_the_words}
+pub use Rattle.path_model.proofs.Flat.{one_table_shows_all}
+pub use Rattle.path_model.proofs.Agreement.{the_machines_agree}
+pub use Rattle.path_model.proofs.BoundedValues.{each_value_is_bounded, values_among_are_bounded, table_values_are_bounded}
+pub use Rattle.path_model.proofs.HonestJournals.{fronts_are_honest, each_live_activation_is_found}
+pub use Rattle.path_model.proofs.MachineOwes.{the_machine_owes_the_same, honest_by_machine_is_honest}
+pub use Rattle.path_model.proofs.Progress.{legal_kept as each_honest_journal_is_legal, room_kept as each_honest_journal_has_room, progress_counts as live_activations_are_in_progress}
+pub use Rattle.path_model.proofs.OwedReplies.{each_attempt_is_owed_a_reply, one_reply_is_owed}
+pub use Rattle.path_model.proofs.StuckStates.{frozen_stays_frozen, startables_may_start, live_activations_may_finish, finishes_come_between}
+-- the names of a tree, and the path above a name
+pub use Rattle.path_model.proofs.Upward.{has_names, names_has, path_left, path_right, path_one, path_other}
+-- lists of paths with numbers, and the values of all paths as those of each
+pub use Rattle.path_model.proofs.AllPaths.{every_map, every_both, every_from, every_to, first_from, first_to, first_same, none_same, on_tree, placed, after_placed, now}
+-- the table of paths without braces
+pub use Rattle.path_model.proofs.FlatNumbers.{none_counted}
+pub use Rattle.path_model.proofs.Flat.{plain_openings}
+-- one more line of a journal
+pub use Rattle.path_model.proofs.JournalLists.{begun_more, begun_quiet, live_quiet, history_quiet, contents_more, quiet_use, quiet_reply}
+pub use Rattle.path_model.proofs.HonestJournals.{line_of, honest_more, live_started, live_finished, live_found}
+pub use Rattle.path_model.proofs.Progress.{history_started, history_finished, live_in_progress, begun_lines}

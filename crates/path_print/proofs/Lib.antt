@@ -1,0 +1,9 @@
+pub mod PrintedAgain
+pub mod PrintedBytes
+pub mod PrintedForms
+pub mod PrintedGroups
+pub mod PrintedLaid
+pub mod PrintedLoop
+pub mod PrintedNames
+pub mod PrintedText
+pub mod PrintedWalk

@@ -1,0 +1,93 @@
+-- What is printed of a declaration that was read is made of names and reserved words.
+use Rattle.std.proofs.Common.{◌≡◌, ℕ, Bool, true, false, List, [], ◌∷◌, ◌++◌, map, refl, ap, ◌∙◌, subst}
+use Rattle.std.specs.List.{AllByRecursion, Contains}
+use Rattle.std.proofs.lemmas.List.Elements.{All-from_recursion, recursion_from_All, All-contains}
+use Rattle.path_model.specs.Declarations.{Declaration}
+use Rattle.path_lex.specs.declared.token.Reserved.TheVariants as words
+use Rattle.path_lex.specs.declared.token.Sign.TheVariants as signs
+use Rattle.path_print.specs.declared.printer.Place.{Place}
+use Rattle.path_print.specs.declared.printer.Place.TheVariants.{InSeq, InAlt, InUnit}
+use Rattle.path_lex.specs.Names.{IsName}
+use Rattle.path_lex.specs.Spelling.{Piece, sign, reserved}
+use Rattle.path_decl.specs.Forms.{Form, once, sequence, selection, names_in, ResourceForm, all_operations}
+use Rattle.path_decl.proofs.CallerLemmas.{KeepsPathRules, PathsKeepRules}
+use Rattle.path_decl.proofs.CallerLemmas.{forms_keep_rules}
+use Rattle.path_decl.specs.Declares.{Declares, resource_from}
+use Rattle.path_decl.specs.Lawful.{Lawful}
+use Rattle.path_print.specs.Printed.{wrapped, wraps_seq, wraps_alt, names_pieces, more_names}
+use Rattle.path_print.proofs.PrintedForms.{form_pieces, path_forms, resource_form, resource_forms}
+use Rattle.path_print.proofs.PrintedGroups.{names_declared}
+use Rattle.path_print.proofs.PrintedLaid.{IsPiece}
+
+all_join : {X : Type 0} (P : X → Type 0) (xs ys : List X) → AllByRecursion P xs → AllByRecursion P ys → AllByRecursion P (xs ++ ys)
+all_join P [] ys h k = k
+all_join P (x ∷ xs) ys h k = (h.0, all_join P xs ys h.1 k)
+
+all_left : {X : Type 0} (P : X → Type 0) (xs ys : List X) → AllByRecursion P (xs ++ ys) → AllByRecursion P xs
+all_left P [] ys h = tt
+all_left P (x ∷ xs) ys h = (h.0, all_left P xs ys h.1)
+
+all_right : {X : Type 0} (P : X → Type 0) (xs ys : List X) → AllByRecursion P (xs ++ ys) → AllByRecursion P ys
+all_right P [] ys h = h
+all_right P (x ∷ xs) ys h = all_right P xs ys h.1
+
+wrapped_pieces : (b : Bool) (ps : List Piece) → AllByRecursion IsPiece ps → AllByRecursion IsPiece (wrapped b ps)
+wrapped_pieces true ps h = (tt, all_join IsPiece ps (sign signs.CloseParen ∷ []) h (tt, tt))
+wrapped_pieces false ps h = h
+
+form_named : (f : Form) (place : Place) → AllByRecursion IsName (names_in f) → AllByRecursion IsPiece (form_pieces f place)
+form_named (once n) place h = (h.0, tt)
+form_named (sequence f g) place h = wrapped_pieces (wraps_seq place) (form_pieces f InSeq ++ sign signs.Semicolon ∷ form_pieces g InAlt)
+    (all_join IsPiece (form_pieces f InSeq) (sign signs.Semicolon ∷ form_pieces g InAlt) (form_named f InSeq (all_left IsName (names_in f) (names_in g) h)) (tt, form_named g InAlt (all_right IsName (names_in f) (names_in g) h)))
+form_named (selection f g) place h = wrapped_pieces (wraps_alt place) (form_pieces f InAlt ++ sign signs.Comma ∷ form_pieces g InUnit)
+    (all_join IsPiece (form_pieces f InAlt) (sign signs.Comma ∷ form_pieces g InUnit) (form_named f InAlt (all_left IsName (names_in f) (names_in g) h)) (tt, form_named g InUnit (all_right IsName (names_in f) (names_in g) h)))
+
+-- names that stand among names are names
+contained : (own ns : List (List ℕ)) → AllByRecursion IsName own → AllByRecursion (λ n. Contains own n) ns → AllByRecursion IsName ns
+contained own [] h k = tt
+contained own (n ∷ ns) h k = (All-contains IsName own n (All-from_recursion IsName own h) k.0, contained own ns h k.1)
+
+paths_named : (own : List (List ℕ)) (fs : List Form) → AllByRecursion IsName own → AllByRecursion (KeepsPathRules own) fs → AllByRecursion IsPiece (path_forms fs)
+paths_named own [] h k = tt
+paths_named own (f ∷ fs) h k =
+    let names = contained own (names_in f) h k.0.declared in
+    (tt, all_join IsPiece (form_pieces f InSeq ++ reserved words.End ∷ []) (path_forms fs) (all_join IsPiece (form_pieces f InSeq) (reserved words.End ∷ []) (form_named f InSeq names) (tt, tt)) (paths_named own fs h k.1))
+
+more_named : (ns : List (List ℕ)) → AllByRecursion IsName ns → AllByRecursion IsPiece (more_names ns)
+more_named [] h = tt
+more_named (n ∷ ns) h = (tt, (h.0, more_named ns h.1))
+
+names_named : (ns : List (List ℕ)) → AllByRecursion IsName ns → AllByRecursion IsPiece (names_pieces ns)
+names_named [] h = tt
+names_named (n ∷ ns) h = (h.0, more_named ns h.1)
+
+resource_named : (r : ResourceForm) → IsName r.name → AllByRecursion IsName r.operations → AllByRecursion (KeepsPathRules r.operations) r.paths → AllByRecursion IsPiece (resource_form r)
+resource_named r own names paths = (
+  tt,
+  (
+    own,
+    (
+      tt,
+      (
+        tt,
+        all_join IsPiece (names_pieces r.operations) (path_forms r.paths ++ reserved words.End ∷ []) (names_named r.operations names)
+            (all_join IsPiece (path_forms r.paths) (reserved words.End ∷ []) (paths_named r.operations r.paths names paths) (tt, tt)),
+      ),
+    ),
+  ),
+)
+
+resources_named : (rs : List ResourceForm) → AllByRecursion IsName (map (λ r. r.name) rs) → AllByRecursion IsName (all_operations rs) → PathsKeepRules rs → AllByRecursion IsPiece (resource_forms rs)
+resources_named [] rn on ps = tt
+resources_named (r ∷ rs) rn on ps =
+    all_join IsPiece (resource_form r) (resource_forms rs) (resource_named r rn.0 (all_left IsName r.operations (all_operations rs) on) ps.0) (resources_named rs rn.1 (all_right IsName r.operations (all_operations rs) on) ps.1)
+
+names_of_resources : (rs : List ResourceForm) → map (λ r. r.name) (map resource_from rs) ≡ map (λ r. r.name) rs
+names_of_resources [] = refl
+names_of_resources (r ∷ rs) = ap (λ l. r.name ∷ l) (names_of_resources rs)
+
+pub declared_named : (d : Declaration) (rs : List ResourceForm) → Lawful d → Declares rs d → AllByRecursion IsPiece (resource_forms rs)
+declared_named d rs law is =
+    let rn = subst (λ ns. AllByRecursion IsName ns) (ap (λ l. map (λ r. r.name) l) is.resources ∙ names_of_resources rs) (recursion_from_All IsName (map (λ r. r.name) d.resources) law.resource_names.each) in
+    let on = subst (λ ns. AllByRecursion IsName ns) (names_declared d rs is) (recursion_from_All IsName (map (λ o. o.name) d.operations) law.operation_names.each) in
+    resources_named rs rn on (forms_keep_rules rs d is law).paths

@@ -1,0 +1,10 @@
+-- What is live is in progress.
+use Rattle.std.proofs.Common.{sym, subst}
+use Rattle.path_system.specs.Parts.{AreReady}
+use Rattle.path_system.proofs.Tested.{own_found}
+use Rattle.path_system.proofs.parts.Parts.finish.Goals as goal
+
+pub release-requires : goal.release-requires
+release-requires g c =
+    let ready : AreReady (record { declaration = c.self.inside.decl.declaration; standing = c.self.inside.gate; book = c.self.inside.ledger; cells = c.self.inside.cells.items }) = subst AreReady (sym c.self.view_is) c.requires in
+    ready.running c.args.act _ (own_found c.args.worker _ c.in-Ok.activation c.in-Ok.ensures.told)

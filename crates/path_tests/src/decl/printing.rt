@@ -1,0 +1,76 @@
+//! Declarations, and the texts that they are printed as.
+
+use crate::in_turn::refuse_in_turn;
+use path_decl::{Decl, read};
+use path_print::print;
+use path_model::OutOfMemory;
+use refusing::Refusing;
+use std::alloc::Global;
+use std::process::Abort;
+
+const OTHER_TREES: &str =
+    "resource r cell operation a, b, c path a; b; c end path a; ( b; c ) end end\n";
+
+fn declared(rt: &impl Abort, heap: Global, text: &str) -> Decl {
+    match read(heap, text.as_bytes()) {
+        Ok(decl) => decl,
+        Err(fault) => panic!(rt; "{fault:?}"),
+    }
+}
+
+fn prints(rt: &impl Abort, heap: Global, text: &str, want: &str) {
+    match print(heap, &declared(rt, heap, text)) {
+        Ok(printed) => assert_eq!(rt; printed.as_str(), want),
+        Err(OutOfMemory) => panic!(rt; "out of memory"),
+    }
+}
+
+#[test]
+fn prints_the_tokens(rt: HostRuntime) {
+    let rows = [
+        (
+            "resource r cell operation a,b,c path (a , b) ; c end end",
+            "resource r cell operation a, b, c path a, b; c end end\n",
+        ),
+        (
+            "resource r cell operation a , b , c path (a ; b) , c end end",
+            "resource r cell operation a, b, c path ( a; b ), c end end\n",
+        ),
+        (
+            "resource r cell operation a, b, c path a ; b ; c end path a ; ( b ; c ) end end",
+            OTHER_TREES,
+        ),
+        (
+            "resource r\ncell operation a,b,c\npath (a, b), c end path a, (b, c) end end\n",
+            "resource r cell operation a, b, c path a, b, c end path a, ( b, c ) end end\n",
+        ),
+        (
+            "resource r cell operation a end\nresource s cell operation b path b end end",
+            "resource r cell operation a end resource s cell operation b path b end end\n",
+        ),
+    ];
+    for (text, want) in rows {
+        prints(&rt, rt.alloc(), text, want);
+    }
+}
+
+#[test]
+fn prints_no_needless_parentheses(rt: HostRuntime) {
+    let text =
+        "resource r cell operation a path ((((((((((((((((((((((((((((((((a)))))))))))))))))))))))))))))))) end end";
+    prints(
+        &rt,
+        rt.alloc(),
+        text,
+        "resource r cell operation a path a end end\n",
+    );
+}
+
+#[test]
+fn printing_wants_memory(rt: HostRuntime) {
+    let decl = declared(&rt, rt.alloc(), OTHER_TREES);
+    refuse_in_turn(&rt, rt.alloc(), OutOfMemory, |heap: &Refusing<Global>| {
+        let text = print(heap, &decl)?;
+        Ok(text.as_str() == OTHER_TREES)
+    });
+}

@@ -1,0 +1,9 @@
+//! What the plain types say of themselves.
+
+use path_model::OutOfMemory;
+
+#[test]
+fn says_what_is_wanting(rt: HostRuntime) {
+    let text = format!(in rt.alloc(); "{}", OutOfMemory);
+    assert!(rt; text.is_ok_and(|text| text.as_str() == "out of memory"));
+}
