@@ -26,10 +26,9 @@ pub const ROOM: u32 = 4096;
 /// The most bytes that an answer adds to its attempt: `: used `, twenty digits and a line feed.
 const LONGEST_REPLY: usize = 28;
 
-/// How many bytes the answers to the attempts of a text have at most. No line has fewer than ten bytes with its line feed.
+/// How many bytes the answers to the attempts of a text have at most: no line has fewer than ten bytes with its line feed.
 fn longest_trace(attempts: &[u8]) -> usize {
-    let ends = attempts.iter().filter(|byte| **byte == b'\n').count();
-    let lines = ends.min(attempts.len() / 10).saturating_add(1);
+    let lines = attempts.len() / 10 + 1;
     lines
         .saturating_mul(LONGEST_REPLY)
         .saturating_add(attempts.len())
@@ -151,15 +150,18 @@ pub fn trace_to<A: Allocator + Copy, O: Write, E: Write>(
     err: &mut E,
 ) -> Status
     // Each attempt of the text was written with a reply owed after the lines so far, and nothing else was.
-    ensures done { result ≡ Status.Done → AppendsSome (O.contents out.old) (O.contents out.new) (IsTraceOf decl.declaration room attempts.now) }
+    ensures done { result ≡ Status.Done
+        → AppendsSome (O.contents out.old) (O.contents out.new) (IsTraceOf decl.declaration room attempts.now) }
     // Nothing is done in a room that no system has.
     ensures room { IsBadRoom room → result ≢ Status.Done }
     // No system has the room, and nothing was written.
     ensures bad_room { result ≡ Status.CommandRefused → Keeps (O.contents out.old) (O.contents out.new) × IsBadRoom room }
     // The text is too long or tells no attempts, and nothing was written.
-    ensures refused { result ≡ Status.TextRefused → Keeps (O.contents out.old) (O.contents out.new) × IsBadText decl.declaration attempts.now }
+    ensures refused { result ≡ Status.TextRefused
+        → Keeps (O.contents out.old) (O.contents out.new) × IsBadText decl.declaration attempts.now }
     // Only a front of those lines was written.
-    ensures memory { result ≡ Status.NoMemory → AppendsSome (O.contents out.old) (O.contents out.new) (IsFrontOf (IsTraceOf decl.declaration room attempts.now)) }
+    ensures memory { result ≡ Status.NoMemory
+        → AppendsSome (O.contents out.old) (O.contents out.new) (IsFrontOf (IsTraceOf decl.declaration room attempts.now)) }
     ensures statuses { result ≢ Status.DeclarationRefused }
 {
     match traced(alloc, decl, room, attempts) {

@@ -125,7 +125,8 @@ impl<A: Allocator + Copy> Model for Gate<A> {
 
     ghost view = { λ g. standing_of g.decl.value.declaration g.semaphores.items g.in_progress.items g.admitted };
 
-    ghost invariant = { λ g. IsSound (standing_of g.decl.value.declaration g.semaphores.items g.in_progress.items g.admitted) (rows_of g.by_op.items) };
+    ghost invariant = { λ g. IsSound
+        (standing_of g.decl.value.declaration g.semaphores.items g.in_progress.items g.admitted) (rows_of g.by_op.items) };
 }
 
 impl<A: Allocator + Copy> Gate<A> {

@@ -28,14 +28,3 @@ impl<T: Drop> From<AllocFailed<T>> for OutOfMemory {
         OutOfMemory
     }
 }
-
-#[cfg(test)]
-mod tests {
-    use super::*;
-
-    #[test]
-    fn says_what_is_wanting(rt: HostRuntime) {
-        let text = format!(in rt.alloc(); "{}", OutOfMemory);
-        assert!(rt; text.is_ok_and(|text| text.as_str() == "out of memory"));
-    }
-}

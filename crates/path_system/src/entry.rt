@@ -145,7 +145,8 @@ fn read_attempt<'a, A: Allocator + Copy>(
     text: &'a [u8],
 ) -> Result<(Attempt, &'a [u8]), LineFault>
     ensures ok { IfOk result (λ p. (text.now ≡ attempt_text decl.now.declaration p.0 ++ p.1.now) × AttemptFits p.0 × EndsAt 10 p.1.now) }
-    ensures err { OnErr result ((a : Attempt) (r : List ℕ) → AttemptFits a → EndsAt 10 r → text.now ≢ attempt_text decl.now.declaration a ++ r) }
+    ensures err { OnErr result ((a : Attempt) (r : List ℕ)
+        → AttemptFits a → EndsAt 10 r → text.now ≢ attempt_text decl.now.declaration a ++ r) }
     ensures fault { IfErr result (λ f. (line : List ℕ) → IsFirstLine line text.now → IsAttemptFault decl.now.declaration line f) }
 {
     if let Some(rest) = strip(text, b"use ") {

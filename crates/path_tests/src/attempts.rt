@@ -2,7 +2,9 @@
 
 use path_decl::read;
 use path_model::{ActId, Attempt, Line, OpId, Reply, Verb};
-use path_system::{FirstLine, LineFault, TextFault, fault_at, first_entry, read_attempts, write_line};
+use path_system::{
+    FirstLine, LineFault, TextFault, fault_at, first_entry, read_attempts, write_line,
+};
 use refusing::Refusing;
 use std::test::Fail;
 
@@ -39,9 +41,24 @@ fn reads_the_first_line(rt: HostRuntime) {
         ("1 start b\n2 start a\n", 1, Attempt::Start(OpId(1)), 9),
         ("4294967295 start #2", u32::MAX, Attempt::Start(OpId(2)), 19),
         ("1 start #256\n", 1, Attempt::Start(OpId(256)), 12),
-        ("1 start #4294967295\nx", 1, Attempt::Start(OpId(u32::MAX)), 19),
-        ("0 use 0 put 0\n", 0, Attempt::Apply(ActId(0), Verb::Put(0)), 13),
-        ("0 use 1 take\n\n", 0, Attempt::Apply(ActId(1), Verb::Take), 12),
+        (
+            "1 start #4294967295\nx",
+            1,
+            Attempt::Start(OpId(u32::MAX)),
+            19,
+        ),
+        (
+            "0 use 0 put 0\n",
+            0,
+            Attempt::Apply(ActId(0), Verb::Put(0)),
+            13,
+        ),
+        (
+            "0 use 1 take\n\n",
+            0,
+            Attempt::Apply(ActId(1), Verb::Take),
+            12,
+        ),
         ("0 use 1 look", 0, Attempt::Apply(ActId(1), Verb::Look), 12),
         (
             "0 use 18446744073709551615 add 18446744073709551615\n",
@@ -111,7 +128,11 @@ fn names_the_fault_of_the_first_line(rt: HostRuntime) {
         "%",
     ];
     for text in bad {
-        assert_eq!(rt; first_entry(&decl, text.as_bytes()), Err(LineFault::Bad), "at {text:?}");
+        assert_eq!(rt;
+            first_entry(&decl, text.as_bytes()),
+            Err(LineFault::Bad),
+            "at {text:?}"
+        );
     }
     let undeclared = [
         "1 start c",
@@ -120,10 +141,17 @@ fn names_the_fault_of_the_first_line(rt: HostRuntime) {
         "1 start abcdefghijklmnopqrstuvwxyzabcdef",
     ];
     for text in undeclared {
-        assert_eq!(rt; first_entry(&decl, text.as_bytes()), Err(LineFault::Undeclared), "at {text:?}");
+        assert_eq!(rt;
+            first_entry(&decl, text.as_bytes()),
+            Err(LineFault::Undeclared),
+            "at {text:?}"
+        );
     }
     assert_eq!(rt; fault_at(3, LineFault::Bad), TextFault::BadLine(3));
-    assert_eq!(rt; fault_at(3, LineFault::Undeclared), TextFault::Undeclared(3));
+    assert_eq!(rt;
+        fault_at(3, LineFault::Undeclared),
+        TextFault::Undeclared(3)
+    );
 }
 
 /// An operation that isn't declared is read by its number, and written so again.
@@ -154,7 +182,10 @@ fn names_the_first_faulty_line(rt: HostRuntime) {
     };
     let rows = [
         ("1 start a\n\n", TextFault::BadLine(1)),
-        ("1 start a\n1 start c\n1 start #0\n", TextFault::Undeclared(1)),
+        (
+            "1 start a\n1 start c\n1 start #0\n",
+            TextFault::Undeclared(1),
+        ),
         ("1 start a\n1 start #2\n1 start #1", TextFault::BadLine(2)),
         ("\n", TextFault::BadLine(0)),
     ];
@@ -165,7 +196,10 @@ fn names_the_first_faulty_line(rt: HostRuntime) {
         }
     }
     for text in ["", "1 start #2", "1 start #2\n"] {
-        assert!(rt; read_attempts(rt.alloc(), &decl, text.as_bytes()).is_ok(), "at {text:?}");
+        assert!(rt;
+            read_attempts(rt.alloc(), &decl, text.as_bytes()).is_ok(),
+            "at {text:?}"
+        );
     }
 }
 

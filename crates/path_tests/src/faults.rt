@@ -21,7 +21,11 @@ fn tells_each_fault(rt: HostRuntime) {
         (Fault::Open(OpenFault::BadRoom), 2, "open: bad room\n"),
         (Fault::Open(OpenFault::OutOfMemory), 6, "out of memory\n"),
         (Fault::Unreadable("slot"), 3, "file: slot: cannot read\n"),
-        (Fault::TooLong("standard input"), 3, "file: standard input: too long\n"),
+        (
+            Fault::TooLong("standard input"),
+            3,
+            "file: standard input: too long\n",
+        ),
         (Fault::Unwritable, 3, "output: cannot write\n"),
         (Fault::Text(TextFault::TooLong), 4, "text: too long\n"),
         (Fault::Text(TextFault::OutOfMemory), 6, "out of memory\n"),

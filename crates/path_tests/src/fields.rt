@@ -13,7 +13,11 @@ fn numbers(rt: HostRuntime) {
         ("18446744073709551615:", u64::MAX, ":"),
     ];
     for (text, value, rest) in right {
-        assert_eq!(rt; number(text.as_bytes()), Some((value, rest.as_bytes())), "at {text}");
+        assert_eq!(rt;
+            number(text.as_bytes()),
+            Some((value, rest.as_bytes())),
+            "at {text}"
+        );
     }
     let wrong = [
         "",

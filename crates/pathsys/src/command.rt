@@ -59,7 +59,9 @@ fn check<'a>(alloc: Global) -> Result<Command<'a>, AllocError> {
 fn trace<'a>(alloc: Global) -> Result<Command<'a>, AllocError> {
     Command::new(alloc, "trace")
         .about("Answers each attempt of a file")
-        .after_help("docs/language.md describes declarations, docs/attempts.md attempts and replies.")
+        .after_help(
+            "docs/language.md describes declarations, docs/attempts.md attempts and replies.",
+        )
         .arg(file(alloc, "DECL", "the file of the declaration"))?
         .arg(file(alloc, "ATTEMPTS", "the file of the attempts"))?
         .arg(room(alloc))

@@ -2,8 +2,8 @@
 
 use crate::in_turn::refuse_in_turn;
 use path_decl::{Decl, read};
-use path_print::print;
 use path_model::OutOfMemory;
+use path_print::print;
 use refusing::Refusing;
 use std::alloc::Global;
 use std::process::Abort;
