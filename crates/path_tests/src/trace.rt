@@ -307,15 +307,25 @@ fn is_refused_at<R: Abort + AllocGlobal>(rt: &R, number: u64, room: u32) -> bool
     true
 }
 
+// Each request is refused in turn, until the trace ends as it does with ample memory.
+fn is_refused_in_turn(rt: &(impl Abort + AllocGlobal), room: u32) {
+    for number in 1..200u64 {
+        if !is_refused_at(rt, number, room) {
+            assert!(rt; number > 1);
+            return;
+        }
+    }
+    panic!(rt; "never passed");
+}
+
 #[test]
 fn each_request_of_a_trace_is_refused(rt: HostRuntime) {
-    for room in [ROOM, 0] {
-        let mut number = 1u64;
-        while number < 200 && is_refused_at(&rt, number, room) {
-            number += 1;
-        }
-        assert!(rt; number > 1 && number < 200);
-    }
+    is_refused_in_turn(&rt, ROOM);
+}
+
+#[test]
+fn each_request_in_a_bad_room_is_refused(rt: HostRuntime) {
+    is_refused_in_turn(&rt, 0);
 }
 
 #[test]
