@@ -28,7 +28,7 @@ fn note<A: Allocator + Copy>(
             note(naming, left, path)?;
             note(naming, right, path)?;
         }
-        Expr::Burst(inner) => note(naming, inner, path)?,
+        Expr::Burst(inner) | Expr::Counted(inner, _) => note(naming, inner, path)?,
     }
     Ok(())
 }

@@ -22,6 +22,7 @@ class_of b =
     if b == 95 then classes.Underscore else
     if b == 59 then classes.Sign signs.Semicolon else
     if b == 44 then classes.Sign signs.Comma else
+    if b == 58 then classes.Sign signs.Colon else
     if b == 40 then classes.Sign signs.OpenParen else
     if b == 41 then classes.Sign signs.CloseParen else
     if b == 123 then classes.Sign signs.OpenBrace else

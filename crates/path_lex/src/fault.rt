@@ -26,7 +26,7 @@ pub enum DeclFault {
     /// The first token that continues no text of the grammar.
     #[error("unexpected at {0}")]
     Unexpected(u32),
-    /// A parenthesis that would be the 33rd open one.
+    /// A parenthesis or a brace that would be the 33rd open one.
     #[error("too deep at {0}")]
     TooDeep(u32),
     /// The name of a resource that an earlier resource has.
@@ -41,6 +41,15 @@ pub enum DeclFault {
     /// A name in a path that stands earlier in the same path.
     #[error("repeated name at {0}")]
     RepeatedName(u32),
+    /// A brace inside open braces.
+    #[error("nested braces at {0}")]
+    NestedBraces(u32),
+    /// The capacity of a queue that begins with the digit 0, or is greater than 1,024.
+    #[error("bad capacity at {0}")]
+    BadCapacity(u32),
+    /// The bound of braces that begins with the digit 0, or is greater than 65,535.
+    #[error("bad count at {0}")]
+    BadCount(u32),
     /// One resource, operation, path or name in a path more than its limit allows.
     #[error("too many at {0}")]
     TooMany(u32),

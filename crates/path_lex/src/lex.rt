@@ -32,6 +32,7 @@ fn class(b: u8) -> Class
         b'_' => Class::Underscore,
         b';' => Class::Sign(Sign::Semicolon),
         b',' => Class::Sign(Sign::Comma),
+        b':' => Class::Sign(Sign::Colon),
         b'(' => Class::Sign(Sign::OpenParen),
         b')' => Class::Sign(Sign::CloseParen),
         b'{' => Class::Sign(Sign::OpenBrace),

@@ -5,6 +5,7 @@
 pub enum Sign {
     Semicolon,
     Comma,
+    Colon,
     OpenParen,
     CloseParen,
     OpenBrace,

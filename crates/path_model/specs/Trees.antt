@@ -1,8 +1,8 @@
 -- The tree of a path, and its names.
-use Rattle.std.specs.Prelude.{◌≡◌, ◌==◌, ◌<◌, ◌||◌, Bool, ℕ, ◌⊎◌}
+use Rattle.std.specs.Prelude.{◌≡◌, ◌==◌, ◌<◌, ◌≤◌, ◌||◌, Bool, ℕ, ◌⊎◌}
 use Rattle.path_model.specs.declared.ids.OpId.{OpId}
 use Rattle.path_model.specs.declared.tree.Expr.{Expr}
-use Rattle.path_model.specs.declared.tree.Expr.TheVariants.{Op, Seq', Alt', Burst'}
+use Rattle.path_model.specs.declared.tree.Expr.TheVariants.{Op, Seq', Alt', Burst', Counted'}
 
 -- how many executions may overlap within braces
 pub data Bound : Type 0 where
@@ -26,6 +26,7 @@ shape (Op a) = op a
 shape (Seq' p s q t) = seq (shape s) (shape t)
 shape (Alt' p s q t) = alt (shape s) (shape t)
 shape (Burst' p s) = burst any (shape s)
+shape (Counted' p s n) = burst (most n) (shape s)
 
 -- the tree names the operation
 abbrev pub Names : Tree → OpId → Type 0
@@ -58,6 +59,14 @@ NoNesting (op a) = Unit {0}
 NoNesting (seq s t) = NoNesting s × NoNesting t
 NoNesting (alt s t) = NoNesting s × NoNesting t
 NoNesting (burst bd s) = NoBraces s × Room bd 0
+
+-- no braces let more than 65,535 executions overlap by their bound
+abbrev pub FewAtOnce : Tree → Type 0
+FewAtOnce (op a) = Unit {0}
+FewAtOnce (seq s t) = FewAtOnce s × FewAtOnce t
+FewAtOnce (alt s t) = FewAtOnce s × FewAtOnce t
+FewAtOnce (burst any s) = FewAtOnce s
+FewAtOnce (burst (most n) s) = (n ≤ 65535) × FewAtOnce s
 
 pub record WellFormed (s : Tree) : Type 0 where
   pub names_once : NoRepeats s

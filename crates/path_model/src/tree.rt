@@ -14,4 +14,6 @@ pub enum Expr<A: Allocator + Copy = Global> {
     Alt(Box<Expr<A>, A>, Box<Expr<A>, A>),
     /// `{ S }`: executions that overlap, as many as are asked for.
     Burst(Box<Expr<A>, A>),
+    /// `{ S : n }`: executions that overlap, at most so many at any time.
+    Counted(Box<Expr<A>, A>, u32),
 }

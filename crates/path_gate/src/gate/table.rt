@@ -43,7 +43,7 @@ fn add_waits<A: Allocator + Copy>(
             let middle = add_waits(by_op, left, next, term)?;
             add_waits(by_op, right, middle, term)
         }
-        Expr::Burst(_) => unreachable!(),
+        Expr::Burst(_) | Expr::Counted(_, _) => unreachable!(),
     }
 }
 
@@ -78,7 +78,7 @@ fn set_signals<A: Allocator + Copy>(
             let middle = set_signals(by_op, right, end, signal);
             set_signals(by_op, left, middle, signal)
         }
-        Expr::Burst(_) => unreachable!(),
+        Expr::Burst(_) | Expr::Counted(_, _) => unreachable!(),
     }
 }
 
