@@ -41,6 +41,7 @@ unfolding class_of
 apart_ended [] = refl
 apart_ended (sign signs.Semicolon ∷ ps) = refl
 apart_ended (sign signs.Comma ∷ ps) = refl
+apart_ended (sign signs.Colon ∷ ps) = refl
 apart_ended (sign signs.OpenParen ∷ ps) = refl
 apart_ended (sign signs.CloseParen ∷ ps) = refl
 apart_ended (sign signs.OpenBrace ∷ ps) = refl
@@ -61,6 +62,7 @@ sign_is : (s : Sign) → class_of (sign_byte s) ≡ classes.Sign s
 unfolding class_of
 sign_is signs.Semicolon = refl
 sign_is signs.Comma = refl
+sign_is signs.Colon = refl
 sign_is signs.OpenParen = refl
 sign_is signs.CloseParen = refl
 sign_is signs.OpenBrace = refl
@@ -119,6 +121,7 @@ put_before (number n) ps h f at = absurd h
 sign_after : (s : Sign) (rest : List ℕ) (ps : List Piece) → ((at : ℕ) → Made at (sign_byte s ∷ rest) ps) → (at : ℕ) → Made at (sign_gap s ++ (sign_byte s ∷ rest)) ps
 sign_after signs.Semicolon rest ps f at = f at
 sign_after signs.Comma rest ps f at = f at
+sign_after signs.Colon rest ps f at = f at
 sign_after signs.OpenParen rest ps f at = spaced_made (f (at + 1))
 sign_after signs.CloseParen rest ps f at = spaced_made (f (at + 1))
 sign_after signs.OpenBrace rest ps f at = spaced_made (f (at + 1))

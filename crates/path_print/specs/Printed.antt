@@ -4,7 +4,7 @@ use Rattle.std.specs.Fmt.{decimal}
 use Rattle.path_model.specs.declared.ids.OpId.{OpId}
 use Rattle.path_model.specs.declared.resource.Law.{Law}
 use Rattle.path_model.specs.declared.resource.Law.TheVariants as laws
-use Rattle.path_model.specs.Trees.{Tree, op, seq, alt, burst}
+use Rattle.path_model.specs.Trees.{Bound, any, most, Tree, op, seq, alt, burst}
 use Rattle.path_model.specs.Declarations.{Resource, Operation, Path, Declaration}
 use Rattle.path_lex.specs.declared.token.Sign.{Sign}
 use Rattle.path_lex.specs.declared.token.Sign.TheVariants as signs
@@ -18,6 +18,7 @@ use Rattle.path_lex.specs.Spelling.{Piece, sign, reserved, name, number}
 abbrev pub sign_byte : Sign → ℕ
 sign_byte signs.Semicolon = 59
 sign_byte signs.Comma = 44
+sign_byte signs.Colon = 58
 sign_byte signs.OpenParen = 40
 sign_byte signs.CloseParen = 41
 sign_byte signs.OpenBrace = 123
@@ -40,10 +41,11 @@ piece_text (reserved r) = reserved_text r
 piece_text (name n) = n
 piece_text (number n) = n
 
--- what stands between a sign and the token before it: nothing where it is `,` or `;`, and else a space
+-- what stands between a sign and the token before it: nothing where it is `,`, `;` or `:`, and else a space
 abbrev pub sign_gap : Sign → List ℕ
 sign_gap signs.Semicolon = []
 sign_gap signs.Comma = []
+sign_gap signs.Colon = []
 sign_gap signs.OpenParen = 32 ∷ []
 sign_gap signs.CloseParen = 32 ∷ []
 sign_gap signs.OpenBrace = 32 ∷ []
@@ -87,12 +89,17 @@ wrapped false ps = ps
 abbrev pub name_of : List Operation → OpId → List ℕ
 name_of os a = unwrap_or (option_map (λ o. o.name) (slice_get os a.0)) []
 
+-- the tokens of a bound, within its braces
+abbrev pub bound_pieces : Bound → List Piece
+bound_pieces any = []
+bound_pieces (most n) = sign signs.Colon ∷ number (decimal n) ∷ []
+
 -- the tokens of a tree, with parentheses only where its place needs them
 abbrev pub tree_pieces : List Operation → Tree → Place → List Piece
 tree_pieces os (op a) place = name (name_of os a) ∷ []
 tree_pieces os (seq s t) place = wrapped (wraps_seq place) (tree_pieces os s InSeq ++ sign signs.Semicolon ∷ tree_pieces os t InAlt)
 tree_pieces os (alt s t) place = wrapped (wraps_alt place) (tree_pieces os s InAlt ++ sign signs.Comma ∷ tree_pieces os t InUnit)
-tree_pieces os (burst b s) place = sign signs.OpenBrace ∷ (tree_pieces os s InSeq ++ sign signs.CloseBrace ∷ [])
+tree_pieces os (burst b s) place = sign signs.OpenBrace ∷ (tree_pieces os s InSeq ++ (bound_pieces b ++ sign signs.CloseBrace ∷ []))
 
 -- the tokens of a path
 abbrev pub path_pieces : List Operation → Tree → List Piece

@@ -82,6 +82,11 @@ fn put_tree<A: Allocator + Copy, B: Allocator + Copy>(
             put_tree(out, decl, inner, Place::InSeq)?;
             out.push_str(" }")?;
         }
+        Expr::Counted(inner, bound) => {
+            out.push_str(" {")?;
+            put_tree(out, decl, inner, Place::InSeq)?;
+            write!(out, ": {bound} }}")?;
+        }
     }
     Ok(())
 }
@@ -187,8 +192,8 @@ fn put_head<A: Allocator + Copy, B: Allocator + Copy>(
     Ok(())
 }
 
-/// The text of the declaration: its tokens in order, a space between two of them but none before `,` and `;`, and a
-/// line feed at the end. Parentheses stand only where a tree needs them: round a sequence at the right of a `;` or
+/// The text of the declaration: its tokens in order, a space between two of them but none before `,`, `;` and `:`,
+/// and a line feed at the end. Parentheses stand only where a tree needs them: round a sequence at the right of a `;` or
 /// beside a `,`, and round a selection at the right of a `,`. Where the text has at most 65,536 bytes, it is read as
 /// the same declaration.
 ///
