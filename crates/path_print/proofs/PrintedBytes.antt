@@ -23,7 +23,7 @@ pub spaced-braces : (out : List ℕ) (ps : List Piece) →
 spaced-braces out ps = simp (append_assoc, spaced-append) refl
 
 pub spaced-counted : (out : List ℕ) (ps : List Piece) (n : ℕ) →
-    (((out ++ 32 ∷ 123 ∷ []) ++ spaced ps) ++ (58 ∷ 32 ∷ [])) ++ decimal n ++ codes " }" ≡ out ++ spaced (sign signs.OpenBrace ∷ (ps ++ (bound_pieces (most n) ++ sign signs.CloseBrace ∷ [])))
+    ((out ++ 32 ∷ 123 ∷ []) ++ spaced ps) ++ (58 ∷ 32 ∷ (decimal n ++ 32 ∷ 125 ∷ [])) ≡ out ++ spaced (sign signs.OpenBrace ∷ (ps ++ (bound_pieces (most n) ++ sign signs.CloseBrace ∷ [])))
 spaced-counted out ps n = simp (append_assoc, spaced-append) refl
 
 -- after these bytes a path
