@@ -5,5 +5,6 @@ pub mod PrintedGroups
 pub mod PrintedLaid
 pub mod PrintedLoop
 pub mod PrintedNames
+pub mod PrintedNumbers
 pub mod PrintedText
 pub mod PrintedWalk

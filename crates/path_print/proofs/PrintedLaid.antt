@@ -1,5 +1,5 @@
 -- What is laid out is cut into the same tokens.
-use Rattle.std.proofs.Common.{◌≡◌, ℕ, ◌+◌, ◌≤◌, Bool, true, false, List, [], ◌∷◌, ◌++◌, length, take, drop, None, refl, sym, ap, ◌∙◌, subst, one-add, append_assoc}
+use Rattle.std.proofs.Common.{◌≡◌, ℕ, ◌+◌, ◌≤◌, Bool, true, false, List, [], ◌∷◌, ◌++◌, length, take, drop, None, refl, sym, ap, ◌∙◌, subst, one-add, append_assoc, arith}
 use Rattle.std.specs.List.{prefix_len, AllByRecursion}
 use Rattle.std.proofs.Math.Seq.{take-append_seam, drop-append_seam}
 use Rattle.path_lex.specs.declared.token.Sign.{Sign}
@@ -7,17 +7,19 @@ use Rattle.path_lex.specs.declared.token.Sign.TheVariants as signs
 use Rattle.path_lex.specs.declared.token.Reserved.{Reserved}
 use Rattle.path_lex.specs.declared.token.Reserved.TheVariants as words
 use Rattle.path_lex.specs.declared.token.Class.TheVariants as classes
-use Rattle.path_lex.specs.Bytes.{class_of, in_word, is_word_byte}
+use Rattle.path_lex.specs.declared.token.Class.{Class}
+use Rattle.path_lex.specs.Bytes.{class_of, in_word, in_number, is_word_byte, is_number_byte}
 use Rattle.path_lex.specs.Names.{reserved_of, IsWordText, IsName}
-use Rattle.path_lex.specs.Spelling.{Piece, sign, reserved, name, number, Placed, placed, pieces, word, word_or, word_len, Spells, by_end, by_space, by_mark, by_word, IsWithinPiece, AreWithin, AreTokensOf}
+use Rattle.path_lex.specs.Spelling.{Piece, sign, reserved, name, number, Placed, placed, pieces, word, word_or, word_len, number_len, Spells, by_end, by_space, by_mark, by_word, by_number, IsWithinPiece, AreWithin, AreTokensOf}
+use Rattle.path_print.proofs.PrintedNumbers.{IsNumberText}
 use Rattle.path_print.specs.Printed.{sign_byte, sign_gap, reserved_text, piece_text, gap, spaced, laid}
 
--- a piece that can be printed: a name is one
+-- a piece that can be printed: a name is one, and a number has one digit to nine
 abbrev pub IsPiece : Piece → Type 0
 IsPiece (sign s) = Unit {0}
 IsPiece (reserved r) = Unit {0}
 IsPiece (name n) = IsName n
-IsPiece (number n) = ⊥
+IsPiece (number n) = IsNumberText n
 
 -- no word goes on here
 abbrev Apart : List ℕ → Type 0
@@ -31,6 +33,18 @@ run p (x ∷ xs) ys h e = let f = h.0 in rw f (ap (λ n. 1 + n) (run p xs ys h.1
 word_stops : (ys : List ℕ) → Apart ys → word_len ys ≡ 0
 word_stops [] h = refl
 word_stops (y ∷ ys) h = rw h refl
+
+no_digit : (c : Class) → in_word c ≡ false → in_number c ≡ false
+no_digit classes.Digit h = absurd cc
+no_digit classes.Letter h = refl
+no_digit classes.Underscore h = refl
+no_digit classes.Space h = refl
+no_digit (classes.Sign s) h = refl
+no_digit classes.Other h = refl
+
+number_stops : (ys : List ℕ) → Apart ys → number_len ys ≡ 0
+number_stops [] h = refl
+number_stops (y ∷ ys) h = rw (no_digit (class_of y) h) refl
 
 -- these tokens, and a line feed
 abbrev ended : List Piece → List ℕ
@@ -111,12 +125,26 @@ worded (b ∷ bs) rest p ps h e a f at =
     let inside : Spells (at + 1 + word_len (bs ++ rest)) (drop (word_len (bs ++ rest)) (bs ++ rest)) m.0 = subst (λ k. Spells (at + 1 + k) (drop (word_len (bs ++ rest)) (bs ++ rest)) m.0) (sym n) (subst (λ x. Spells (at + 1 + length bs) x m.0) (sym d) m.1) in
     (placed (word (b ∷ take (word_len (bs ++ rest)) (bs ++ rest))) at ∷ m.0, by_word h.0 inside, ap (λ x. word (b ∷ x) ∷ pieces m.0) t ∙ ap (λ x. x ∷ pieces m.0) e ∙ ap (λ x. p ∷ x) m.2)
 
+numerals : (ds : List ℕ) → AllByRecursion (λ c. class_of c ≡ classes.Digit) ds → AllByRecursion (λ c. is_number_byte c ≡ true) ds
+numerals [] h = tt
+numerals (d ∷ ds) h = (ap in_number h.0, numerals ds h.1)
+
+numbered : (n rest : List ℕ) (ps : List Piece) → IsNumberText n → Apart rest → ((at : ℕ) → Made at rest ps) → (at : ℕ) → Made at (n ++ rest) (number n ∷ ps)
+numbered [] rest ps h a f at = absurd (omega (arith, h.some))
+numbered (b ∷ bs) rest ps h a f at =
+    let m = f (at + 1 + length bs) in
+    let n : number_len (bs ++ rest) ≡ length bs = run is_number_byte bs rest (numerals bs h.digits.1) (number_stops rest a) in
+    let t : take (number_len (bs ++ rest)) (bs ++ rest) ≡ bs = ap (λ k. take k (bs ++ rest)) n ∙ take-append_seam bs rest in
+    let d : drop (number_len (bs ++ rest)) (bs ++ rest) ≡ rest = ap (λ k. drop k (bs ++ rest)) n ∙ drop-append_seam bs rest in
+    let inside : Spells (at + 1 + number_len (bs ++ rest)) (drop (number_len (bs ++ rest)) (bs ++ rest)) m.0 = subst (λ k. Spells (at + 1 + k) (drop (number_len (bs ++ rest)) (bs ++ rest)) m.0) (sym n) (subst (λ x. Spells (at + 1 + length bs) x m.0) (sym d) m.1) in
+    (placed (number (b ∷ take (number_len (bs ++ rest)) (bs ++ rest))) at ∷ m.0, by_number h.digits.0 inside, ap (λ x. number (b ∷ x) ∷ pieces m.0) t ∙ ap (λ x. number (b ∷ bs) ∷ x) m.2)
+
 -- a token and what follows it
 put_before : (p : Piece) (ps : List Piece) → IsPiece p → ((at : ℕ) → Made at (ended ps) ps) → (at : ℕ) → Made at (piece_text p ++ ended ps) (p ∷ ps)
 put_before (sign s) ps h f at = signed at s (ended ps) ps (f (at + 1))
 put_before (reserved r) ps h f at = worded (reserved_text r) (ended ps) (reserved r) ps (reserved_word r) (reserved_is r) (apart_ended ps) f at
 put_before (name n) ps h f at = worded n (ended ps) (name n) ps h.word (name_is n h.free) (apart_ended ps) f at
-put_before (number n) ps h f at = absurd h
+put_before (number n) ps h f at = numbered n (ended ps) ps h (apart_ended ps) f at
 
 sign_after : (s : Sign) (rest : List ℕ) (ps : List Piece) → ((at : ℕ) → Made at (sign_byte s ∷ rest) ps) → (at : ℕ) → Made at (sign_gap s ++ (sign_byte s ∷ rest)) ps
 sign_after signs.Semicolon rest ps f at = f at
@@ -148,7 +176,7 @@ within_piece : (p : Piece) → IsPiece p → IsWithinPiece p
 within_piece (sign s) h = tt
 within_piece (reserved r) h = tt
 within_piece (name n) h = h.short
-within_piece (number n) h = absurd h
+within_piece (number n) h = h.short
 
 head_is : {p q : Piece} {ps qs : List Piece} → p ∷ ps ≡ q ∷ qs → p ≡ q
 head_is e = cc
