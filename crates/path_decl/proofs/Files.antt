@@ -7,11 +7,12 @@ use Rattle.path_decl.specs.Forms.{Form, ResourceForm, names_in, all_operations, 
 use Rattle.path_decl.specs.Parts.{an_operation, an_end, form_parts, body_parts, path_parts, resource_parts, file_parts}
 use Rattle.path_decl.specs.Declares.{resource_from, operations_from}
 use Rattle.path_decl.specs.Building.{Drafted, operation_names, AllAllowed, after_all}
-use Rattle.path_decl.proofs.Taken.{after_all-append, allowed-append, allowed_front, allowed_back, Fresh, fresh-append, fresh_front, fresh_back, tree_in, FormFits, after_form, form_allowed, form_kept}
+use Rattle.path_decl.proofs.FormRules.{BracesFit}
+use Rattle.path_decl.proofs.Taken.{after_all-append, allowed-append, allowed_front, allowed_back, Fresh, fresh-append, fresh_front, fresh_back, tree_in, FormFits, after_form, form_allowed, form_kept, braces_kept}
 
 -- a draft between two paths
 abbrev pub base : List Resource → List Operation → List Path → ℕ → Drafted
-base R O P r = record { resources = R; operations = O; paths = P; resource = r; open_trees = []; named = [] }
+base R O P r = record { resources = R; operations = O; paths = P; resource = r; open_trees = []; named = []; braces = 0 }
 
 -- the operations of a resource
 abbrev pub owned : ℕ → List (List ℕ) → List Operation
@@ -48,12 +49,15 @@ after_paths (f ∷ fs) R O P r =
     after_all-append (body_parts f) (path_parts fs) (base R O P r) ∙ ap (after_all (path_parts fs)) (after_body f R O P r) ∙ after_paths fs R O (P ++ made_path O r f ∷ []) r
     ∙ ap (λ x. base R O x r) (append_assoc P (made_path O r f ∷ []) (map (made_path O r) fs))
 
--- what paths ask for
-abbrev pub PathsFit : List Operation → ℕ → List Form → Type 0
-PathsFit O r fs = AllByRecursion (λ f. FormFits O r [] (names_in f)) fs
+-- what a path, what paths ask for
+abbrev pub PathFits : List Operation → ℕ → Form → Type 0
+PathFits O r f = FormFits O r [] (names_in f) × BracesFit 0 f
 
-body_allowed : (f : Form) (R : List Resource) (O : List Operation) (P : List Path) (r : ℕ) → FormFits O r [] (names_in f) → AllAllowed (body_parts f) (base R O P r)
-body_allowed f R O P r p = allowed-append (form_parts f) (an_end ∷ []) (base R O P r) (form_allowed f (base R O P r) p.0 p.1) (subst (AllAllowed (an_end ∷ [])) (sym (after_form f (base R O P r))) (tt, tt))
+abbrev pub PathsFit : List Operation → ℕ → List Form → Type 0
+PathsFit O r fs = AllByRecursion (PathFits O r) fs
+
+body_allowed : (f : Form) (R : List Resource) (O : List Operation) (P : List Path) (r : ℕ) → PathFits O r f → AllAllowed (body_parts f) (base R O P r)
+body_allowed f R O P r p = allowed-append (form_parts f) (an_end ∷ []) (base R O P r) (form_allowed f (base R O P r) p.0.0 p.0.1 p.1) (subst (AllAllowed (an_end ∷ [])) (sym (after_form f (base R O P r))) (tt, tt))
 
 paths_allowed : (fs : List Form) (R : List Resource) (O : List Operation) (P : List Path) (r : ℕ) → PathsFit O r fs → length P + length fs ≤ 256 → AllAllowed (path_parts fs) (base R O P r)
 paths_allowed [] R O P r p le = tt
@@ -72,7 +76,8 @@ paths_kept (f ∷ fs) R O P r le a =
     let here : length P < 256 = a.0 in
     let long : length (P ++ made_path O r f ∷ []) ≡ length P + 1 = simp length-append (omega arith) in
     let k = paths_kept fs R O (P ++ made_path O r f ∷ []) r (omega arith) rest in
-    ((form_kept f (base R O P r) (allowed_front (form_parts f) (an_end ∷ []) (base R O P r) b), k.0), omega (arith, k.1))
+    let form = allowed_front (form_parts f) (an_end ∷ []) (base R O P r) b in
+    (((form_kept f (base R O P r) form, braces_kept f (base R O P r) form), k.0), omega (arith, k.1))
 
 after_resource : (q : ResourceForm) (R : List Resource) (O : List Operation) (P : List Path) (r : ℕ) → after_all (resource_parts q) (base R O P r)
     ≡ base (R ++ resource_from q ∷ []) (O ++ owned (length R) q.operations) (P ++ map (made_path (O ++ owned (length R) q.operations) (length R)) q.paths) (length R)

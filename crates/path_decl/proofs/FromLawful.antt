@@ -1,18 +1,18 @@
 -- The forms of a lawful declaration keep the rules.
-use Rattle.std.proofs.Common.{◌≡◌, ℕ, zero, suc, ◌+◌, ◌<◌, ◌≤◌, List, [], ◌∷◌, ◌++◌, length, get_or, map, refl, sym, ap, ◌∙◌, subst, append_assoc, arith, Contains, slice_get, Some, option_map, inl, inr}
+use Rattle.std.proofs.Common.{◌≡◌, ℕ, zero, suc, ◌+◌, ◌<◌, ◌≤◌, List, [], ◌∷◌, ◌++◌, length, get_or, map, refl, sym, ap, ◌∙◌, subst, append_assoc, arith, Contains, slice_get, Option, Some, None, option_map, inl, inr}
 use Rattle.std.specs.List.{AllByRecursion}
 use Rattle.std.proofs.lemmas.List.{length-append, length-map}
 use Rattle.std.proofs.lemmas.List.Elements.{Contains-append_cases, Contains-get_or, recursion_from_All}
 use Rattle.std.proofs.lemmas.Option.{slice_get-map, slice_get-get_or, same_Some}
 use Rattle.path_model.specs.declared.ids.OpId.{OpId}
-use Rattle.path_model.specs.Trees.{Tree, op, seq, alt, Names, NoRepeats, WellFormed}
+use Rattle.path_model.specs.Trees.{Bound, any, most, Room, Tree, op, seq, alt, burst, Names, NoRepeats, NoBraces, NoNesting, FewAtOnce, WellFormed}
 use Rattle.path_model.specs.Legal.{numbered, Every}
 use Rattle.path_model.specs.Declarations.{Operation, Path, Declaration}
-use Rattle.path_decl.specs.Forms.{Form, once, sequence, selection, ResourceForm, names_in, all_operations, all_paths}
+use Rattle.path_decl.specs.Forms.{Form, once, sequence, selection, braced, ResourceForm, names_in, all_operations, all_paths}
 use Rattle.path_decl.specs.Lawful.{IsDistinct, names_count, NamesOwn, Lawful}
-use Rattle.path_decl.specs.Declares.{Numbers, operations_from, paths_from, ArePathsOf, Declares}
-use Rattle.path_decl.specs.Building.{operation_names}
-use Rattle.path_decl.proofs.FormRules.{KeepsPathRules, PathsKeepRules, KeepsRules}
+use Rattle.path_decl.specs.Declares.{IsBound, Numbers, operations_from, paths_from, ArePathsOf, Declares}
+use Rattle.path_decl.specs.Building.{operation_names, BoundFits}
+use Rattle.path_decl.proofs.FormRules.{BracesFit, KeepsPathRules, PathsKeepRules, KeepsRules}
 use Rattle.path_decl.proofs.Taken.{each-append}
 use Rattle.path_decl.proofs.Files.{owned}
 use Rattle.path_decl.proofs.Ruled.{get_either, each_get, Below, below_more, owned_has, distinct_tail, one_number, none_distinct}
@@ -58,6 +58,8 @@ name_called ns (selection f g) (alt s t) h n c = elim (Contains-append_cases (na
   | inr b ↦ let r = name_called ns g t h.1 n b in record { called = r.called; names = inr r.names; stands = r.stands }
 ]
 name_called ns (selection f g) t h n c = absurd h
+name_called ns (braced b f) (burst d s) h n c = let r = name_called ns f s h.1 n c in record { called = r.called; names = r.names; stands = r.stands }
+name_called ns (braced b f) t h n c = absurd h
 
 apart_names : (ns : List (List ℕ)) → IsDistinct ns → (f g : Form) (s t : Tree) → Numbers ns f s → Numbers ns g t → ((a : OpId) → Names s a → Names t a → ⊥) → (n : List ℕ) → Contains (names_in f) n → Contains (names_in g) n → ⊥
 apart_names ns d f g s t h k apart n a b =
@@ -72,6 +74,8 @@ form_once ns d (sequence f g) (seq s t) h r = distinct_both (names_in f) (names_
 form_once ns d (sequence f g) t h r = absurd h
 form_once ns d (selection f g) (alt s t) h r = distinct_both (names_in f) (names_in g) (form_once ns d f s h.0 r.0) (form_once ns d g t h.1 r.1) (apart_names ns d f g s t h.0 h.1 r.2)
 form_once ns d (selection f g) t h r = absurd h
+form_once ns d (braced b f) (burst e s) h r = form_once ns d f s h.1 r
+form_once ns d (braced b f) t h r = absurd h
 
 form_count : (ns : List (List ℕ)) (f : Form) (t : Tree) → Numbers ns f t → length (names_in f) ≡ names_count t
 form_count ns (once n) (op a) h = refl
@@ -80,6 +84,8 @@ form_count ns (sequence f g) (seq s t) h = simp length-append (omega (arith, for
 form_count ns (sequence f g) t h = absurd h
 form_count ns (selection f g) (alt s t) h = simp length-append (omega (arith, form_count ns f s h.0, form_count ns g t h.1))
 form_count ns (selection f g) t h = absurd h
+form_count ns (braced b f) (burst e s) h = form_count ns f s h.1
+form_count ns (braced b f) t h = absurd h
 
 form_each : (ns : List (List ℕ)) (P : List ℕ → Type 0) (f : Form) (t : Tree) → Numbers ns f t → ((a : OpId) (n : List ℕ) → Names t a → slice_get ns a.0 ≡ Some n → P n) → AllByRecursion P (names_in f)
 form_each ns P (once n) (op a) h p = (p a n refl h, tt)
@@ -88,6 +94,32 @@ form_each ns P (sequence f g) (seq s t) h p = each-append P (names_in f) (names_
 form_each ns P (sequence f g) t h p = absurd h
 form_each ns P (selection f g) (alt s t) h p = each-append P (names_in f) (names_in g) (form_each ns P f s h.0 (λ a n x e. p a n (inl x) e)) (form_each ns P g t h.1 (λ a n x e. p a n (inr x) e))
 form_each ns P (selection f g) t h p = absurd h
+form_each ns P (braced b f) (burst e s) h p = form_each ns P f s h.1 p
+form_each ns P (braced b f) t h p = absurd h
+
+-- the braces of a tree are those of its form
+plain_braces : (ns : List (List ℕ)) (f : Form) (t : Tree) → Numbers ns f t → NoBraces t → (b : ℕ) → BracesFit b f
+plain_braces ns (once n) t h p b = tt
+plain_braces ns (sequence f g) (seq s t) h p b = (plain_braces ns f s h.0 p.0 b, plain_braces ns g t h.1 p.1 b)
+plain_braces ns (sequence f g) t h p b = absurd h
+plain_braces ns (selection f g) (alt s t) h p b = (plain_braces ns f s h.0 p.0 b, plain_braces ns g t h.1 p.1 b)
+plain_braces ns (selection f g) t h p b = absurd h
+plain_braces ns (braced c f) (burst e s) h p b = absurd p
+plain_braces ns (braced c f) t h p b = absurd h
+
+bound_fits : (c : Option (List ℕ)) (b : Bound) (s : Tree) → IsBound c b → Room b 0 → FewAtOnce (burst b s) → BoundFits c
+bound_fits None b s h r f = tt
+bound_fits (Some ds) any s h r f = absurd h
+bound_fits (Some ds) (most n) s h r f = record { number = n; denoted = h; positive = r; within = f.0 }
+
+form_braces : (ns : List (List ℕ)) (f : Form) (t : Tree) → Numbers ns f t → NoNesting t → FewAtOnce t → BracesFit 0 f
+form_braces ns (once n) t h flat few = tt
+form_braces ns (sequence f g) (seq s t) h flat few = (form_braces ns f s h.0 flat.0 few.0, form_braces ns g t h.1 flat.1 few.1)
+form_braces ns (sequence f g) t h flat few = absurd h
+form_braces ns (selection f g) (alt s t) h flat few = (form_braces ns f s h.0 flat.0 few.0, form_braces ns g t h.1 flat.1 few.1)
+form_braces ns (selection f g) t h flat few = absurd h
+form_braces ns (braced c f) (burst b s) h flat few = (refl, plain_braces ns f s h.1 flat.0 1, bound_fits c b s h.0 flat.1 few)
+form_braces ns (braced c f) t h flat few = absurd h
 
 -- the operations of later resources
 owned_above : (k m : ℕ) (os : List (List ℕ)) → k < m → AllByRecursion (λ o. k < o.resource) (owned m os)
@@ -116,10 +148,12 @@ record PathKeeps (d : Declaration) (p : Path) : Type 0 where
   pub own : NamesOwn d p
   pub once : NoRepeats p.tree
   pub few : names_count p.tree ≤ 64
+  pub flat : NoNesting p.tree
+  pub bounded : FewAtOnce p.tree
 
-keeps_all : (d : Declaration) (n : ℕ) (ps : List Path) → Every WellFormed (numbered n (map (λ p. p.tree) ps)) → AllByRecursion (NamesOwn d) ps → AllByRecursion (λ p. names_count p.tree ≤ 64) ps → AllByRecursion (PathKeeps d) ps
-keeps_all d n [] w o f = tt
-keeps_all d n (p ∷ ps) w o f = (record { own = o.0; once = w.0.names_once; few = f.0 }, keeps_all d (n + 1) ps w.1 o.1 f.1)
+keeps_all : (d : Declaration) (n : ℕ) (ps : List Path) → Every WellFormed (numbered n (map (λ p. p.tree) ps)) → Every FewAtOnce (numbered n (map (λ p. p.tree) ps)) → AllByRecursion (NamesOwn d) ps → AllByRecursion (λ p. names_count p.tree ≤ 64) ps → AllByRecursion (PathKeeps d) ps
+keeps_all d n [] w b o f = tt
+keeps_all d n (p ∷ ps) w b o f = (record { own = o.0; once = w.0.names_once; few = f.0; flat = w.0.not_nested; bounded = b.0 }, keeps_all d (n + 1) ps w.1 b.1 o.1 f.1)
 
 module _ (d : Declaration) (ns : List (List ℕ)) (distinct : IsDistinct ns) (named : operation_names d.operations ≡ ns) where
   own_operation : (p : Path) (k : ℕ) → p.resource ≡ k → NamesOwn d p → (a : OpId) (n : List ℕ) → Names p.tree a → slice_get ns a.0 ≡ Some n → slice_get d.operations a.0 ≡ Some (record { name = n; resource = k })
@@ -135,6 +169,7 @@ module _ (d : Declaration) (ns : List (List ℕ)) (distinct : IsDistinct ns) (na
     declared = form_each ns (λ n. Contains os n) f p.tree h (λ a n x e. own_name before k os later a.0 n b (ap (λ l. slice_get l a.0) (sym all) ∙ own_operation p k is keeps.own a n x e));
     once = form_once ns distinct f p.tree h keeps.once;
     few = let count = form_count ns f p.tree h in let few = keeps.few in omega arith;
+    braces = form_braces ns f p.tree h keeps.flat keeps.bounded;
   }
 
   resource_rules : (before : List Operation) (k : ℕ) (os : List (List ℕ)) (later : List ResourceForm) → d.operations ≡ before ++ (owned k os ++ operations_from (k + 1) later) → Below k before → (rest : List (ℕ × Form)) (fs : List Form) (ps : List Path) → ArePathsOf ns (map (λ f. (k, f)) fs ++ rest) ps → AllByRecursion (PathKeeps d) ps
@@ -172,7 +207,7 @@ distinct_operations rs d is law = subst IsDistinct (names_declared rs d is) law.
 pub forms_keep_rules : (rs : List ResourceForm) (d : Declaration) → Declares rs d → Lawful d → KeepsRules rs
 forms_keep_rules rs d is law =
     let distinct = distinct_operations rs d is law in
-    let keeps = keeps_all d 0 d.paths law.well_formed (recursion_from_All (NamesOwn d) d.paths law.named) (recursion_from_All (λ p. names_count p.tree ≤ 64) d.paths law.few_names) in
+    let keeps = keeps_all d 0 d.paths law.well_formed law.bounded (recursion_from_All (NamesOwn d) d.paths law.named) (recursion_from_All (λ p. names_count p.tree ≤ 64) d.paths law.few_names) in
     let resources : length d.resources ≡ length rs = ap length is.resources ∙ simp length-map in
     let operations : length d.operations ≡ length (all_operations rs) = sym (length-map d.operations (λ o. o.name)) ∙ ap length (names_declared rs d is) in
     let paths : length (all_paths rs) ≡ length d.paths = sym (paths_count 0 rs) ∙ as_many (all_operations rs) (paths_from 0 rs) d.paths is.paths in

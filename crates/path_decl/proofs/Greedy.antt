@@ -1,11 +1,11 @@
 -- What the reader reads is the grammar: in a whole file each list goes on as long as its separator follows.
-use Rattle.std.proofs.Common.{ℕ, List, ◌∷◌}
+use Rattle.std.proofs.Common.{ℕ, List, ◌∷◌, Option}
 use Rattle.path_lex.specs.declared.token.Sign.TheVariants as signs
 use Rattle.path_lex.specs.declared.token.Reserved.TheVariants as words
 use Rattle.path_lex.specs.Spelling.{Piece, sign, reserved, name}
 use Rattle.path_decl.specs.Forms.{Form, ResourceForm}
 use Rattle.path_decl.specs.Grammar as plain
-use Rattle.path_decl.specs.Grammar.{IsUnit, IsAlt, MoreUnits, IsSeq, MoreAlts, IsPath, ArePaths, AreNames, IsResource, IsFile}
+use Rattle.path_decl.specs.Grammar.{IsClosing, IsUnit, IsAlt, MoreUnits, IsSeq, MoreAlts, IsPath, ArePaths, AreNames, IsResource, IsFile}
 use Rattle.path_decl.specs.Reading as greedy
 use Rattle.path_decl.specs.Reading.{Begins, ReadsUnit, ReadsAlt, ReadsUnits, ReadsSeq, ReadsAlts, ReadsPath, ReadsPaths, ReadsMore, ReadsNames, ReadsBody, ReadsResource, ReadsResources, ReadsFile}
 
@@ -37,6 +37,15 @@ semicolon_comma b = let e = b.1 in cc
 path_comma : {rest : List Piece} → NoComma (reserved words.Path ∷ rest)
 path_comma b = let e = b.1 in cc
 
+-- nor does any where braces close
+braces_comma : {ts rest : List Piece} {b : Option (List ℕ)} → IsClosing ts rest b → NoComma ts
+braces_comma plain.by_brace b = let e = b.1 in cc
+braces_comma plain.by_bound b = let e = b.1 in cc
+
+braces_semicolon : {ts rest : List Piece} {b : Option (List ℕ)} → IsClosing ts rest b → NoSemicolon ts
+braces_semicolon plain.by_brace b = let e = b.1 in cc
+braces_semicolon plain.by_bound b = let e = b.1 in cc
+
 steps_start : {d : ℕ} {s t : Form} {mid rest : List Piece} → MoreAlts d s mid rest t → NoComma rest → NoComma mid
 steps_start plain.no_alt c = c
 steps_start (plain.one_alt a m) c = semicolon_comma
@@ -45,6 +54,7 @@ mutual
   reads_unit : {d : ℕ} {ts rest : List Piece} {t : Form} → IsUnit d ts rest t → ReadsUnit d ts rest t
   reads_unit plain.by_name = greedy.by_name
   reads_unit (plain.by_group s) = greedy.by_group (reads_seq s closing_comma closing_semicolon)
+  reads_unit (plain.by_braces s c) = greedy.by_braces (reads_seq s (braces_comma c) (braces_semicolon c)) c
 
   reads_alt : {d : ℕ} {ts rest : List Piece} {t : Form} → IsAlt d ts rest t → NoComma rest → ReadsAlt d ts rest t
   reads_alt (plain.by_units u m) c = greedy.by_units (reads_unit u) (reads_units m c)
@@ -64,6 +74,7 @@ mutual
   is_unit : {d : ℕ} {ts rest : List Piece} {t : Form} → ReadsUnit d ts rest t → IsUnit d ts rest t
   is_unit greedy.by_name = plain.by_name
   is_unit (greedy.by_group s) = plain.by_group (is_seq s)
+  is_unit (greedy.by_braces s c) = plain.by_braces (is_seq s) c
 
   is_alt : {d : ℕ} {ts rest : List Piece} {t : Form} → ReadsAlt d ts rest t → IsAlt d ts rest t
   is_alt (greedy.by_units u m) = plain.by_units (is_unit u) (are_units m)

@@ -5,6 +5,7 @@ pub mod Reached
 pub mod Unit
 pub mod Lists
 pub mod Greedy
+pub mod NumeralLemmas
 pub mod Taken
 pub mod Noted
 pub mod Files

@@ -6,22 +6,23 @@ use Rattle.std.proofs.lemmas.List.Elements.{All-from_recursion}
 use Rattle.std.proofs.lemmas.Option.{slice_get_within, get_or_from_slice_get, same_Some}
 use Rattle.path_model.specs.declared.ids.OpId.{OpId}
 use Rattle.path_model.specs.declared.resource.Law.TheVariants.{Cell}
-use Rattle.path_model.specs.Trees.{Tree, Names, NoRepeats, NoBraces, NoNesting, WellFormed}
+use Rattle.path_model.specs.Trees.{Tree, Names, NoRepeats, Room, NoBraces, NoNesting, FewAtOnce, burst, WellFormed}
 use Rattle.path_model.specs.Legal.{numbered, Every}
 use Rattle.path_model.specs.Declarations.{Resource, Operation, Path, Declaration}
 use Rattle.path_lex.specs.declared.token.Reserved.{Reserved}
 use Rattle.path_lex.specs.Bytes.{is_word_byte}
 use Rattle.path_lex.specs.Names.{reserved_of, IsWordText, IsName}
 use Rattle.path_lex.specs.Spelling.{Piece, sign, reserved, name, number, Placed, pieces, word_or, Spells, by_end, by_space, by_mark, by_word, by_number, IsWithinPiece, AreWithin, AreTokensOf}
-use Rattle.path_decl.specs.Forms.{Form, once, sequence, selection, ResourceForm, names_in, all_operations, all_paths}
-use Rattle.path_decl.specs.Grammar.{IsUnit, by_name, by_group, IsAlt, by_units, MoreUnits, no_unit, one_unit, IsSeq, by_alts, MoreAlts, no_alt, one_alt, by_path, ArePaths, no_path, one_path, AreNames, last_name, one_name, IsResource, by_resource, IsFile, last_resource, one_resource}
+use Rattle.path_decl.specs.Forms.{Form, once, sequence, selection, braced, ResourceForm, names_in, all_operations, all_paths}
+use Rattle.path_decl.specs.Grammar.{IsClosing, by_brace, by_bound, IsUnit, by_name, by_group, by_braces, IsAlt, by_units, MoreUnits, no_unit, one_unit, IsSeq, by_alts, MoreAlts, no_alt, one_alt, by_path, ArePaths, no_path, one_path, AreNames, last_name, one_name, IsResource, by_resource, IsFile, last_resource, one_resource}
 use Rattle.path_decl.specs.Lawful.{IsDistinct}
-use Rattle.path_decl.proofs.FormRules.{KeepsRules}
+use Rattle.path_decl.proofs.FormRules.{BracesFit, KeepsRules}
 use Rattle.path_decl.specs.Declares.{resource_from, operations_from}
-use Rattle.path_decl.specs.Building.{operation_names}
+use Rattle.path_decl.specs.Building.{operation_names, bound_of, BoundFits}
 use Rattle.path_decl.specs.Lawful.{names_count, NamesOwn, AreDistinctNames, Lawful}
-use Rattle.path_decl.proofs.Taken.{each-append, each_front, each_back, each_then, tree_in, IsOwn, FormFits, fresh_distinct}
-use Rattle.path_decl.proofs.Files.{owned, made_path, made_paths, PathsFit, FileFits, names_owned}
+use Rattle.path_decl.proofs.NumeralLemmas.{value_of}
+use Rattle.path_decl.proofs.Taken.{each-append, each_front, each_back, each_then, tree_in, IsOwn, fresh_distinct}
+use Rattle.path_decl.proofs.Files.{owned, made_path, made_paths, PathFits, PathsFit, FileFits, names_owned}
 use Rattle.path_decl.proofs.Ruled.{distinct_front, distinct_tail}
 
 -- a piece that is a name is a good one
@@ -54,10 +55,15 @@ spells_good (by_number e r) w = (tt, spells_good r w.1)
 abbrev Good : List Piece → Type 0
 Good ts = AllByRecursion IsGood ts
 
+closing_rest : {ts rest : List Piece} {b : Option (List ℕ)} → IsClosing ts rest b → Good ts → Good rest
+closing_rest by_brace g = g.1
+closing_rest by_bound g = g.1.1.1
+
 mutual
   unit_rest : {d : ℕ} {ts rest : List Piece} {t : Form} → IsUnit d ts rest t → Good ts → Good rest
   unit_rest by_name g = g.1
   unit_rest (by_group s) g = let r = seq_rest s g.1 in r.1
+  unit_rest (by_braces s c) g = closing_rest c (seq_rest s g.1)
 
   alt_rest : {d : ℕ} {ts rest : List Piece} {t : Form} → IsAlt d ts rest t → Good ts → Good rest
   alt_rest (by_units u m) g = units_rest m (unit_rest u g)
@@ -97,20 +103,37 @@ pub good_names : (s : List ℕ) (ts : List Placed) (rs : List ResourceForm) → 
 good_names s ts rs a f = file_good f (spells_good a.spelled a.within)
 
 -- the trees of forms
-tree_plain : (O : List Operation) (f : Form) → NoBraces (tree_in O f)
-tree_plain O (once n) = tt
-tree_plain O (sequence s t) = (tree_plain O s, tree_plain O t)
-tree_plain O (selection s t) = (tree_plain O s, tree_plain O t)
+tree_plain : (O : List Operation) (f : Form) (b : ℕ) → 0 < b → BracesFit b f → NoBraces (tree_in O f)
+tree_plain O (once n) b lt h = tt
+tree_plain O (sequence s t) b lt h = (tree_plain O s b lt h.0, tree_plain O t b lt h.1)
+tree_plain O (selection s t) b lt h = (tree_plain O s b lt h.0, tree_plain O t b lt h.1)
+tree_plain O (braced c s) b lt h = absurd (omega (arith, lt, h.0))
 
-tree_flat : (O : List Operation) (f : Form) → NoNesting (tree_in O f)
-tree_flat O (once n) = tt
-tree_flat O (sequence s t) = (tree_flat O s, tree_flat O t)
-tree_flat O (selection s t) = (tree_flat O s, tree_flat O t)
+bound_room : (c : Option (List ℕ)) → BoundFits c → Room (bound_of c) 0
+bound_room None h = tt
+bound_room (Some ds) h = omega (arith, value_of ds h.number h.denoted h.within, h.positive)
+
+tree_flat : (O : List Operation) (f : Form) (b : ℕ) → BracesFit b f → NoNesting (tree_in O f)
+tree_flat O (once n) b h = tt
+tree_flat O (sequence s t) b h = (tree_flat O s b h.0, tree_flat O t b h.1)
+tree_flat O (selection s t) b h = (tree_flat O s b h.0, tree_flat O t b h.1)
+tree_flat O (braced c s) b h = (tree_plain O s (b + 1) (omega arith) h.1, bound_room c h.2)
+
+few_in : (c : Option (List ℕ)) (t : Tree) → BoundFits c → FewAtOnce t → FewAtOnce (burst (bound_of c) t)
+few_in None t h f = f
+few_in (Some ds) t h f = (omega (arith, value_of ds h.number h.denoted h.within, h.within), f)
+
+tree_bounded : (O : List Operation) (f : Form) (b : ℕ) → BracesFit b f → FewAtOnce (tree_in O f)
+tree_bounded O (once n) b h = tt
+tree_bounded O (sequence s t) b h = (tree_bounded O s b h.0, tree_bounded O t b h.1)
+tree_bounded O (selection s t) b h = (tree_bounded O s b h.0, tree_bounded O t b h.1)
+tree_bounded O (braced c s) b h = few_in c (tree_in O s) h.2 (tree_bounded O s (b + 1) h.1)
 
 tree_names : (O : List Operation) (f : Form) → names_count (tree_in O f) ≡ length (names_in f)
 tree_names O (once n) = refl
 tree_names O (sequence s t) = simp length-append (omega (arith, tree_names O s, tree_names O t))
 tree_names O (selection s t) = simp length-append (omega (arith, tree_names O s, tree_names O t))
+tree_names O (braced b s) = tree_names O s
 
 -- an operation of a tree, by its name
 pub record IsNamed (O : List Operation) (k : ℕ) (ns : List (List ℕ)) (a : OpId) : Type 0 where
@@ -131,6 +154,7 @@ tree_named O k (sequence s t) h a (inl e) = let r = tree_named O k s (each_front
 tree_named O k (sequence s t) h a (inr e) = let r = tree_named O k t (each_back (IsOwn O k) (names_in s) (names_in t) h) a e in record { called = r.called; stands = r.stands; among = contains_back (names_in s) (names_in t) r.called r.among }
 tree_named O k (selection s t) h a (inl e) = let r = tree_named O k s (each_front (IsOwn O k) (names_in s) (names_in t) h) a e in record { called = r.called; stands = r.stands; among = contains_front (names_in s) (names_in t) r.called r.among }
 tree_named O k (selection s t) h a (inr e) = let r = tree_named O k t (each_back (IsOwn O k) (names_in s) (names_in t) h) a e in record { called = r.called; stands = r.stands; among = contains_back (names_in s) (names_in t) r.called r.among }
+tree_named O k (braced b s) h a e = tree_named O k s h a e
 
 distinct_back : (xs ys : List (List ℕ)) → IsDistinct (xs ++ ys) → IsDistinct ys
 distinct_back [] ys d = d
@@ -158,10 +182,11 @@ tree_once O k (selection s t) h d =
     let a = each_front (IsOwn O k) (names_in s) (names_in t) h in
     let b = each_back (IsOwn O k) (names_in s) (names_in t) h in
     (tree_once O k s a (distinct_front (names_in s) (names_in t) d), tree_once O k t b (distinct_back (names_in s) (names_in t) d), λ o x y. apart_named O k (names_in s) (names_in t) d o (tree_named O k s a o x) (tree_named O k t b o y))
+tree_once O k (braced b s) h d = tree_once O k s h d
 
 -- what holds of a path that was made
 pub record PathFacts (all : List Operation) (n : ℕ) (p : Path) : Type 0 where
-  pub plain : NoBraces p.tree
+  pub bounded : FewAtOnce p.tree
   pub flat : NoNesting p.tree
   pub once : NoRepeats p.tree
   pub few : names_count p.tree ≤ 64
@@ -173,17 +198,17 @@ got_front [] ys i o e = absurd (cc)
 got_front (x ∷ xs) ys zero o e = e
 got_front (x ∷ xs) ys (suc i) o e = got_front xs ys i o e
 
-one_made : (all O rest : List Operation) (n k : ℕ) (f : Form) → all ≡ O ++ rest → k < n → FormFits O k [] (names_in f) → PathFacts all n (made_path O k f)
+one_made : (all O rest : List Operation) (n k : ℕ) (f : Form) → all ≡ O ++ rest → k < n → PathFits O k f → PathFacts all n (made_path O k f)
 one_made all O rest n k f e lt h =
     let none : IsDistinct [] = λ i j x a b. absurd (omega arith) in
-    let r = fresh_distinct 64 [] (names_in f) none (omega arith) h.1 in
+    let r = fresh_distinct 64 [] (names_in f) none (omega arith) h.0.1 in
     record {
-      plain = tree_plain O f;
-      flat = tree_flat O f;
-      once = tree_once O k f h.0 r.0;
+      bounded = tree_bounded O f 0 h.1;
+      flat = tree_flat O f 0 h.1;
+      once = tree_once O k f h.0.0 r.0;
       few = omega (arith, tree_names O f, r.1);
       within = lt;
-      own = λ a x. let m = tree_named O k f h.0 a x in (m.called, ap (λ os. slice_get os a.0) e ∙ got_front O rest a.0 (record { name = m.called; resource = k }) m.stands);
+      own = λ a x. let m = tree_named O k f h.0.0 a x in (m.called, ap (λ os. slice_get os a.0) e ∙ got_front O rest a.0 (record { name = m.called; resource = k }) m.stands);
     }
 
 some_made : (all O rest : List Operation) (n k : ℕ) (fs : List Form) → all ≡ O ++ rest → k < n → PathsFit O k fs → AllByRecursion (PathFacts all n) (map (made_path O k) fs)
@@ -250,7 +275,7 @@ made_lawful qs r h rn on =
     let count : length (operation_names all) ≡ length (all_operations qs) = ap length (operations_named qs 0) in
     record {
       well_formed = every_tree WellFormed 0 ps (each_then (PathFacts all n) (λ p. WellFormed p.tree) (λ p f. record { names_once = f.once; not_nested = f.flat }) ps facts);
-      plain = every_tree NoBraces 0 ps (each_then (PathFacts all n) (λ p. NoBraces p.tree) (λ p f. f.plain) ps facts);
+      bounded = every_tree FewAtOnce 0 ps (each_then (PathFacts all n) (λ p. FewAtOnce p.tree) (λ p f. f.bounded) ps facts);
       named = All-from_recursion (NamesOwn (made qs)) ps (each_then (PathFacts all n) (NamesOwn (made qs)) (names_own qs) ps facts);
       operations = subst (λ m. All (λ o. o.resource < m) all) (sym len) (All-from_recursion (λ o. o.resource < n) all (operations_within n qs 0 (omega arith)));
       paths = subst (λ m. All (λ p. p.resource < m) ps) (sym len) (All-from_recursion (λ p. p.resource < n) ps (each_then (PathFacts all n) (λ p. p.resource < n) (λ p f. f.within) ps facts));

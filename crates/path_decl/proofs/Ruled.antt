@@ -1,20 +1,22 @@
 -- The parts of a file are allowed exactly where its forms keep the rules.
-use Rattle.std.proofs.Common.{◌≡◌, ℕ, zero, suc, ◌+◌, ◌<◌, ◌≤◌, List, [], ◌∷◌, ◌++◌, length, map, refl, sym, ap, ◌∙◌, subst, append_assoc, arith, Contains, slice_get, Some, option_map, Bool, true, false, cond, ◌⊎◌, inl, inr}
+use Rattle.std.proofs.Common.{◌≡◌, ℕ, zero, suc, ◌+◌, ◌<◌, ◌≤◌, List, [], ◌∷◌, ◌++◌, length, map, refl, sym, ap, ◌∙◌, subst, append_assoc, arith, Contains, slice_get, Some, option_map, Option, None, Bool, true, false, cond, ◌⊎◌, inl, inr}
 use Rattle.std.specs.List.{AllByRecursion}
+use Rattle.std.specs.Fmt.{decimal}
 use Rattle.std.specs.Str.{bytes_eq}
 use Rattle.std.proofs.lemmas.Slice.Eq.{bytes_eq-Decides}
 use Rattle.std.proofs.lemmas.List.{length-map, length-append, get_or_append_left}
 use Rattle.std.proofs.lemmas.Option.{slice_get-map, slice_get-get_or, slice_get_within, get_or_from_slice_get, same_Some}
 use Rattle.path_model.specs.declared.ids.OpId.{OpId}
 use Rattle.path_model.specs.Declarations.{Operation, Path}
-use Rattle.path_decl.specs.Forms.{Form, once, sequence, selection, ResourceForm, names_in, all_operations}
+use Rattle.path_decl.specs.Forms.{Form, once, sequence, selection, braced, ResourceForm, names_in, all_operations}
 use Rattle.path_decl.specs.Parts.{file_parts}
 use Rattle.path_decl.specs.Lawful.{IsDistinct}
-use Rattle.path_decl.proofs.FormRules.{KeepsPathRules, PathsKeepRules, KeepsRules}
-use Rattle.path_decl.specs.Declares.{Numbers, paths_from, ArePathsOf, Declares}
-use Rattle.path_decl.specs.Building.{Drafted, nothing, declared_by, operation_names, number_of, place_of, AllAllowed, after_all}
-use Rattle.path_decl.proofs.Taken.{each-append, each_front, each_back, each_then, fresh_distinct, distinct_fresh, tree_in, IsOwn, FormFits}
-use Rattle.path_decl.proofs.Files.{owned, made_path, made_paths, PathsFit, FileFits, names_owned, names_with, after_file, file_kept, file_allowed}
+use Rattle.path_decl.proofs.FormRules.{BracesFit, KeepsPathRules, PathsKeepRules, KeepsRules}
+use Rattle.path_decl.specs.Declares.{IsBound, Numbers, paths_from, ArePathsOf, Declares}
+use Rattle.path_decl.specs.Building.{Drafted, nothing, declared_by, operation_names, number_of, place_of, bound_of, BoundFits, AllAllowed, after_all}
+use Rattle.path_decl.proofs.NumeralLemmas.{value_of}
+use Rattle.path_decl.proofs.Taken.{each-append, each_front, each_back, each_then, fresh_distinct, distinct_fresh, tree_in, IsOwn}
+use Rattle.path_decl.proofs.Files.{owned, made_path, made_paths, PathFits, PathsFit, FileFits, names_owned, names_with, after_file, file_kept, file_allowed}
 
 get_front : {X : Type 0} (xs ys : List X) (i : ℕ) (x : X) → slice_get xs i ≡ Some x → slice_get (xs ++ ys) i ≡ Some x
 get_front [] ys i x e = absurd (cc)
@@ -104,18 +106,18 @@ own_allowed O k os d n c =
 pub none_distinct : IsDistinct []
 none_distinct = λ i j x lt le. absurd (omega arith)
 
-path_kept : (O : List Operation) (k : ℕ) (os : List (List ℕ)) → Below k O → (f : Form) → FormFits (O ++ owned k os) k [] (names_in f) → KeepsPathRules os f
+path_kept : (O : List Operation) (k : ℕ) (os : List (List ℕ)) → Below k O → (f : Form) → PathFits (O ++ owned k os) k f → KeepsPathRules os f
 path_kept O k os b f h =
-    let r = fresh_distinct 64 [] (names_in f) none_distinct (omega arith) h.1 in
-    record { declared = each_then (IsOwn (O ++ owned k os) k) (λ n. Contains os n) (own_kept O k os b) (names_in f) h.0; once = r.0; few = r.1 }
+    let r = fresh_distinct 64 [] (names_in f) none_distinct (omega arith) h.0.1 in
+    record { declared = each_then (IsOwn (O ++ owned k os) k) (λ n. Contains os n) (own_kept O k os b) (names_in f) h.0.0; once = r.0; few = r.1; braces = h.1 }
 
-path_fits : (O : List Operation) (k : ℕ) (os : List (List ℕ)) → IsDistinct (operation_names (O ++ owned k os)) → (f : Form) → KeepsPathRules os f → FormFits (O ++ owned k os) k [] (names_in f)
-path_fits O k os d f h = (each_then (λ n. Contains os n) (IsOwn (O ++ owned k os) k) (own_allowed O k os d) (names_in f) h.declared, distinct_fresh 64 [] (names_in f) h.once h.few)
+path_fits : (O : List Operation) (k : ℕ) (os : List (List ℕ)) → IsDistinct (operation_names (O ++ owned k os)) → (f : Form) → KeepsPathRules os f → PathFits (O ++ owned k os) k f
+path_fits O k os d f h = ((each_then (λ n. Contains os n) (IsOwn (O ++ owned k os) k) (own_allowed O k os d) (names_in f) h.declared, distinct_fresh 64 [] (names_in f) h.once h.few), h.braces)
 
 paths_rules : (qs : List ResourceForm) (O : List Operation) (k : ℕ) → Below k O → FileFits O k qs → PathsKeepRules qs
 paths_rules [] O k b h = tt
 paths_rules (q ∷ qs) O k b h =
-    (each_then (λ f. FormFits (O ++ owned k q.operations) k [] (names_in f)) (KeepsPathRules q.operations) (path_kept O k q.operations b) q.paths h.0, paths_rules qs (O ++ owned k q.operations) (k + 1) (below_more O k q.operations b) h.1)
+    (each_then (PathFits (O ++ owned k q.operations) k) (KeepsPathRules q.operations) (path_kept O k q.operations b) q.paths h.0, paths_rules qs (O ++ owned k q.operations) (k + 1) (below_more O k q.operations b) h.1)
 
 paths_fit : (qs : List ResourceForm) (O : List Operation) (k : ℕ) → IsDistinct (operation_names O ++ all_operations qs) → PathsKeepRules qs → FileFits O k qs
 paths_fit [] O k d h = tt
@@ -124,7 +126,7 @@ paths_fit (q ∷ qs) O k d h =
     let all : IsDistinct ((operation_names O ++ q.operations) ++ all_operations qs) = subst IsDistinct (sym e) d in
     let names = names_with O k q.operations in
     let here : IsDistinct (operation_names (O ++ owned k q.operations)) = subst IsDistinct (sym names) (distinct_front (operation_names O ++ q.operations) (all_operations qs) all) in (
-      each_then (KeepsPathRules q.operations) (λ f. FormFits (O ++ owned k q.operations) k [] (names_in f)) (path_fits O k q.operations here) q.paths h.0,
+      each_then (KeepsPathRules q.operations) (PathFits (O ++ owned k q.operations) k) (path_fits O k q.operations here) q.paths h.0,
       paths_fit qs (O ++ owned k q.operations) (k + 1) (subst (λ x. IsDistinct (x ++ all_operations qs)) (sym names) all) h.1,
     )
 
@@ -148,13 +150,19 @@ rules_allow qs h =
       room = omega (arith, h.few_paths);
     })
 
+-- the value of a bound is what its digits denote
+pub number_denoted : (b : Option (List ℕ)) → BoundFits b → IsBound b (bound_of b)
+number_denoted None h = tt
+number_denoted (Some ds) h = subst (λ n. ds ≡ decimal n) (sym (value_of ds h.number h.denoted (omega (arith, h.within)))) h.denoted
+
 -- the names of a form stand at their numbers
-numbers_in : (N : List (List ℕ)) (O : List Operation) (k : ℕ) (more : List (List ℕ)) → N ≡ operation_names O ++ more → (f : Form) → AllByRecursion (IsOwn O k) (names_in f) → Numbers N f (tree_in O f)
-numbers_in N O k more e (once n) h =
+numbers_in : (N : List (List ℕ)) (O : List Operation) (k : ℕ) (more : List (List ℕ)) → N ≡ operation_names O ++ more → (f : Form) → AllByRecursion (IsOwn O k) (names_in f) → (b : ℕ) → BracesFit b f → Numbers N f (tree_in O f)
+numbers_in N O k more e (once n) h b i =
     let name : slice_get (operation_names O) (number_of O n) ≡ Some n = slice_get-map (λ x. x.name) O (number_of O n) ∙ ap (option_map (λ x. x.name)) h.0 in
     ap (λ x. slice_get x (number_of O n)) e ∙ get_front (operation_names O) more (number_of O n) n name
-numbers_in N O k more e (sequence s t) h = (numbers_in N O k more e s (each_front (IsOwn O k) (names_in s) (names_in t) h), numbers_in N O k more e t (each_back (IsOwn O k) (names_in s) (names_in t) h))
-numbers_in N O k more e (selection s t) h = (numbers_in N O k more e s (each_front (IsOwn O k) (names_in s) (names_in t) h), numbers_in N O k more e t (each_back (IsOwn O k) (names_in s) (names_in t) h))
+numbers_in N O k more e (sequence s t) h b i = (numbers_in N O k more e s (each_front (IsOwn O k) (names_in s) (names_in t) h) b i.0, numbers_in N O k more e t (each_back (IsOwn O k) (names_in s) (names_in t) h) b i.1)
+numbers_in N O k more e (selection s t) h b i = (numbers_in N O k more e s (each_front (IsOwn O k) (names_in s) (names_in t) h) b i.0, numbers_in N O k more e t (each_back (IsOwn O k) (names_in s) (names_in t) h) b i.1)
+numbers_in N O k more e (braced c s) h b i = (number_denoted c i.2, numbers_in N O k more e s h (b + 1) i.1)
 
 paths-append : (N : List (List ℕ)) (xs ys : List (ℕ × Form)) (ps qs : List Path) → ArePathsOf N xs ps → ArePathsOf N ys qs → ArePathsOf N (xs ++ ys) (ps ++ qs)
 paths-append N [] ys [] qs a b = b
@@ -164,7 +172,7 @@ paths-append N (x ∷ xs) ys (p ∷ ps) qs a b = (a.0, paths-append N xs ys ps q
 
 paths_of_one : (N : List (List ℕ)) (O : List Operation) (k : ℕ) (more : List (List ℕ)) → N ≡ operation_names O ++ more → (fs : List Form) → PathsFit O k fs → ArePathsOf N (map (λ f. (k, f)) fs) (map (made_path O k) fs)
 paths_of_one N O k more e [] h = tt
-paths_of_one N O k more e (f ∷ fs) h = ((refl, numbers_in N O k more e f h.0.0), paths_of_one N O k more e fs h.1)
+paths_of_one N O k more e (f ∷ fs) h = ((refl, numbers_in N O k more e f h.0.0.0 0 h.0.1), paths_of_one N O k more e fs h.1)
 
 paths_made : (N : List (List ℕ)) (qs : List ResourceForm) (O : List Operation) (k : ℕ) → N ≡ operation_names O ++ all_operations qs → FileFits O k qs → ArePathsOf N (paths_from k qs) (made_paths O k qs)
 paths_made N [] O k e h = tt

@@ -4,13 +4,14 @@ use Rattle.std.specs.List.{AllByRecursion}
 use Rattle.std.proofs.lemmas.List.{append-nil, take_more, length-append, map_push, get_or_append_left, get_or-append_right}
 use Rattle.std.proofs.lemmas.List.Elements.{Contains-get_or}
 use Rattle.std.proofs.lemmas.List.Quantifiers.{all_pairs_push}
-use Rattle.path_model.specs.Trees.{Tree, op, seq, alt}
+use Rattle.path_model.specs.Trees.{Tree, op, seq, alt, burst}
 use Rattle.path_model.specs.Declarations.{Operation}
-use Rattle.path_decl.specs.Forms.{Form, once, sequence, selection, names_in}
+use Rattle.path_decl.specs.Forms.{Form, once, sequence, selection, braced, names_in}
 use Rattle.path_decl.specs.declared.part.PlacedPart.{PlacedPart}
-use Rattle.path_decl.specs.Parts.{Saying, saying, sayings, a_resource, an_operation, a_path, a_name, a_sequence, a_selection, an_end, form_parts}
+use Rattle.path_decl.specs.Parts.{Saying, saying, sayings, a_resource, an_operation, a_path, a_name, a_sequence, a_selection, an_opening, a_closing, an_end, form_parts}
 use Rattle.path_decl.specs.Lawful.{IsDistinct}
-use Rattle.path_decl.specs.Building.{Drafted, number_of, Allowed, after, AllAllowed, after_all}
+use Rattle.path_decl.specs.Building.{Drafted, number_of, bound_of, BoundFits, Allowed, after, AllAllowed, after_all}
+use Rattle.path_decl.proofs.FormRules.{BracesFit}
 
 pub after_all-append : (xs ys : List Saying) (d : Drafted) → after_all (xs ++ ys) d ≡ after_all ys (after_all xs d)
 after_all-append [] ys d = refl
@@ -95,6 +96,7 @@ abbrev pub tree_in : List Operation → Form → Tree
 tree_in os (once n) = op (record { 0 = number_of os n })
 tree_in os (sequence s t) = seq (tree_in os s) (tree_in os t)
 tree_in os (selection s t) = alt (tree_in os s) (tree_in os t)
+tree_in os (braced b s) = burst (bound_of b) (tree_in os s)
 
 -- the name stands for an operation of the resource
 abbrev pub IsOwn : List Operation → ℕ → List ℕ → Type 0
@@ -108,6 +110,13 @@ after_two : (s t : List Saying) (o : Saying) (d e f : Drafted) → after_all s d
 after_two s t o d e f p q =
     after_all-append s (t ++ o ∷ []) d ∙ ap (after_all (t ++ o ∷ [])) p ∙ after_all-append t (o ∷ []) e ∙ ap (after o) q
 
+-- the draft with a brace more that is open
+abbrev pub opened : Drafted → Drafted
+opened d = record d { braces = d.braces + 1 }
+
+closed_again : (n : ℕ) → n + 1 - 1 ≡ n
+closed_again n = omega arith
+
 pub after_form : (f : Form) (d : Drafted) → after_all (form_parts f) d ≡ with_tree d (tree_in d.operations f) (d.named ++ names_in f)
 after_form (once n) d = refl
 after_form (sequence s t) d =
@@ -116,23 +125,28 @@ after_form (sequence s t) d =
 after_form (selection s t) d =
     after_two (form_parts s) (form_parts t) a_selection d _ _ (after_form s d) (after_form t (with_tree d (tree_in d.operations s) (d.named ++ names_in s)))
     ∙ ap (with_tree d (alt (tree_in d.operations s) (tree_in d.operations t))) (append_assoc d.named (names_in s) (names_in t))
+after_form (braced b s) d =
+    after_all-append (form_parts s) (a_closing b ∷ []) (opened d) ∙ ap (after (a_closing b)) (after_form s (opened d))
+    ∙ ap (λ (n : ℕ). record (with_tree d (burst (bound_of b) (tree_in d.operations s)) (d.named ++ names_in s)) { braces = n }) (closed_again d.braces)
 
 allowed_two : (s t : List Saying) (o : Saying) (d e f : Drafted) → after_all s d ≡ e → after_all t e ≡ f → AllAllowed s d → AllAllowed t e → Allowed o f → AllAllowed (s ++ (t ++ o ∷ [])) d
 allowed_two s t o d e f p q a b c =
     allowed-append s (t ++ o ∷ []) d a (subst (AllAllowed (t ++ o ∷ [])) (sym p) (allowed-append t (o ∷ []) e b (subst (AllAllowed (o ∷ [])) (sym q) (c, tt))))
 
-pub form_allowed : (f : Form) (d : Drafted) → AllByRecursion (IsOwn d.operations d.resource) (names_in f) → Fresh 64 d.named (names_in f) → AllAllowed (form_parts f) d
-form_allowed (once n) d o h = (record { own = o.0; new = h.0; room = h.1 }, tt)
-form_allowed (sequence s t) d o h =
+pub form_allowed : (f : Form) (d : Drafted) → AllByRecursion (IsOwn d.operations d.resource) (names_in f) → Fresh 64 d.named (names_in f) → BracesFit d.braces f → AllAllowed (form_parts f) d
+form_allowed (once n) d o h b = (record { own = o.0; new = h.0; room = h.1 }, tt)
+form_allowed (sequence s t) d o h b =
     let e = with_tree d (tree_in d.operations s) (d.named ++ names_in s) in
     allowed_two (form_parts s) (form_parts t) a_sequence d e _ (after_form s d) (after_form t e)
-    (form_allowed s d (each_front (IsOwn d.operations d.resource) (names_in s) (names_in t) o) (fresh_front 64 d.named (names_in s) (names_in t) h))
-    (form_allowed t e (each_back (IsOwn d.operations d.resource) (names_in s) (names_in t) o) (fresh_back 64 d.named (names_in s) (names_in t) h)) tt
-form_allowed (selection s t) d o h =
+    (form_allowed s d (each_front (IsOwn d.operations d.resource) (names_in s) (names_in t) o) (fresh_front 64 d.named (names_in s) (names_in t) h) b.0)
+    (form_allowed t e (each_back (IsOwn d.operations d.resource) (names_in s) (names_in t) o) (fresh_back 64 d.named (names_in s) (names_in t) h) b.1) tt
+form_allowed (selection s t) d o h b =
     let e = with_tree d (tree_in d.operations s) (d.named ++ names_in s) in
     allowed_two (form_parts s) (form_parts t) a_selection d e _ (after_form s d) (after_form t e)
-    (form_allowed s d (each_front (IsOwn d.operations d.resource) (names_in s) (names_in t) o) (fresh_front 64 d.named (names_in s) (names_in t) h))
-    (form_allowed t e (each_back (IsOwn d.operations d.resource) (names_in s) (names_in t) o) (fresh_back 64 d.named (names_in s) (names_in t) h)) tt
+    (form_allowed s d (each_front (IsOwn d.operations d.resource) (names_in s) (names_in t) o) (fresh_front 64 d.named (names_in s) (names_in t) h) b.0)
+    (form_allowed t e (each_back (IsOwn d.operations d.resource) (names_in s) (names_in t) o) (fresh_back 64 d.named (names_in s) (names_in t) h) b.1) tt
+form_allowed (braced c s) d o h b =
+    (b.0, allowed-append (form_parts s) (a_closing c ∷ []) (opened d) (form_allowed s (opened d) o h b.1) (subst (AllAllowed (a_closing c ∷ [])) (sym (after_form s (opened d))) ((tt, b.2), tt)))
 
 -- what the parts of a form ask for
 abbrev pub FormFits : List Operation → ℕ → List (List ℕ) → List (List ℕ) → Type 0
@@ -154,6 +168,20 @@ form_kept (selection s t) d a =
     let e = with_tree d (tree_in d.operations s) (d.named ++ names_in s) in
     let k = kept_two (form_parts s) (form_parts t) a_selection d e (after_form s d) a in
     both_fit d.operations d.resource d.named (names_in s) (names_in t) (form_kept s d k.0) (form_kept t e k.1)
+form_kept (braced c s) d a = form_kept s (opened d) (allowed_front (form_parts s) (a_closing c ∷ []) (opened d) a.1)
+
+-- what the parts of a form ask for of its braces
+pub braces_kept : (f : Form) (d : Drafted) → AllAllowed (form_parts f) d → BracesFit d.braces f
+braces_kept (once n) d a = tt
+braces_kept (sequence s t) d a =
+    let e = with_tree d (tree_in d.operations s) (d.named ++ names_in s) in
+    let k = kept_two (form_parts s) (form_parts t) a_sequence d e (after_form s d) a in (braces_kept s d k.0, braces_kept t e k.1)
+braces_kept (selection s t) d a =
+    let e = with_tree d (tree_in d.operations s) (d.named ++ names_in s) in
+    let k = kept_two (form_parts s) (form_parts t) a_selection d e (after_form s d) a in (braces_kept s d k.0, braces_kept t e k.1)
+braces_kept (braced c s) d a =
+    let fits : BoundFits c = (allowed_back (form_parts s) (a_closing c ∷ []) (opened d) a.1).0.1 in
+    (a.0, braces_kept s (opened d) (allowed_front (form_parts s) (a_closing c ∷ []) (opened d) a.1), fits)
 
 -- no more than 256 operations
 still_few : (s : Saying) (d : Drafted) → Allowed s d → length d.operations ≤ 256 → length (after s d).operations ≤ 256
@@ -163,6 +191,8 @@ still_few a_path d a le = le
 still_few (a_name n) d a le = le
 still_few a_sequence d a le = le
 still_few a_selection d a le = le
+still_few an_opening d a le = le
+still_few (a_closing b) d a le = le
 still_few an_end d a le = le
 
 pub more_taken : (xs : List Saying) (s : Saying) (c d e : Drafted) → AllAllowed xs c → d ≡ after_all xs c → Allowed s d → e ≡ after s d → length d.operations ≤ 256 → AllAllowed (xs ++ s ∷ []) c × (e ≡ after_all (xs ++ s ∷ []) c) × (length e.operations ≤ 256)

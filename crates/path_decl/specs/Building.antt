@@ -1,14 +1,17 @@
 -- What each part asks of a draft, and what it makes of it.
-use Rattle.std.specs.Prelude.{◌≡◌, ℕ, ◌+◌, ◌<◌, if◌then◌else◌, List, [], ◌∷◌, ◌++◌, map, reverse, length, slice_get, Some, Contains}
+use Rattle.std.specs.Prelude.{◌≡◌, ℕ, ◌+◌, ◌-◌, ◌<◌, if◌then◌else◌, List, [], ◌∷◌, ◌++◌, map, reverse, length, slice_get, Option, Some, None, Contains}
 use Rattle.std.specs.Str.{bytes_eq}
+use Rattle.std.specs.Str.Parse.{digits_value}
 use Rattle.path_model.specs.declared.resource.Law.TheVariants.{Cell}
-use Rattle.path_model.specs.Trees.{Tree, op, seq, alt, shape}
+use Rattle.path_model.specs.Trees.{Bound, any, most, Tree, op, seq, alt, burst, shape}
 use Rattle.path_model.specs.Declarations.{Resource, Operation, Path, Declaration}
 use Rattle.path_decl.specs.declared.draft.Draft.{Draft}
-use Rattle.path_decl.specs.Parts.{Saying, a_resource, an_operation, a_path, a_name, a_sequence, a_selection, an_end}
+use Rattle.path_decl.specs.Numerals.{IsUpTo}
+use Rattle.path_decl.specs.Parts.{Saying, a_resource, an_operation, a_path, a_name, a_sequence, a_selection, an_opening, a_closing, an_end}
 use Rattle.path_decl.specs.Table.{resources_of, operations_of, path_of}
 
--- what was declared so far, the last resource, and of the path so far the trees, the last first, and the names
+-- what was declared so far, the last resource, and of the path so far the trees, the last first, the names, and how many braces
+-- are open
 pub record Drafted : Type 0 where
   pub resources : List Resource
   pub operations : List Operation
@@ -16,6 +19,7 @@ pub record Drafted : Type 0 where
   pub resource : ℕ
   pub open_trees : List Tree
   pub named : List (List ℕ)
+  pub braces : ℕ
 
 abbrev pub drafted : {Y : Type 0} → Draft Y → Drafted
 drafted d = record {
@@ -25,10 +29,11 @@ drafted d = record {
   resource = d.resource.0;
   open_trees = reverse (map shape d.open_trees.items);
   named = map (λ n. n.now) d.named.items;
+  braces = if d.in_braces then 1 else 0;
 }
 
 abbrev pub nothing : Drafted
-nothing = record { resources = []; operations = []; paths = []; resource = 0; open_trees = []; named = [] }
+nothing = record { resources = []; operations = []; paths = []; resource = 0; open_trees = []; named = []; braces = 0 }
 
 abbrev pub declared_by : Drafted → Declaration
 declared_by d = record { resources = d.resources; operations = d.operations; paths = d.paths }
@@ -62,6 +67,16 @@ abbrev pub HasOne : List Tree → Type 0
 HasOne [] = ⊥
 HasOne (t ∷ ts) = Unit {0}
 
+-- the bound that braces have
+abbrev pub bound_of : Option (List ℕ) → Bound
+bound_of None = any
+bound_of (Some ds) = most (digits_value 10 ds)
+
+-- the last tree in braces
+abbrev pub enclosed : Option (List ℕ) → List Tree → List Tree
+enclosed b [] = []
+enclosed b (t ∷ ts) = burst (bound_of b) t ∷ ts
+
 -- the path whose tree is the last
 abbrev pub closed : ℕ → List Tree → List Path
 closed r [] = []
@@ -75,6 +90,8 @@ after a_path d = d
 after (a_name n) d = record d { open_trees = op (record { 0 = number_of d.operations n }) ∷ d.open_trees; named = d.named ++ n ∷ [] }
 after a_sequence d = record d { open_trees = joined seq d.open_trees }
 after a_selection d = record d { open_trees = joined alt d.open_trees }
+after an_opening d = record d { braces = d.braces + 1 }
+after (a_closing b) d = record d { open_trees = enclosed b d.open_trees; braces = d.braces - 1 }
 after an_end d = record d { paths = d.paths ++ closed d.resource d.open_trees; open_trees = []; named = [] }
 
 -- a name that stands for an operation of the last resource, and is new in the path, which has room for it
@@ -82,6 +99,11 @@ pub record IsUsable (d : Drafted) (n : List ℕ) : Type 0 where
   pub own : slice_get d.operations (number_of d.operations n) ≡ Some (record { name = n; resource = d.resource })
   pub new : Contains d.named n → ⊥
   pub room : length d.named < 64
+
+-- a bound is a number from 1 to 65,535
+abbrev pub BoundFits : Option (List ℕ) → Type 0
+BoundFits None = Unit {0}
+BoundFits (Some ds) = IsUpTo 65535 ds
 
 -- what a part asks of the draft
 abbrev pub Allowed : Saying → Drafted → Type 0
@@ -91,6 +113,8 @@ Allowed a_path d = length d.paths < 256
 Allowed (a_name n) d = IsUsable d n
 Allowed a_sequence d = HasTwo d.open_trees
 Allowed a_selection d = HasTwo d.open_trees
+Allowed an_opening d = d.braces ≡ 0
+Allowed (a_closing b) d = HasOne d.open_trees × BoundFits b
 Allowed an_end d = HasOne d.open_trees
 
 -- the same of many parts

@@ -1,11 +1,19 @@
 -- The declaration that forms are: numbers in the order of the text in place of names.
-use Rattle.std.specs.Prelude.{◌≡◌, ℕ, ◌+◌, List, [], ◌∷◌, ◌++◌, map, Some, slice_get}
+use Rattle.std.specs.Prelude.{◌≡◌, ℕ, ◌+◌, List, [], ◌∷◌, ◌++◌, map, Option, Some, None, slice_get}
 use Rattle.path_model.specs.declared.resource.Law.TheVariants.{Cell}
-use Rattle.path_model.specs.Trees.{Tree, op, seq, alt, burst}
+use Rattle.path_model.specs.Trees.{Bound, any, most, Tree, op, seq, alt, burst}
 use Rattle.path_model.specs.Declarations.{Resource, Operation, Path, Declaration}
-use Rattle.path_decl.specs.Forms.{Form, once, sequence, selection, ResourceForm, all_operations}
+use Rattle.path_decl.specs.Numerals.{Denotes}
+use Rattle.path_decl.specs.Forms.{Form, once, sequence, selection, braced, ResourceForm, all_operations}
 
--- the tree has the numbers of the names in place of them
+-- the bound is the number that the digits denote, or braces without a bound have none
+abbrev pub IsBound : Option (List ℕ) → Bound → Type 0
+IsBound None any = Unit {0}
+IsBound None (most n) = ⊥
+IsBound (Some ds) any = ⊥
+IsBound (Some ds) (most n) = Denotes ds n
+
+-- the tree has the numbers of the names in place of them, and those that its bounds denote
 abbrev pub Numbers : List (List ℕ) → Form → Tree → Type 0
 Numbers ns (once n) (op a) = slice_get ns a.0 ≡ Some n
 Numbers ns (once n) (seq s t) = ⊥
@@ -19,6 +27,10 @@ Numbers ns (selection f g) (alt s t) = Numbers ns f s × Numbers ns g t
 Numbers ns (selection f g) (op a) = ⊥
 Numbers ns (selection f g) (seq s t) = ⊥
 Numbers ns (selection f g) (burst b s) = ⊥
+Numbers ns (braced c f) (burst b s) = IsBound c b × Numbers ns f s
+Numbers ns (braced c f) (op a) = ⊥
+Numbers ns (braced c f) (seq s t) = ⊥
+Numbers ns (braced c f) (alt s t) = ⊥
 
 abbrev pub resource_from : ResourceForm → Resource
 resource_from r = record { name = r.name; law = Cell }

@@ -1,11 +1,12 @@
 -- What a text declares, in names alone.
-use Rattle.std.specs.Prelude.{ℕ, List, [], ◌∷◌, ◌++◌}
+use Rattle.std.specs.Prelude.{ℕ, List, [], ◌∷◌, ◌++◌, Option}
 
--- a path expression over names
+-- a path expression over names, with the digits of the bounds that stand in braces
 pub data Form : Type 0 where
   once : List ℕ → Form
   sequence : Form → Form → Form
   selection : Form → Form → Form
+  braced : Option (List ℕ) → Form → Form
 
 -- a resource with its operations and its paths
 pub record ResourceForm : Type 0 where
@@ -18,6 +19,7 @@ abbrev pub names_in : Form → List (List ℕ)
 names_in (once n) = n ∷ []
 names_in (sequence s t) = names_in s ++ names_in t
 names_in (selection s t) = names_in s ++ names_in t
+names_in (braced b s) = names_in s
 
 -- the operations of all resources, in order
 abbrev pub all_operations : List ResourceForm → List (List ℕ)

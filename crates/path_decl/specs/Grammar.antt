@@ -1,17 +1,24 @@
 -- The grammar. The pieces, up to those of the rest, are a unit, an alternative, a sequence, .. with this form.
-use Rattle.std.specs.Prelude.{ℕ, suc, List, [], ◌∷◌}
+use Rattle.std.specs.Prelude.{ℕ, suc, List, [], ◌∷◌, Option, Some, None}
 use Rattle.path_lex.specs.declared.token.Sign.TheVariants as signs
 use Rattle.path_lex.specs.declared.token.Reserved.TheVariants as words
-use Rattle.path_lex.specs.Spelling.{Piece, sign, reserved, name}
-use Rattle.path_decl.specs.Forms.{Form, once, sequence, selection, ResourceForm}
+use Rattle.path_lex.specs.Spelling.{Piece, sign, reserved, name, number}
+use Rattle.path_decl.specs.Forms.{Form, once, sequence, selection, braced, ResourceForm}
 
--- At most d parentheses are open at once.
+-- [":" NUMBER] "}", with the digits of the number
+pub data IsClosing : List Piece → List Piece → Option (List ℕ) → Type 0 where
+  by_brace : {rest : List Piece} → IsClosing (sign signs.CloseBrace ∷ rest) rest None
+  by_bound : {n : List ℕ} {rest : List Piece} → IsClosing (sign signs.Colon ∷ number n ∷ sign signs.CloseBrace ∷ rest) rest (Some n)
+
+-- At most d parentheses and braces are open at once.
 mutual
-  -- unit = NAME | "(" seq ")"
+  -- unit = NAME | "(" seq ")" | "{" seq [":" NUMBER] "}"
   pub data IsUnit : ℕ → List Piece → List Piece → Form → Type 0 where
     by_name : {d : ℕ} {n : List ℕ} {rest : List Piece} → IsUnit d (name n ∷ rest) rest (once n)
     by_group : {d : ℕ} {ts rest : List Piece} {t : Form} → IsSeq d ts (sign signs.CloseParen ∷ rest) t
         → IsUnit (suc d) (sign signs.OpenParen ∷ ts) rest t
+    by_braces : {d : ℕ} {ts mid rest : List Piece} {t : Form} {b : Option (List ℕ)} → IsSeq d ts mid t → IsClosing mid rest b
+        → IsUnit (suc d) (sign signs.OpenBrace ∷ ts) rest (braced b t)
 
   -- alt = unit {"," unit}, to the left
   pub data IsAlt : ℕ → List Piece → List Piece → Form → Type 0 where

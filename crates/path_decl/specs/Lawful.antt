@@ -2,7 +2,7 @@
 use Rattle.std.specs.Prelude.{◌≡◌, ◌≢◌, ℕ, ◌+◌, ◌<◌, ◌≤◌, List, length, map, All, AllPairs}
 use Rattle.path_model.specs.declared.ids.OpId.{OpId}
 use Rattle.path_model.specs.declared.resource.Law.TheVariants.{Cell}
-use Rattle.path_model.specs.Trees.{Tree, op, seq, alt, burst, Names, NoBraces, WellFormed}
+use Rattle.path_model.specs.Trees.{Tree, op, seq, alt, burst, Names, WellFormed, FewAtOnce}
 use Rattle.path_model.specs.Legal.{Every}
 use Rattle.path_model.specs.Declarations.{Path, Declaration, paths_of, resource_of}
 use Rattle.path_lex.specs.Names.{IsName}
@@ -28,8 +28,8 @@ pub record AreDistinctNames (ns : List (List ℕ)) : Type 0 where
   pub distinct : IsDistinct ns
 
 -- Resources and operations have names, each its own. A path names, each once, at most 64 operations of its own resource. There
--- are at most 64 resources, 256 operations and 256 paths. The numbers of resources are those of resources that were declared,
--- each resource is a cell, and no path has braces.
+-- are at most 64 resources, 256 operations and 256 paths. No braces stand within braces, and the bound of braces is 1 to 65,535.
+-- The numbers of resources are those of resources that were declared, and each resource is a cell.
 pub record Lawful (d : Declaration) : Type 0 where
   pub resource_names : AreDistinctNames (map (λ r. r.name) d.resources)
   pub operation_names : AreDistinctNames (map (λ o. o.name) d.operations)
@@ -42,4 +42,4 @@ pub record Lawful (d : Declaration) : Type 0 where
   pub operations : All (λ o. o.resource < length d.resources) d.operations
   pub paths : All (λ p. p.resource < length d.resources) d.paths
   pub cells : All (λ r. r.law ≡ Cell) d.resources
-  pub plain : Every NoBraces (paths_of d)
+  pub bounded : Every FewAtOnce (paths_of d)

@@ -4,7 +4,7 @@ use Rattle.std.specs.List.{AllByRecursion-prop}
 use Rattle.std.specs.Prelude.{◌≡◌, ℕ, List, [], ◌∷◌, true, All, slice_index_or}
 use mathlib.Core.HLevel.{⊥_prop, ¬_prop}
 use mathlib.Core.Bool.{Bool-set}
-use Rattle.path_model.specs.Trees.{Tree, op, seq, alt, burst, any, most, Bound, Room, Apart, NoRepeats, NoBraces, NoNesting, WellFormed}
+use Rattle.path_model.specs.Trees.{Tree, op, seq, alt, burst, any, most, Bound, Room, Apart, NoRepeats, NoBraces, NoNesting, FewAtOnce, WellFormed}
 use Rattle.path_model.specs.Legal.{Every}
 use Rattle.path_model.specs.Declarations.{Path, Declaration}
 use Rattle.path_lex.specs.contracts.token.Class as class
@@ -38,6 +38,13 @@ NoNesting-prop (op a) = Unit-prop
 NoNesting-prop (seq s t) = ×_prop (NoNesting-prop s) (NoNesting-prop t)
 NoNesting-prop (alt s t) = ×_prop (NoNesting-prop s) (NoNesting-prop t)
 NoNesting-prop (burst b s) = ×_prop (NoBraces-prop s) (Room-prop b 0)
+
+FewAtOnce-prop : (s : Tree) → IsProp (FewAtOnce s)
+FewAtOnce-prop (op a) = Unit-prop
+FewAtOnce-prop (seq s t) = ×_prop (FewAtOnce-prop s) (FewAtOnce-prop t)
+FewAtOnce-prop (alt s t) = ×_prop (FewAtOnce-prop s) (FewAtOnce-prop t)
+FewAtOnce-prop (burst any s) = FewAtOnce-prop s
+FewAtOnce-prop (burst (most n) s) = ×_prop le_prop (FewAtOnce-prop s)
 
 WellFormed-prop : (s : Tree) → IsProp (WellFormed s)
 WellFormed-prop s x y i = record {
@@ -86,5 +93,5 @@ Lawful-prop d x y i = record {
   operations = λ k o lt. le_prop (x.operations k o lt) (y.operations k o lt) i;
   paths = λ k p lt. le_prop (x.paths k p lt) (y.paths k p lt) i;
   cells = λ k r lt. Coded-set law_code _ _ (x.cells k r lt) (y.cells k r lt) i;
-  plain = Every-prop NoBraces NoBraces-prop _ x.plain y.plain i;
+  bounded = Every-prop FewAtOnce FewAtOnce-prop _ x.bounded y.bounded i;
 }

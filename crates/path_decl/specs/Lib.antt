@@ -1,3 +1,4 @@
+pub mod Numerals
 pub mod Forms
 pub mod Grammar
 pub mod Declares

@@ -1,9 +1,9 @@
 -- What forms say, part by part.
-use Rattle.std.specs.Prelude.{ℕ, List, [], ◌∷◌, ◌++◌, map}
+use Rattle.std.specs.Prelude.{ℕ, List, [], ◌∷◌, ◌++◌, map, Option, Some, None}
 use Rattle.path_decl.specs.declared.part.Part.{Part}
 use Rattle.path_decl.specs.declared.part.Part.TheVariants as parts
 use Rattle.path_decl.specs.declared.part.PlacedPart.{PlacedPart}
-use Rattle.path_decl.specs.Forms.{Form, once, sequence, selection, ResourceForm}
+use Rattle.path_decl.specs.Forms.{Form, once, sequence, selection, braced, ResourceForm}
 
 -- a part without where its bytes lie in memory
 pub data Saying : Type 0 where
@@ -13,6 +13,8 @@ pub data Saying : Type 0 where
   a_name : List ℕ → Saying
   a_sequence : Saying
   a_selection : Saying
+  an_opening : Saying
+  a_closing : Option (List ℕ) → Saying
   an_end : Saying
 
 abbrev pub saying : Part → Saying
@@ -22,16 +24,20 @@ saying parts.Path = a_path
 saying (parts.Name n) = a_name n.now
 saying parts.Sequence = a_sequence
 saying parts.Selection = a_selection
+saying parts.Opening = an_opening
+saying parts.Closing = a_closing None
+saying (parts.Bound n) = a_closing (Some n.now)
 saying parts.End = an_end
 
 abbrev pub sayings : List PlacedPart → List Saying
 sayings ps = map (λ p. saying p.part) ps
 
--- operands, and then their operator
+-- operands, and then their operator; braces before and after what they hold
 abbrev pub form_parts : Form → List Saying
 form_parts (once n) = a_name n ∷ []
 form_parts (sequence s t) = form_parts s ++ (form_parts t ++ a_sequence ∷ [])
 form_parts (selection s t) = form_parts s ++ (form_parts t ++ a_selection ∷ [])
+form_parts (braced b s) = an_opening ∷ (form_parts s ++ a_closing b ∷ [])
 
 -- a path after its first word
 abbrev pub body_parts : Form → List Saying

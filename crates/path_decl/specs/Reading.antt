@@ -1,12 +1,13 @@
 -- How the reader reads the grammar: each list goes on as long as its separator follows.
-use Rattle.std.specs.Prelude.{◌≡◌, ℕ, suc, List, [], ◌∷◌, ◌++◌}
+use Rattle.std.specs.Prelude.{◌≡◌, ℕ, suc, List, [], ◌∷◌, ◌++◌, Option}
 use Rattle.path_lex.specs.declared.token.Sign.TheVariants as signs
 use Rattle.path_lex.specs.declared.token.Reserved.TheVariants as words
 use Rattle.path_lex.specs.declared.token.Token.{Token}
 use Rattle.path_lex.specs.declared.fault.DeclFault.{DeclFault}
 use Rattle.path_lex.specs.declared.fault.DeclFault.TheVariants as faults
 use Rattle.path_lex.specs.Spelling.{Piece, sign, reserved, name, views, pieces}
-use Rattle.path_decl.specs.Forms.{Form, once, sequence, selection, ResourceForm}
+use Rattle.path_decl.specs.Forms.{Form, once, sequence, selection, braced, ResourceForm}
+use Rattle.path_decl.specs.Grammar.{IsClosing}
 use Rattle.path_decl.specs.Parts.{Saying}
 
 -- the tokens without their places
@@ -35,6 +36,8 @@ mutual
     by_name : {d : ℕ} {n : List ℕ} {rest : List Piece} → ReadsUnit d (name n ∷ rest) rest (once n)
     by_group : {d : ℕ} {ts rest : List Piece} {t : Form} → ReadsSeq d ts (sign signs.CloseParen ∷ rest) t
         → ReadsUnit (suc d) (sign signs.OpenParen ∷ ts) rest t
+    by_braces : {d : ℕ} {ts mid rest : List Piece} {t : Form} {b : Option (List ℕ)} → ReadsSeq d ts mid t → IsClosing mid rest b
+        → ReadsUnit (suc d) (sign signs.OpenBrace ∷ ts) rest (braced b t)
 
   pub data ReadsAlt : ℕ → List Piece → List Piece → Form → Type 0 where
     by_units : {d : ℕ} {ts mid rest : List Piece} {s t : Form} → ReadsUnit d ts mid s → ReadsUnits d s mid rest t → ReadsAlt d ts rest t
@@ -51,6 +54,10 @@ mutual
     no_alt : {d : ℕ} {rest : List Piece} {s : Form} → (Begins (sign signs.Semicolon) rest → ⊥) → ReadsAlts d s rest rest s
     one_alt : {d : ℕ} {ts mid rest : List Piece} {s u t : Form} → ReadsAlt d ts mid u → ReadsAlts d (sequence s u) mid rest t
         → ReadsAlts d s (sign signs.Semicolon ∷ ts) rest t
+
+-- a unit of braces after the brace that opens it
+abbrev pub ReadsBraces : ℕ → List Piece → List Piece → Form → Type 0
+ReadsBraces d ts rest t = ReadsUnit d (sign signs.OpenBrace ∷ ts) rest t
 
 -- a path after its word
 pub data ReadsPath : List Piece → List Piece → Form → Type 0 where

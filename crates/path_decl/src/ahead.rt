@@ -1,7 +1,7 @@
 //! The next tokens.
 
 ghost use Rattle.std.specs.Prelude.{◌≡◌, ℕ, ◌<◌, List, ◌∷◌, length, IfOk, IfErr, IfSome, IfNone};
-ghost use Rattle.path_lex.specs.Spelling.{sign as a_sign, reserved as a_word, name as a_name};
+ghost use Rattle.path_lex.specs.Spelling.{sign as a_sign, reserved as a_word, name as a_name, number as a_number};
 ghost use Rattle.path_decl.specs.Reading.{told, Begins, Fails};
 
 use path_lex::{DeclFault, Kind, Reserved, Sign, Token};
@@ -67,6 +67,19 @@ pub(crate) fn split_name<'t, 'a>(tokens: &'t [Token<'a>]) -> Option<(&'a str, u3
     Some((name, first.at, rest))
 }
 
+/// The digits of the number that comes first, their place and the tokens after them.
+fn split_number<'t, 'a>(tokens: &'t [Token<'a>]) -> Option<(&'a [u8], u32, &'t [Token<'a>])>
+    ensures some { IfSome result (λ p. told tokens.now ≡ a_number p.0.now ∷ told p.2.now) }
+    ensures shorter { IfSome result (λ p. length p.2.now < length tokens.now) }
+    ensures none { IfNone result ((n : List ℕ) → Begins (a_number n) (told tokens.now) → ⊥) }
+{
+    let (first, rest) = tokens.split_first()?;
+    let Kind::Number(digits) = first.kind else {
+        return None;
+    };
+    Some((digits, first.at, rest))
+}
+
 /// The tokens after this word, which has to come first.
 pub(crate) fn expect_word<'t, 'a>(
     tokens: &'t [Token<'a>],
@@ -93,6 +106,21 @@ pub(crate) fn expect_name<'t, 'a>(
     ensures err { IfErr result (λ e. Fails e ((n : List ℕ) → Begins (a_name n) (told tokens.now) → ⊥)) }
 {
     match split_name(tokens) {
+        Some(found) => Ok(found),
+        None => Err(DeclFault::Unexpected(place(tokens, end))),
+    }
+}
+
+/// The digits of the number that has to come first, their place and the tokens after them.
+pub(crate) fn expect_number<'t, 'a>(
+    tokens: &'t [Token<'a>],
+    end: u32,
+) -> Result<(&'a [u8], u32, &'t [Token<'a>]), DeclFault>
+    ensures ok { IfOk result (λ p. told tokens.now ≡ a_number p.0.now ∷ told p.2.now) }
+    ensures shorter { IfOk result (λ p. length p.2.now < length tokens.now) }
+    ensures err { IfErr result (λ e. Fails e ((n : List ℕ) → Begins (a_number n) (told tokens.now) → ⊥)) }
+{
+    match split_number(tokens) {
         Some(found) => Ok(found),
         None => Err(DeclFault::Unexpected(place(tokens, end))),
     }

@@ -1,13 +1,15 @@
 //! Declarations on the way.
 
-ghost use Rattle.std.specs.Prelude.{◌≡◌, ◌<◌, ◌≤◌, ◌++◌, [], ◌∷◌, ◌↔◌, length, map, Contains, IsTrue, IfOk, OnOk, IfErr};
+ghost use Rattle.std.specs.Prelude.{◌≡◌, ◌<◌, ◌≤◌, ◌++◌, [], ◌∷◌, ◌↔◌, Option, length, map, Contains, IsTrue, Some, None, IfOk, OnOk, IfErr};
 ghost use Rattle.path_model.specs.Trees.{shape};
 ghost use Rattle.path_decl.specs.Table.{names_of};
-ghost use Rattle.path_decl.specs.Parts.{saying, sayings, a_resource, an_operation, a_path, a_name, a_sequence, a_selection, an_end};
+ghost use Rattle.path_decl.specs.Parts.{saying, sayings, a_resource, an_operation, a_path, a_name, a_sequence, a_selection};
+ghost use Rattle.path_decl.specs.Parts.{an_opening, a_closing, an_end};
 ghost use Rattle.path_decl.specs.Building.{drafted, nothing, HasTwo, Allowed, after, AllAllowed, after_all};
 ghost use Rattle.path_decl.specs.Reading.{Fails};
 
 use crate::decl::{Names, PathEntry};
+use crate::numeral::number_up_to;
 use crate::part::{Part, PlacedPart};
 use indexmap::IndexMap;
 use path_lex::DeclFault;
@@ -26,6 +28,9 @@ const MOST_PATHS: usize = 256;
 /// The most names of a path.
 const MOST_NAMES: usize = 64;
 
+/// The largest bound of braces.
+const MOST_AT_ONCE: u32 = 65_535;
+
 /// What was declared so far, and what was read so far of a path.
 #[derive(Drop)]
 pub(crate) struct Draft<'a, A: Allocator + Copy> {
@@ -38,6 +43,8 @@ pub(crate) struct Draft<'a, A: Allocator + Copy> {
     pub(crate) open_trees: Vec<Expr<A>, A>,
     /// The names of the path.
     pub(crate) named: Vec<&'a str, A>,
+    /// Whether braces of the path are open.
+    pub(crate) in_braces: bool,
 }
 
 /// Whether the name is one of these.
@@ -66,6 +73,7 @@ impl<'a, A: Allocator + Copy> Draft<'a, A> {
             resource: ResId(0),
             open_trees: Vec::new(alloc),
             named: Vec::new(alloc),
+            in_braces: false,
         }
     }
 
@@ -178,6 +186,51 @@ impl<'a, A: Allocator + Copy> Draft<'a, A> {
         Ok(())
     }
 
+    /// A brace opens.
+    fn opening(&mut self, at: u32) -> Result<(), DeclFault>
+        ensures ok { OnOk result (Allowed an_opening (drafted self.old) × (drafted self.new ≡ after an_opening (drafted self.old))) }
+        ensures err { IfErr result (λ e. Fails e (Allowed an_opening (drafted self.old) → ⊥)) }
+    {
+        if self.in_braces {
+            return Err(DeclFault::NestedBraces(at));
+        }
+        self.in_braces = true;
+        Ok(())
+    }
+
+    /// Braces with no bound close.
+    fn closing(&mut self, alloc: A, at: u32) -> Result<(), DeclFault>
+        ensures ok { OnOk result (Allowed (a_closing None) (drafted self.old)
+            × (drafted self.new ≡ after (a_closing None) (drafted self.old))) }
+        ensures err { IfErr result (λ e. Fails e (Allowed (a_closing None) (drafted self.old) → ⊥)) }
+    {
+        let Some(tree) = self.open_trees.pop() else {
+            return Err(DeclFault::Unexpected(at));
+        };
+        let inner = Box::new(alloc, tree)?;
+        self.open_trees.push(Expr::Burst(inner))?;
+        self.in_braces = false;
+        Ok(())
+    }
+
+    /// Braces with the bound of these digits close.
+    fn bound(&mut self, alloc: A, digits: &[u8], at: u32) -> Result<(), DeclFault>
+        ensures ok { OnOk result (Allowed (a_closing (Some digits.now)) (drafted self.old)
+            × (drafted self.new ≡ after (a_closing (Some digits.now)) (drafted self.old))) }
+        ensures err { IfErr result (λ e. Fails e (Allowed (a_closing (Some digits.now)) (drafted self.old) → ⊥)) }
+    {
+        let Some(count) = number_up_to(MOST_AT_ONCE, digits) else {
+            return Err(DeclFault::BadCount(at));
+        };
+        let Some(tree) = self.open_trees.pop() else {
+            return Err(DeclFault::Unexpected(at));
+        };
+        let inner = Box::new(alloc, tree)?;
+        self.open_trees.push(Expr::Counted(inner, count))?;
+        self.in_braces = false;
+        Ok(())
+    }
+
     /// The path ends.
     fn end(&mut self, at: u32) -> Result<(), DeclFault>
         ensures ok { OnOk result (Allowed an_end (drafted self.old) × (drafted self.new ≡ after an_end (drafted self.old))) }
@@ -209,6 +262,9 @@ impl<'a, A: Allocator + Copy> Draft<'a, A> {
             Part::Name(name) => self.name(name, part.at),
             Part::Sequence => self.sequence(alloc, part.at),
             Part::Selection => self.selection(alloc, part.at),
+            Part::Opening => self.opening(part.at),
+            Part::Closing => self.closing(alloc, part.at),
+            Part::Bound(digits) => self.bound(alloc, digits, part.at),
             Part::End => self.end(part.at),
         }
     }

@@ -9,6 +9,7 @@ mod decl;
 mod draft;
 mod grammar;
 mod naming;
+mod numeral;
 mod outline;
 mod part;
 mod reader;

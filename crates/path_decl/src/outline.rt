@@ -13,7 +13,7 @@ use crate::part::{Part, PlacedPart};
 use path_lex::{DeclFault, Reserved, Sign, Token};
 use std::alloc::Allocator;
 
-/// How many parentheses may be open at once.
+/// How many parentheses and braces may be open at once.
 const DEEPEST: u32 = 32;
 
 /// Reads a path after its first word, and adds its parts. Answers the tokens after it.
@@ -112,7 +112,7 @@ fn resource<'t, 'a, A: Allocator + Copy>(
 }
 
 /// Reads the tokens of a whole file: the parts that they say. The text ends at `end`. The first fault is named: the
-/// first token that continues no file, or the first parenthesis that would be the 33rd open one. Takes time and memory
+/// first token that continues no file, or the first parenthesis or brace that would be the 33rd open one. Takes time and memory
 /// in proportion to the tokens.
 pub(crate) fn file<'a, A: Allocator + Copy>(
     alloc: A,

@@ -1,6 +1,6 @@
 //! What a declaration text says, part by part.
 
-/// A part of what a text says. In a path operands come before their operator.
+/// A part of what a text says. In a path operands come before their operator, and braces before and after what they hold.
 #[derive(Clone, Copy, Debug)]
 pub(crate) enum Part<'a> {
     /// A resource has this name.
@@ -15,6 +15,12 @@ pub(crate) enum Part<'a> {
     Sequence,
     /// One of the last two of the path.
     Selection,
+    /// A brace opens.
+    Opening,
+    /// Braces with no bound close: they hold the last of the path.
+    Closing,
+    /// Braces with the bound of these digits close: they hold the last of the path.
+    Bound(&'a [u8]),
     /// The path ends.
     End,
 }

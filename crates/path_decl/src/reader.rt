@@ -27,6 +27,7 @@ fn finish<A: Allocator + Copy>(alloc: A, draft: Draft<'_, A>) -> Result<Decl<A>,
         resource: _,
         open_trees: _,
         named: _,
+        in_braces: _,
     } = draft;
     let naming = naming_paths(alloc, &paths, operations.len())?;
     Ok(Decl {
@@ -40,9 +41,11 @@ fn finish<A: Allocator + Copy>(alloc: A, draft: Draft<'_, A>) -> Result<Decl<A>,
 /// Reads a declaration text, of at most 65,536 bytes.
 ///
 /// The faults come in this order, of which the first is named: the text is too long; the first bad byte; the first word
-/// or number that is too long; over the whole text the first token that is unexpected or too deep; then the first token
-/// at which names break a rule or pass a limit. Want of memory may come at any point. Takes time in proportion to the
-/// text, and memory in proportion to its tokens.
+/// or number that is too long; over the whole text the first token that is unexpected, or a parenthesis or brace that is
+/// too deep; then the first token at which a rule is broken or a limit is passed: by a name that is declared twice,
+/// undeclared or repeated, by a brace inside open braces, by the bound of braces that begins with the digit 0 or is greater
+/// than 65,535, or by one too many. Want of memory may come at any point. Takes time in proportion to the text, and memory
+/// in proportion to its tokens.
 pub fn read<A: Allocator + Copy>(alloc: A, text: &[u8]) -> Result<Decl<A>, DeclFault>
     // What is read is what the text declares.
     ensures ok { IfOk result (λ d. IsDeclarationText text.now d.declaration) }

@@ -3,7 +3,9 @@ use Rattle.std.proofs.lemmas.List.{map_push}
 use Rattle.std.proofs.lemmas.Result.{err_from_is_err_and}
 use Rattle.path_decl.specs.Parts.{saying, sayings}
 use Rattle.path_decl.proofs.Reached.{first_reached, next_reached, no_alt_at, alt_ends, first_step_reached, next_step_reached, no_seq_at, seq_ends}
-use Rattle.path_decl.proofs.Unit.{fails_then, name_unit, group_unit, group_open, neither}
+use Rattle.path_decl.specs.Reading.{told}
+use Rattle.path_decl.proofs.Lists.{ok_then, err_then}
+use Rattle.path_decl.proofs.Unit.{fails_then, name_unit, group_unit, no_group, group_open, none_of, braces_unit, no_braces, no_sequence, braces_open, braces_closed}
 use Rattle.path_decl.proofs.grammar.+grammar.Goals as goal
 
 pub alt-loop-at-init : goal.alt-loop-at-init
@@ -48,13 +50,38 @@ pub unit-returns-in-Some-clause-found : goal.unit-returns-in-Some-clause-found
 unit-returns-in-Some-clause-found g t c =
     name_unit _ _ _ _ _ _ c.in-Some.ensures.some (ap sayings c.in_ok-push.ensures.items ∙ map_push (λ p. saying p.part) _ _)
 
-pub unit-returns-in_default-after_sign-clause-none : goal.unit-returns-in_default-after_sign-clause-none
-unit-returns-in_default-after_sign-clause-none g t c = neither _ _ c.in_default.ensures.none c.in_default-after_sign.ensures.none
+pub unit-returns-in-Some-after_sign-clause-found : goal.unit-returns-in-Some-after_sign-clause-found
+unit-returns-in-Some-after_sign-clause-found g t c =
+    ok_then c.braces.result (λ rest e. braces_unit c.args.depth (told c.args.tokens.now) (told c.in-Some-after_sign.inside.now) (told rest.now) (sayings c.args.out.now.items) (sayings c.braces.new.out.items) c.in-Some-after_sign.ensures.some e) c.braces.ensures.found
+
+pub unit-returns-in-Some-after_sign-clause-none : goal.unit-returns-in-Some-after_sign-clause-none
+unit-returns-in-Some-after_sign-clause-none g t c = err_then _ (λ e. fails_then e (λ none. no_braces _ _ _ c.in-Some-after_sign.ensures.some none)) c.braces.ensures.none
 
 pub unit-returns-in_default-after_sign-2-clause-none : goal.unit-returns-in_default-after_sign-2-clause-none
-unit-returns-in_default-after_sign-2-clause-none g t c =
-    group_open _ _ _ _ _ _ c.if-depth-eq0.false c.in-Some-after_sign.ensures.some c.in_ok-left.ensures.found c.in_default-after_sign-2.ensures.none
+unit-returns-in_default-after_sign-2-clause-none g t c = none_of _ _ c.in_default.ensures.none c.in_default-after_sign.ensures.none c.in_default-after_sign-2.ensures.none
+
+pub unit-returns-in_err-left-clause-none : goal.unit-returns-in_err-left-clause-none
+unit-returns-in_err-left-clause-none g t c =
+    let p = err_from_is_err_and c.from_residual-in_err-left.result c.from_residual-in_err-left.ensures.1 in
+    rw (p.1, p.2) (fails_then _ (λ none. no_group _ _ _ c.if-depth-eq0.false c.in-Some-after_sign-2.ensures.some none) c.in_err-left.ensures.none)
+
+pub unit-returns-in_default-after_sign-3-clause-none : goal.unit-returns-in_default-after_sign-3-clause-none
+unit-returns-in_default-after_sign-3-clause-none g t c =
+    group_open _ _ _ _ _ _ c.if-depth-eq0.false c.in-Some-after_sign-2.ensures.some c.in_ok-left.ensures.found c.in_default-after_sign-3.ensures.none
 
 pub unit-returns-clause-found : goal.unit-returns-clause-found
 unit-returns-clause-found g t c =
-    group_unit _ _ _ _ _ _ _ c.if-depth-eq0.false c.in-Some-after_sign.ensures.some c.in_ok-left.ensures.found c.in-Some-after_sign-2.ensures.some
+    group_unit _ _ _ _ _ _ _ c.if-depth-eq0.false c.in-Some-after_sign-2.ensures.some c.in_ok-left.ensures.found c.in-Some-after_sign-3.ensures.some
+
+pub braces-returns-in_err-left-clause-none : goal.braces-returns-in_err-left-clause-none
+braces-returns-in_err-left-clause-none g t c =
+    let p = err_from_is_err_and c.from_residual-in_err-left.result c.from_residual-in_err-left.ensures.1 in
+    rw (p.1, p.2) (fails_then _ (λ none. no_sequence _ _ c.if-depth-eq0.false none) c.in_err-left.ensures.none)
+
+pub braces-returns-clause-found : goal.braces-returns-clause-found
+braces-returns-clause-found g t c =
+    let n = ap sayings c.in_ok-push.ensures.items ∙ map_push (λ p. saying p.part) _ _ in
+    ok_then c.closing.result (λ rest e. braces_closed c.args.depth (told c.args.inside.now) (told c.in_ok-left.left.now) (told rest.now) (sayings c.args.out.now.items) (sayings c.push.new.self.items) (sayings c.seq.new.out.items) (sayings c.closing.new.out.items) c.if-depth-eq0.false n c.in_ok-left.ensures.found e) c.closing.ensures.found
+
+pub braces-returns-clause-none : goal.braces-returns-clause-none
+braces-returns-clause-none g t c = err_then _ (λ e. fails_then e (λ none. braces_open _ _ _ _ _ c.if-depth-eq0.false c.in_ok-left.ensures.found none)) c.closing.ensures.none

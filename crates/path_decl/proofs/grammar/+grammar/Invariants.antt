@@ -5,13 +5,16 @@ use Rattle.path_decl.proofs.Reached.{ReachedAlt, ReachedSeq}
 use Rattle.path_decl.proofs.grammar.+grammar.Given as goal
 
 abbrev pub decreases-alt : goal.decreases-alt
-decreases-alt g l = 3 * l.depth + 1
+decreases-alt g l = 4 * l.depth + 2
 
 abbrev pub decreases-seq : goal.decreases-seq
-decreases-seq g l = 3 * l.depth + 2
+decreases-seq g l = 4 * l.depth + 3
 
 abbrev pub decreases-unit : goal.decreases-unit
-decreases-unit g l = 3 * l.depth
+decreases-unit g l = 4 * l.depth + 1
+
+abbrev pub decreases-braces : goal.decreases-braces
+decreases-braces g l = 4 * l.depth
 
 abbrev pub invariant-alt-loop-at : goal.invariant-alt-loop-at
 invariant-alt-loop-at g l = record { shorter : length l.rest < length l.tokens; reached : ReachedAlt l.depth (told l.tokens) (sayings l.fn.out.items) (told l.rest) (sayings l.out.items) }
