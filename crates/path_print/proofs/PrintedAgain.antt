@@ -1,14 +1,14 @@
 -- What is printed is read as the same forms.
-use Rattle.std.proofs.Common.{◌≡◌, ℕ, zero, suc, ◌≤◌, max, Bool, true, false, List, [], ◌∷◌, ◌++◌, refl, sym, subst, append_assoc, arith}
+use Rattle.std.proofs.Common.{◌≡◌, ℕ, zero, suc, ◌≤◌, max, Bool, true, false, List, [], ◌∷◌, ◌++◌, Option, Some, None, refl, sym, subst, append_assoc, arith}
 use Rattle.path_lex.specs.declared.token.Sign.TheVariants as signs
 use Rattle.path_lex.specs.declared.token.Reserved.TheVariants as words
 use Rattle.path_print.specs.declared.printer.Place.{Place}
 use Rattle.path_print.specs.declared.printer.Place.TheVariants.{InSeq, InAlt, InUnit}
-use Rattle.path_lex.specs.Spelling.{Piece, sign, reserved, name}
-use Rattle.path_decl.specs.Forms.{Form, once, sequence, selection, ResourceForm}
-use Rattle.path_decl.specs.Grammar.{IsUnit, by_name, by_group, IsAlt, by_units, MoreUnits, no_unit, one_unit, IsSeq, by_alts, MoreAlts, no_alt, one_alt, IsPath, by_path, ArePaths, no_path, one_path, AreNames, last_name, one_name, IsResource, by_resource, IsFile, last_resource, one_resource}
+use Rattle.path_lex.specs.Spelling.{Piece, sign, reserved, name, number}
+use Rattle.path_decl.specs.Forms.{Form, once, sequence, selection, braced, ResourceForm}
+use Rattle.path_decl.specs.Grammar.{IsUnit, by_name, by_group, by_braces, by_brace, by_bound, IsAlt, by_units, MoreUnits, no_unit, one_unit, IsSeq, by_alts, MoreAlts, no_alt, one_alt, IsPath, by_path, ArePaths, no_path, one_path, AreNames, last_name, one_name, IsResource, by_resource, IsFile, last_resource, one_resource}
 use Rattle.path_print.specs.Printed.{wraps_seq, wraps_alt, names_pieces}
-use Rattle.path_print.proofs.PrintedForms.{form_pieces, path_form, path_forms, resource_form, resource_forms}
+use Rattle.path_print.proofs.PrintedForms.{digits_pieces, form_pieces, path_form, path_forms, resource_form, resource_forms}
 
 -- one more is open inside parentheses
 abbrev deeper : Bool → ℕ → ℕ
@@ -20,9 +20,18 @@ abbrev pub opens : Form → Place → ℕ
 opens (once n) place = 0
 opens (sequence s t) place = deeper (wraps_seq place) (max (opens s InSeq) (opens t InAlt))
 opens (selection s t) place = deeper (wraps_alt place) (max (opens s InAlt) (opens t InUnit))
+opens (braced c t) place = suc (opens t InSeq)
 
 in_parens : {d : ℕ} (xs : List Piece) {rest : List Piece} {t : Form} → IsSeq d (xs ++ sign signs.CloseParen ∷ rest) (sign signs.CloseParen ∷ rest) t → IsUnit (suc d) (sign signs.OpenParen ∷ ((xs ++ sign signs.CloseParen ∷ []) ++ rest)) rest t
 in_parens {d} xs {rest} {t} s = by_group (subst (λ x. IsSeq d x (sign signs.CloseParen ∷ rest) t) (sym (append_assoc xs (sign signs.CloseParen ∷ []) rest)) s)
+
+-- the tokens from the end of what stands within braces
+abbrev closing : Option (List ℕ) → List Piece → List Piece
+closing c rest = digits_pieces c ++ sign signs.CloseBrace ∷ rest
+
+in_braces : {d : ℕ} (c : Option (List ℕ)) (xs : List Piece) {rest : List Piece} {t : Form} → IsSeq d (xs ++ closing c rest) (closing c rest) t → IsUnit (suc d) (sign signs.OpenBrace ∷ ((xs ++ (digits_pieces c ++ sign signs.CloseBrace ∷ [])) ++ rest)) rest (braced c t)
+in_braces {d} None xs {rest} {t} s = by_braces (subst (λ x. IsSeq d x (sign signs.CloseBrace ∷ rest) t) (sym (append_assoc xs (sign signs.CloseBrace ∷ []) rest)) s) by_brace
+in_braces {d} (Some ds) xs {rest} {t} s = by_braces (subst (λ x. IsSeq d x (sign signs.Colon ∷ number ds ∷ sign signs.CloseBrace ∷ rest) t) (sym (append_assoc xs (sign signs.Colon ∷ number ds ∷ sign signs.CloseBrace ∷ []) rest)) s) by_bound
 
 join_seq : {d : ℕ} (xs ys : List Piece) {left rest : List Piece} {s t u : Form} → ((l r : List Piece) (v : Form) → MoreAlts d s l r v → IsSeq d (xs ++ l) r v) → IsAlt d (ys ++ left) left t → MoreAlts d (sequence s t) left rest u
     → IsSeq d ((xs ++ sign signs.Semicolon ∷ ys) ++ left) rest u
@@ -39,28 +48,36 @@ mutual
   unit_back (sequence s t) (suc d) rest h = in_parens (form_pieces s InSeq ++ sign signs.Semicolon ∷ form_pieces t InAlt) (join_seq (form_pieces s InSeq) (form_pieces t InAlt) (λ l r v m. seq_then s d l r v (omega arith) m) (alt_then t d (sign signs.CloseParen ∷ rest) (sign signs.CloseParen ∷ rest) t (omega arith) no_unit) no_alt)
   unit_back (selection s t) zero rest h = absurd (omega arith)
   unit_back (selection s t) (suc d) rest h = in_parens (form_pieces s InAlt ++ sign signs.Comma ∷ form_pieces t InUnit) (by_alts (join_alt (form_pieces s InAlt) (form_pieces t InUnit) (λ l r v m. alt_then s d l r v (omega arith) m) (unit_back t d (sign signs.CloseParen ∷ rest) (omega arith)) no_unit) no_alt)
+  unit_back (braced c t) zero rest h = absurd (omega arith)
+  unit_back (braced c t) (suc d) rest h = in_braces c (form_pieces t InSeq) (seq_then t d (closing c rest) (closing c rest) t (omega arith) no_alt)
 
   pub alt_then : (t : Form) (d : ℕ) (left rest : List Piece) (u : Form) → opens t InAlt ≤ d → MoreUnits d t left rest u → IsAlt d (form_pieces t InAlt ++ left) rest u
   alt_then (once n) d left rest u h m = by_units by_name m
   alt_then (sequence s t) zero left rest u h m = absurd (omega arith)
   alt_then (sequence s t) (suc d) left rest u h m = by_units (in_parens (form_pieces s InSeq ++ sign signs.Semicolon ∷ form_pieces t InAlt) (join_seq (form_pieces s InSeq) (form_pieces t InAlt) (λ l r v n. seq_then s d l r v (omega arith) n) (alt_then t d (sign signs.CloseParen ∷ left) (sign signs.CloseParen ∷ left) t (omega arith) no_unit) no_alt)) m
   alt_then (selection s t) d left rest u h m = join_alt (form_pieces s InAlt) (form_pieces t InUnit) (λ l r v n. alt_then s d l r v (omega arith) n) (unit_back t d left (omega arith)) m
+  alt_then (braced c t) zero left rest u h m = absurd (omega arith)
+  alt_then (braced c t) (suc d) left rest u h m = by_units (in_braces c (form_pieces t InSeq) (seq_then t d (closing c left) (closing c left) t (omega arith) no_alt)) m
 
   pub seq_then : (t : Form) (d : ℕ) (left rest : List Piece) (u : Form) → opens t InSeq ≤ d → MoreAlts d t left rest u → IsSeq d (form_pieces t InSeq ++ left) rest u
   seq_then (once n) d left rest u h m = by_alts (by_units by_name no_unit) m
   seq_then (sequence s t) d left rest u h m = join_seq (form_pieces s InSeq) (form_pieces t InAlt) (λ l r v n. seq_then s d l r v (omega arith) n) (alt_then t d left left t (omega arith) no_unit) m
   seq_then (selection s t) d left rest u h m = by_alts (join_alt (form_pieces s InAlt) (form_pieces t InUnit) (λ l r v n. alt_then s d l r v (omega arith) n) (unit_back t d left (omega arith)) no_unit) m
+  seq_then (braced c t) zero left rest u h m = absurd (omega arith)
+  seq_then (braced c t) (suc d) left rest u h m = by_alts (by_units (in_braces c (form_pieces t InSeq) (seq_then t d (closing c left) (closing c left) t (omega arith) no_alt)) no_unit) m
 
 -- what was read with at most d open is printed with at most d open
 looser : (t : Form) → (opens t InSeq ≤ opens t InAlt) × (opens t InAlt ≤ opens t InUnit) × (opens t InUnit ≤ suc (opens t InSeq))
 looser (once n) = (omega arith, omega arith, omega arith)
 looser (sequence s t) = (omega arith, omega arith, omega arith)
 looser (selection s t) = (omega arith, omega arith, omega arith)
+looser (braced c t) = (omega arith, omega arith, omega arith)
 
 mutual
   unit_opens : {d : ℕ} {ts r : List Piece} {t : Form} → IsUnit d ts r t → opens t InUnit ≤ d
   unit_opens by_name = omega arith
   unit_opens (by_group {t} s) = let i = seq_opens s in let k = looser t in omega arith
+  unit_opens (by_braces {t} s c) = let i = seq_opens s in omega arith
 
   alt_opens : {d : ℕ} {ts r : List Piece} {t : Form} → IsAlt d ts r t → opens t InAlt ≤ d
   alt_opens (by_units {s} u m) = let i = unit_opens u in let k = looser s in units_opens m (omega arith)
