@@ -4,9 +4,13 @@
 #[cfg(test)]
 mod commands;
 #[cfg(test)]
+mod compile;
+#[cfg(test)]
 mod faults;
 #[cfg(test)]
 mod input;
+#[cfg(test)]
+mod overlap;
 #[cfg(test)]
 mod trace;
 #[cfg(test)]

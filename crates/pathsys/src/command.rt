@@ -55,6 +55,14 @@ fn check<'a>(alloc: Global) -> Result<Command<'a>, AllocError> {
         .arg(file(alloc, "DECL", "the file of the declaration"))
 }
 
+/// The command that compiles a declaration.
+fn compile<'a>(alloc: Global) -> Result<Command<'a>, AllocError> {
+    Command::new(alloc, "compile")
+        .about("Prints the semaphores of a declaration, as they are translated and as they are trimmed")
+        .after_help("docs/translation.md says how they are read.")
+        .arg(file(alloc, "DECL", "the file of the declaration"))
+}
+
 /// The command that traces attempts.
 fn trace<'a>(alloc: Global) -> Result<Command<'a>, AllocError> {
     Command::new(alloc, "trace")
@@ -74,5 +82,6 @@ pub fn command<'a>(alloc: Global) -> Result<Command<'a>, AllocError> {
         .about("Orders operations by path expressions")
         .after_help(MORE_HELP)
         .subcommand(check(alloc)?)?
+        .subcommand(compile(alloc)?)?
         .subcommand(trace(alloc)?)
 }

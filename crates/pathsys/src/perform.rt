@@ -7,7 +7,7 @@ use crate::command::command;
 use crate::files::{read_file, read_stdin};
 use clap::error::ErrorKind;
 use clap::{ArgMatches, Error};
-use path_commands::{Fault, ROOM, Status, check_to, tell, trace_bytes, whole};
+use path_commands::{Fault, ROOM, Status, check_to, compile_to, tell, trace_bytes, whole};
 use std::env;
 use std::io::Write;
 use std::rt::{Env, Files};
@@ -41,6 +41,20 @@ fn check<R: Files + AllocGlobal, O: Write, E: Write>(
     let name = words.get_str("DECL").unwrap_or("");
     match read_file(rt, name) {
         Ok(text) => check_to(rt.alloc(), &text, out, err),
+        Err(fault) => tell(err, fault),
+    }
+}
+
+/// Prints the semaphores of the declaration of a file.
+fn compile<R: Files + AllocGlobal, O: Write, E: Write>(
+    rt: &R,
+    words: &ArgMatches<'_>,
+    out: &mut O,
+    err: &mut E,
+) -> Status {
+    let name = words.get_str("DECL").unwrap_or("");
+    match read_file(rt, name) {
+        Ok(text) => compile_to(rt.alloc(), &text, out, err),
         Err(fault) => tell(err, fault),
     }
 }
@@ -98,6 +112,7 @@ pub fn perform<R: Env + Files + Input + AllocGlobal, O: Write, E: Write>(
     match command.try_get_matches_from(words.as_slice()) {
         Ok(matches) => match matches.subcommand() {
             Some(("check", words)) => check(rt, words, out, err),
+            Some(("compile", words)) => compile(rt, words, out, err),
             Some((_, words)) => trace(rt, words, out, err),
             None => without_words(rt, out, err),
         },

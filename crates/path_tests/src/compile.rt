@@ -1,0 +1,177 @@
+//! What a declaration is compiled to: its semaphores as they are translated, and as they are trimmed.
+
+use crate::writers::Full;
+use path_commands::{Status, compile_to};
+use refusing::Refusing;
+use std::alloc::Global;
+use std::process::Abort;
+
+const LONE_BURST: &[u8] = b"resource r cell operation a path { a } end end";
+
+// Compiling the text ends with this status, after writing this, and having said that.
+fn compiles(rt: &impl Abort, heap: Global, text: &str, status: Status, written: &str, said: &str) {
+    let mut out: Vec<u8> = Vec::new(heap);
+    let mut err: Vec<u8> = Vec::new(heap);
+    let ended = compile_to(heap, text.as_bytes(), &mut out, &mut err);
+    assert_eq!(rt; out.as_slice(), written.as_bytes(), "for {text:?}");
+    assert_eq!(rt; err.as_slice(), said.as_bytes());
+    assert_eq!(rt; ended, status);
+}
+
+#[test]
+fn lone_burst(rt: HostRuntime) {
+    compiles(
+        &rt,
+        rt.alloc(),
+        "resource r cell operation a path { a } end end",
+        Status::Done,
+        "path 0 of r\ns0 = 1\nc0 = 0\nm0 = 1\na: PP(c0,m0,P(s0)) | VV(c0,m0,V(s0))\ntrimmed\n\
+         path 0 of r\nremoved s0 c0 m0\na: - | -\n",
+        "",
+    );
+}
+
+#[test]
+fn crossing(rt: HostRuntime) {
+    compiles(
+        &rt,
+        rt.alloc(),
+        "resource r cell operation a, b path { a ; b } end end",
+        Status::Done,
+        "path 0 of r\ns0 = 1\ns1 = 0\nc0 = 0\nm0 = 1\na: PP(c0,m0,P(s0)) | V(s1)\n\
+         b: P(s1) | VV(c0,m0,V(s0))\ntrimmed\npath 0 of r\nremoved s0 c0 m0\ns1 = 0\n\
+         a: - | V(s1)\nb: P(s1) | -\n",
+        "",
+    );
+}
+
+#[test]
+fn readers_and_writers(rt: HostRuntime) {
+    compiles(
+        &rt,
+        rt.alloc(),
+        "resource book cell operation read, write path { read } , write end end",
+        Status::Done,
+        "path 0 of book\ns0 = 1\nc0 = 0\nm0 = 1\nread: PP(c0,m0,P(s0)) | VV(c0,m0,V(s0))\n\
+         write: P(s0) | V(s0)\ntrimmed\npath 0 of book\nremoved m0\ns0 = 1\nc0 = 0\n\
+         read: PP(c0,P(s0)) | VV(c0,V(s0))\nwrite: P(s0) | V(s0)\n",
+        "",
+    );
+}
+
+#[test]
+fn pool(rt: HostRuntime) {
+    compiles(
+        &rt,
+        rt.alloc(),
+        "resource r cell operation read, write path { read : 2 } , write end end",
+        Status::Done,
+        "path 0 of r\ns0 = 1\ns1 = 2\nc0 = 0\nm0 = 1\n\
+         read: P(s1); PP(c0,m0,P(s0)) | VV(c0,m0,V(s0)); V(s1)\nwrite: P(s0) | V(s0)\n\
+         trimmed\npath 0 of r\nremoved m0\ns0 = 1\ns1 = 2\nc0 = 0\n\
+         read: P(s1); PP(c0,P(s0)) | VV(c0,V(s0)); V(s1)\nwrite: P(s0) | V(s0)\n",
+        "",
+    );
+}
+
+#[test]
+fn pipe(rt: HostRuntime) {
+    compiles(
+        &rt,
+        rt.alloc(),
+        "resource r cell operation a, b path { a ; b : 2 } end end",
+        Status::Done,
+        "path 0 of r\ns0 = 1\ns1 = 0\ns2 = 2\nc0 = 0\nm0 = 1\n\
+         a: P(s2); PP(c0,m0,P(s0)) | V(s1)\nb: P(s1) | VV(c0,m0,V(s0)); V(s2)\ntrimmed\n\
+         path 0 of r\nremoved s0 c0 m0\ns1 = 0\ns2 = 2\na: P(s2) | V(s1)\nb: P(s1) | V(s2)\n",
+        "",
+    );
+}
+
+#[test]
+fn equal_paths(rt: HostRuntime) {
+    compiles(
+        &rt,
+        rt.alloc(),
+        "resource r cell operation a, b path a ; b end path ( a ; b ) end end",
+        Status::Done,
+        "path 0 of r\ns0 = 1\ns1 = 0\na: P(s0) | V(s1)\nb: P(s1) | V(s0)\npath 1 of r\n\
+         s2 = 1\ns3 = 0\na: P(s2) | V(s3)\nb: P(s3) | V(s2)\ntrimmed\npath 0 of r\ns0 = 1\n\
+         s1 = 0\na: P(s0) | V(s1)\nb: P(s1) | V(s0)\npath 1 of r same as 0\n",
+        "",
+    );
+}
+
+#[test]
+fn two_resources(rt: HostRuntime) {
+    compiles(
+        &rt,
+        rt.alloc(),
+        "resource r cell operation a, b path a ; b end end resource t cell operation c path { c } end end",
+        Status::Done,
+        "path 0 of r\ns0 = 1\ns1 = 0\na: P(s0) | V(s1)\nb: P(s1) | V(s0)\npath 1 of t\n\
+         s2 = 1\nc0 = 0\nm0 = 1\nc: PP(c0,m0,P(s2)) | VV(c0,m0,V(s2))\ntrimmed\npath 0 of r\n\
+         s0 = 1\ns1 = 0\na: P(s0) | V(s1)\nb: P(s1) | V(s0)\npath 1 of t\nremoved s2 c0 m0\n\
+         c: - | -\n",
+        "",
+    );
+}
+
+#[test]
+fn no_paths(rt: HostRuntime) {
+    compiles(
+        &rt,
+        rt.alloc(),
+        "resource r cell operation a end",
+        Status::Done,
+        "trimmed\n",
+        "",
+    );
+}
+
+#[test]
+fn nested_braces_are_refused(rt: HostRuntime) {
+    compiles(
+        &rt,
+        rt.alloc(),
+        "resource r cell operation a, b path { a ; { b } } end end",
+        Status::DeclarationRefused,
+        "",
+        "declaration: nested braces at 42\n",
+    );
+}
+
+#[test]
+fn a_full_writer(rt: HostRuntime) {
+    let mut err: Vec<u8> = Vec::new(rt.alloc());
+    assert_eq!(rt;
+        compile_to(rt.alloc(), LONE_BURST, &mut Full, &mut err),
+        Status::StreamFailed
+    );
+    assert_eq!(rt; err.as_slice(), b"output: cannot write\n".as_slice());
+}
+
+// Whether the request of this number was made and refused; the status then says so, and nothing was written.
+fn is_refused_at(rt: &impl Abort, heap: Global, number: u64) -> bool {
+    let refusing = Refusing::new(heap, number);
+    let mut out: Vec<u8> = Vec::new(heap);
+    let mut err: Vec<u8> = Vec::new(heap);
+    let status = compile_to(&refusing, LONE_BURST, &mut out, &mut err);
+    if !refusing.has_refused() {
+        return false;
+    }
+    assert_eq!(rt; status, Status::NoMemory, "at {number}");
+    assert!(rt; out.is_empty());
+    true
+}
+
+#[test]
+fn each_request_is_refused(rt: HostRuntime) {
+    for number in 1..400u64 {
+        if !is_refused_at(&rt, rt.alloc(), number) {
+            assert!(rt; number > 1);
+            return;
+        }
+    }
+    panic!(rt; "never passed");
+}
