@@ -4,7 +4,7 @@ use Rattle.path_model.specs.Trees.{Tree, op, seq, alt, burst}
 use Rattle.path_model.specs.Machine.{semicolons}
 use Rattle.path_model.specs.Declarations.{Declaration}
 use Rattle.path_decl.specs.Lawful.{names_count, Lawful}
-pub use Rattle.path_decl.proofs.FormRules.{KeepsPathRules, PathsKeepRules}
+pub use Rattle.path_decl.proofs.FormRules.{BracesFit, KeepsPathRules, PathsKeepRules}
 pub use Rattle.path_decl.proofs.FromLawful.{forms_keep_rules}
 
 -- semicolons stand between names

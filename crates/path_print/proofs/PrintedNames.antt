@@ -1,5 +1,5 @@
 -- What is printed of a declaration that was read is made of names and reserved words.
-use Rattle.std.proofs.Common.{◌≡◌, ℕ, Bool, true, false, List, [], ◌∷◌, ◌++◌, map, refl, ap, ◌∙◌, subst}
+use Rattle.std.proofs.Common.{◌≡◌, ℕ, Bool, true, false, List, [], ◌∷◌, ◌++◌, ◌+◌, map, Option, Some, None, refl, sym, ap, ◌∙◌, subst}
 use Rattle.std.specs.List.{AllByRecursion, Contains}
 use Rattle.std.proofs.lemmas.List.Elements.{All-from_recursion, recursion_from_All, All-contains}
 use Rattle.path_model.specs.Declarations.{Declaration}
@@ -9,15 +9,17 @@ use Rattle.path_print.specs.declared.printer.Place.{Place}
 use Rattle.path_print.specs.declared.printer.Place.TheVariants.{InSeq, InAlt, InUnit}
 use Rattle.path_lex.specs.Names.{IsName}
 use Rattle.path_lex.specs.Spelling.{Piece, sign, reserved}
-use Rattle.path_decl.specs.Forms.{Form, once, sequence, selection, names_in, ResourceForm, all_operations}
-use Rattle.path_decl.proofs.CallerLemmas.{KeepsPathRules, PathsKeepRules}
+use Rattle.path_decl.specs.Forms.{Form, once, sequence, selection, braced, names_in, ResourceForm, all_operations}
+use Rattle.path_decl.specs.Building.{BoundFits}
+use Rattle.path_decl.proofs.CallerLemmas.{BracesFit, KeepsPathRules, PathsKeepRules}
 use Rattle.path_decl.proofs.CallerLemmas.{forms_keep_rules}
 use Rattle.path_decl.specs.Declares.{Declares, resource_from}
 use Rattle.path_decl.specs.Lawful.{Lawful}
 use Rattle.path_print.specs.Printed.{wrapped, wraps_seq, wraps_alt, names_pieces, more_names}
-use Rattle.path_print.proofs.PrintedForms.{form_pieces, path_forms, resource_form, resource_forms}
+use Rattle.path_print.proofs.PrintedForms.{digits_pieces, form_pieces, path_forms, resource_form, resource_forms}
 use Rattle.path_print.proofs.PrintedGroups.{names_declared}
 use Rattle.path_print.proofs.PrintedLaid.{IsPiece}
+use Rattle.path_print.proofs.PrintedNumbers.{IsNumberText, number_text}
 
 all_join : {X : Type 0} (P : X → Type 0) (xs ys : List X) → AllByRecursion P xs → AllByRecursion P ys → AllByRecursion P (xs ++ ys)
 all_join P [] ys h k = k
@@ -35,12 +37,21 @@ wrapped_pieces : (b : Bool) (ps : List Piece) → AllByRecursion IsPiece ps → 
 wrapped_pieces true ps h = (tt, all_join IsPiece ps (sign signs.CloseParen ∷ []) h (tt, tt))
 wrapped_pieces false ps h = h
 
-form_named : (f : Form) (place : Place) → AllByRecursion IsName (names_in f) → AllByRecursion IsPiece (form_pieces f place)
-form_named (once n) place h = (h.0, tt)
-form_named (sequence f g) place h = wrapped_pieces (wraps_seq place) (form_pieces f InSeq ++ sign signs.Semicolon ∷ form_pieces g InAlt)
-    (all_join IsPiece (form_pieces f InSeq) (sign signs.Semicolon ∷ form_pieces g InAlt) (form_named f InSeq (all_left IsName (names_in f) (names_in g) h)) (tt, form_named g InAlt (all_right IsName (names_in f) (names_in g) h)))
-form_named (selection f g) place h = wrapped_pieces (wraps_alt place) (form_pieces f InAlt ++ sign signs.Comma ∷ form_pieces g InUnit)
-    (all_join IsPiece (form_pieces f InAlt) (sign signs.Comma ∷ form_pieces g InUnit) (form_named f InAlt (all_left IsName (names_in f) (names_in g) h)) (tt, form_named g InUnit (all_right IsName (names_in f) (names_in g) h)))
+bound_named : (c : Option (List ℕ)) → BoundFits c → AllByRecursion IsPiece (digits_pieces c)
+bound_named None h = tt
+bound_named (Some ds) h = (tt, (subst IsNumberText (sym h.denoted) (number_text h.number h.within), tt))
+
+form_named : (f : Form) (b : ℕ) (place : Place) → AllByRecursion IsName (names_in f) → BracesFit b f → AllByRecursion IsPiece (form_pieces f place)
+form_named (once n) b place h k = (h.0, tt)
+form_named (sequence f g) b place h k = wrapped_pieces (wraps_seq place) (form_pieces f InSeq ++ sign signs.Semicolon ∷ form_pieces g InAlt)
+    (all_join IsPiece (form_pieces f InSeq) (sign signs.Semicolon ∷ form_pieces g InAlt) (form_named f b InSeq (all_left IsName (names_in f) (names_in g) h) k.0) (tt, form_named g b InAlt (all_right IsName (names_in f) (names_in g) h) k.1))
+form_named (selection f g) b place h k = wrapped_pieces (wraps_alt place) (form_pieces f InAlt ++ sign signs.Comma ∷ form_pieces g InUnit)
+    (all_join IsPiece (form_pieces f InAlt) (sign signs.Comma ∷ form_pieces g InUnit) (form_named f b InAlt (all_left IsName (names_in f) (names_in g) h) k.0) (tt, form_named g b InUnit (all_right IsName (names_in f) (names_in g) h) k.1))
+form_named (braced c f) b place h k = (
+  tt,
+  all_join IsPiece (form_pieces f InSeq) (digits_pieces c ++ sign signs.CloseBrace ∷ []) (form_named f (b + 1) InSeq h k.1)
+      (all_join IsPiece (digits_pieces c) (sign signs.CloseBrace ∷ []) (bound_named c k.2) (tt, tt)),
+)
 
 -- names that stand among names are names
 contained : (own ns : List (List ℕ)) → AllByRecursion IsName own → AllByRecursion (λ n. Contains own n) ns → AllByRecursion IsName ns
@@ -51,7 +62,7 @@ paths_named : (own : List (List ℕ)) (fs : List Form) → AllByRecursion IsName
 paths_named own [] h k = tt
 paths_named own (f ∷ fs) h k =
     let names = contained own (names_in f) h k.0.declared in
-    (tt, all_join IsPiece (form_pieces f InSeq ++ reserved words.End ∷ []) (path_forms fs) (all_join IsPiece (form_pieces f InSeq) (reserved words.End ∷ []) (form_named f InSeq names) (tt, tt)) (paths_named own fs h k.1))
+    (tt, all_join IsPiece (form_pieces f InSeq ++ reserved words.End ∷ []) (path_forms fs) (all_join IsPiece (form_pieces f InSeq) (reserved words.End ∷ []) (form_named f 0 InSeq names k.0.braces) (tt, tt)) (paths_named own fs h k.1))
 
 more_named : (ns : List (List ℕ)) → AllByRecursion IsName ns → AllByRecursion IsPiece (more_names ns)
 more_named [] h = tt

@@ -1,12 +1,12 @@
 -- Numbers as they are printed are digits.
-use Rattle.std.proofs.Common.{◌≡◌, ℕ, zero, suc, ◌+◌, ◌-◌, ◌<◌, ◌≤◌, ◌^◌, List, [], ◌∷◌, length, true, refl, sym, ap, ◌∙◌, subst, rules, arith, decimal}
+use Rattle.std.proofs.Common.{◌≡◌, ℕ, zero, suc, ◌+◌, ◌-◌, ◌<◌, ◌≤◌, List, [], ◌∷◌, length, refl, subst, rules, arith, decimal}
 use Rattle.std.specs.List.{AllByRecursion}
 use Rattle.std.specs.Str.Parse.{digits_value}
 use Rattle.std.specs.Int.{IsInRange}
 use Rattle.std.proofs.lemmas.Str.Parse.{IsNumeralModel, numerals_by_value}
 use Rattle.std.proofs.lemmas.Fmt.{digits_decimal, decimal_nonempty, length-decimal-le}
 use Rattle.path_lex.specs.declared.token.Class.TheVariants as classes
-use Rattle.path_lex.specs.Bytes.{class_of, in_number, is_number_byte}
+use Rattle.path_lex.specs.Bytes.{class_of}
 
 abbrev AreDigits : List ℕ → Type 0
 AreDigits ds = AllByRecursion (λ c. IsInRange 48 57 c) ds
