@@ -4,7 +4,8 @@ use Rattle.std.specs.List.{AllByRecursion-prop}
 use Rattle.std.specs.Prelude.{◌≡◌, ℕ, List, [], ◌∷◌, true, All, slice_index_or}
 use mathlib.Core.HLevel.{⊥_prop, ¬_prop}
 use mathlib.Core.Bool.{Bool-set}
-use Rattle.path_model.specs.Trees.{Tree, op, seq, alt, burst, any, most, Bound, Room, Apart, NoRepeats, NoBraces, NoNesting, FewAtOnce, WellFormed}
+use Rattle.path_model.specs.Trees.{Tree, op, seq, alt, burst, any, most, Bound, Room}
+use Rattle.path_model.specs.Trees.{Apart, NoRepeats, NoBraces, NoNesting, FewAtOnce, WellFormed}
 use Rattle.path_model.specs.Legal.{Every}
 use Rattle.path_model.specs.Declarations.{Path, Declaration}
 use Rattle.path_lex.specs.contracts.token.Class as class

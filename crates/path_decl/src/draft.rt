@@ -1,6 +1,6 @@
 //! Declarations on the way.
 
-ghost use Rattle.std.specs.Prelude.{◌≡◌, ◌<◌, ◌≤◌, ◌++◌, [], ◌∷◌, ◌↔◌, Option, length, map, Contains, IsTrue, Some, None, IfOk, OnOk, IfErr};
+ghost use Rattle.std.specs.Prelude.{◌≡◌, ◌<◌, ◌≤◌, ◌++◌, [], ◌∷◌, ◌↔◌, length, map, Contains, Some, None, IsTrue, IfOk, OnOk, IfErr};
 ghost use Rattle.path_model.specs.Trees.{shape};
 ghost use Rattle.path_decl.specs.Table.{names_of};
 ghost use Rattle.path_decl.specs.Parts.{saying, sayings, a_resource, an_operation, a_path, a_name, a_sequence, a_selection};

@@ -32,13 +32,13 @@ fn expect_fault(rt: &impl Abort, heap: Global, text: &[u8], want: DeclFault) {
 }
 
 // Each text has the fault beside it.
-fn expect_faults(rt: &impl Abort, heap: Global, rows: &[(&str, DeclFault)]) {
+pub(crate) fn expect_faults(rt: &impl Abort, heap: Global, rows: &[(&str, DeclFault)]) {
     for (text, want) in rows {
         assert_eq!(rt; fault_of(heap, text.as_bytes()), Some(*want), "at {text:?}");
     }
 }
 
-fn expect_read(rt: &impl Abort, heap: Global, text: &[u8]) {
+pub(crate) fn expect_read(rt: &impl Abort, heap: Global, text: &[u8]) {
     assert_eq!(rt; fault_of(heap, text), None);
 }
 
@@ -63,18 +63,22 @@ fn draw(heap: Global, tree: &Expr) -> Result<String, AllocError> {
             let inner = draw(heap, inner)?;
             format!(in heap; "(* {inner})")
         }
+        Expr::Counted(inner, most) => {
+            let inner = draw(heap, inner)?;
+            format!(in heap; "(*{most} {inner})")
+        }
     }
 }
 
 // The drawn tree of a path, or of none.
-fn drawn(heap: Global, decl: &Decl, path: u32) -> Result<String, AllocError> {
+pub(crate) fn drawn(heap: Global, decl: &Decl, path: u32) -> Result<String, AllocError> {
     match tree_of(decl, PathId(path)) {
         Some(tree) => draw(heap, tree),
         None => format!(in heap; "none"),
     }
 }
 
-fn declared(heap: Global, text: &str) -> Result<Decl, DeclFault> {
+pub(crate) fn declared(heap: Global, text: &str) -> Result<Decl, DeclFault> {
     read(heap, text.as_bytes())
 }
 
@@ -220,10 +224,6 @@ fn unexpected_tokens(rt: HostRuntime) {
             DeclFault::Unexpected(11),
         ),
         (
-            "resource r cell operation a path { a } end end",
-            DeclFault::Unexpected(33),
-        ),
-        (
             "resource r cell operation a, end",
             DeclFault::Unexpected(29),
         ),
@@ -330,6 +330,8 @@ fn fault_texts(rt: HostRuntime) -> Result<(), Fail> {
         ),
         (DeclFault::Undeclared(65), "undeclared at 65"),
         (DeclFault::RepeatedName(46), "repeated name at 46"),
+        (DeclFault::NestedBraces(42), "nested braces at 42"),
+        (DeclFault::BadCount(39), "bad count at 39"),
         (DeclFault::TooMany(527), "too many at 527"),
         (DeclFault::OutOfMemory, "out of memory"),
     ];

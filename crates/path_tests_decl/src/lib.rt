@@ -3,6 +3,8 @@
 #![tactic(auto)]
 
 #[cfg(test)]
+mod braces;
+#[cfg(test)]
 mod decl;
 #[cfg(test)]
 mod in_turn;
