@@ -1,0 +1,9 @@
+pub mod Trees
+pub mod LawfulTrees
+pub mod Known
+pub mod Compared
+pub mod LeanTable
+pub mod RemovedList
+pub mod Totals
+pub mod Rows
+pub mod Kept
