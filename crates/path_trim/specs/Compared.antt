@@ -1,5 +1,5 @@
 -- Which paths have the tree of an earlier one.
-use Rattle.std.specs.Prelude.{ℕ, List, [], ◌∷◌, ◌++◌, Option, Some, None, if◌then◌else◌}
+use Rattle.std.specs.Prelude.{ℕ, List, [], ◌∷◌, ◌++◌, flat_map, Option, Some, None, if◌then◌else◌}
 use Rattle.path_model.specs.Trees.{Tree}
 use Rattle.path_model.specs.Legal.{numbered}
 use Rattle.path_model.specs.Flat.{Sited, sited}
@@ -28,3 +28,15 @@ compared_after earlier (x ∷ xs) = beside earlier x ∷ compared_after (earlier
 -- the paths of a file that have these trees
 abbrev pub compared : List Tree → List Compared
 compared ss = compared_after [] (sited 0 0 (numbered 0 ss))
+
+-- a path is kept where no earlier one has its tree
+abbrev pub site_left : ℕ → Sited → Option ℕ → List (ℕ × Sited)
+site_left p x None = (p, x) ∷ []
+site_left p x (Some q) = []
+
+abbrev pub sites_left : List Compared → List (ℕ × Sited)
+sites_left xs = flat_map (λ x. site_left x.path x.site x.same) xs
+
+-- the paths that are kept
+abbrev pub kept_sites : List Tree → List (ℕ × Sited)
+kept_sites ss = sites_left (compared ss)

@@ -1,5 +1,5 @@
 -- What always holds of the trees that were trimmed.
-use Rattle.std.specs.Prelude.{ℕ, ◌<◌, ◌≤◌, List, length, All}
+use Rattle.std.specs.Prelude.{◌<◌, ◌≤◌, List, length, All}
 use Rattle.std.specs.Coded.{le_prop}
 use Rattle.path_model.specs.declared.ids.OpId.{OpId}
 use Rattle.path_model.specs.Trees.{Tree, Names, WellFormed, FewAtOnce}

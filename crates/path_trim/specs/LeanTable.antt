@@ -1,5 +1,5 @@
 -- The trimmed table with the numbers of the file.
-use Rattle.std.specs.Prelude.{ℕ, List, [], ◌∷◌, drop, map, flat_map, Option, Some, None, if◌then◌else◌}
+use Rattle.std.specs.Prelude.{ℕ, List, [], drop, map, Option, Some, None, if◌then◌else◌}
 use Rattle.path_model.specs.declared.ids.OpId.{OpId}
 use Rattle.path_model.specs.declared.ids.PathId.{PathId}
 use Rattle.path_model.specs.Trees.{Tree}
@@ -13,7 +13,7 @@ use Rattle.path_code.specs.Names.{names_in}
 use Rattle.path_code.specs.Terms.{prologue_at, epilogue_at}
 use Rattle.path_code.specs.PathCodes.{semaphores_of, braces_of}
 use Rattle.path_trim.specs.declared.table.LeanOp.{LeanOp}
-use Rattle.path_trim.specs.Compared.{Compared, compared}
+use Rattle.path_trim.specs.Compared.{kept_sites}
 
 -- what is left of a prologue: nothing, all of it, or the P on the bound's semaphore
 abbrev pub prologue_left : Sited → LeanTerm → Option Prologue
@@ -50,17 +50,15 @@ pub record LeanRow : Type 0 where
   pub counters : List ℕ
   pub ops : List LeanOp
 
-abbrev pub lean_row : ℕ → Sited → LeanRow
-lean_row p x = record { path = record { 0 = p }; semaphores = semaphores_left x; counters = counters_left x; ops = ops_left x }
-
--- a path is kept where no earlier one has its tree
-abbrev pub row_left : ℕ → Sited → Option ℕ → List LeanRow
-row_left p x None = lean_row p x ∷ []
-row_left p x (Some q) = []
-
-abbrev pub rows_left : List Compared → List LeanRow
-rows_left xs = flat_map (λ x. row_left x.path x.site x.same) xs
+abbrev pub lean_row : ℕ × Sited → LeanRow
+lean_row x =
+    record {
+      path = record { 0 = x.0 };
+      semaphores = semaphores_left x.1;
+      counters = counters_left x.1;
+      ops = ops_left x.1;
+    }
 
 -- the trimmed table of the paths that have these trees
 abbrev pub lean_table : List Tree → List LeanRow
-lean_table ss = rows_left (compared ss)
+lean_table ss = map lean_row (kept_sites ss)

@@ -1,5 +1,5 @@
 -- How many semaphores and counters paths have, and that the numbers of a trimmed table are below them.
-use Rattle.std.specs.Prelude.{ℕ, ◌+◌, ◌<◌, List, [], ◌∷◌, All, Option, IfSome}
+use Rattle.std.specs.Prelude.{ℕ, ◌+◌, ◌<◌, List, [], ◌∷◌, All, IfSome}
 use Rattle.path_model.specs.Trees.{Tree}
 use Rattle.path_model.specs.Machine.{braces}
 use Rattle.path_model.specs.Flat.{semaphores_in}
