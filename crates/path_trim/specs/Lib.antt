@@ -5,5 +5,8 @@ pub mod Compared
 pub mod LeanTable
 pub mod RemovedList
 pub mod Totals
+pub mod FirstEqual
+pub mod Steps
 pub mod Rows
+pub mod Parts
 pub mod Kept

@@ -47,5 +47,5 @@ pub(crate) enum Fate {
     /// It is removed, since its tree is first that of this path.
     SameAs(PathId),
     /// It is kept, and so many of its things are removed.
-    Stays(u32),
+    Stays(usize),
 }
