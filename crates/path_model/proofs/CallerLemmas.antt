@@ -18,6 +18,10 @@ pub use Rattle.path_model.proofs.StuckStates.{frozen_stays_frozen, startables_ma
 pub use Rattle.path_model.proofs.Upward.{has_names, names_has, path_left, path_right, path_one, path_other}
 -- lists of paths with numbers, and the values of all paths as those of each
 pub use Rattle.path_model.proofs.AllPaths.{every_map, every_both, every_from, every_to, first_from, first_to, first_same, none_same, on_tree, placed, after_placed, now}
+-- equal trees
+pub use Rattle.path_model.proofs.Trimmed.{same_tree_same}
+-- the numbers in the terms of a path, and those of its bounds' semaphores
+pub use Rattle.path_model.proofs.FlatNumbers.{InTable, prologue_has, epilogue_has, rank_low}
 -- the table of paths without braces
 pub use Rattle.path_model.proofs.FlatNumbers.{none_counted}
 pub use Rattle.path_model.proofs.Flat.{plain_openings}

@@ -1,0 +1,6 @@
+pub mod KeptPaths
+pub mod Ranges
+pub mod LeftOver
+pub mod Lawful
+pub mod Walk
+pub mod CallerLemmas
