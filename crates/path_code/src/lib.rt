@@ -5,6 +5,7 @@
 #![tactic(auto)]
 
 mod code;
+mod substitution;
 mod terms;
 
 pub use code::{Code, PathCode};
