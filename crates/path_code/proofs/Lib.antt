@@ -1,1 +1,2 @@
 pub mod Substituted
+pub mod NumberLists

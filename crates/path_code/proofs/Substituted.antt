@@ -1,8 +1,8 @@
 -- The walks over a tree give the terms that are read upwards from its names.
-use Rattle.std.proofs.Common.{◌≡◌, ◌+◌, ◌<◌, ◌≤◌, ℕ, List, [], ◌∷◌, ◌++◌, length, map, get_or, arith, refl, sym, ap, ◌∙◌, subst, Some, None, append_assoc}
+use Rattle.std.proofs.Common.{◌≡◌, ◌+◌, ◌-◌, ◌<◌, ◌≤◌, ℕ, List, [], ◌∷◌, ◌++◌, length, map, get_or, replicate, arith, refl, sym, ap, ◌∙◌, subst, Some, None, append_assoc}
 use Rattle.std.proofs.Math.ListN.{set}
 use Rattle.std.proofs.Math.Seq.{set-append_seam, get_or-append_seam}
-use Rattle.std.proofs.lemmas.List.{append-nil, length-append, map-append}
+use Rattle.std.proofs.lemmas.List.{append-nil, length-append, length-replicate, map-append}
 use Rattle.std.proofs.lemmas.Bool.{cond-true, lt-ltb}
 use Rattle.std.specs.Prelude.{nat_lt, if◌then◌else◌}
 use Rattle.path_model.specs.declared.ids.OpId.{OpId}
@@ -19,7 +19,8 @@ use Rattle.path_code.specs.declared.terms.Epilogue.TheVariants.{V, VV, VVN}
 use Rattle.path_code.specs.declared.terms.OpCode.{OpCode}
 use Rattle.path_code.specs.Names.{names_in}
 use Rattle.path_code.specs.Terms.{prologue_at, epilogue_at}
-use Rattle.path_code.specs.PathCodes.{bounds_in, numbered_values, op_of_path, ops_of}
+use Rattle.path_code.specs.PathCodes.{bounds_in, numbered_values, semaphores_of, op_of_path, ops_of}
+use Rattle.path_code.proofs.NumberLists.{numbered_append, first_values}
 use Rattle.path_code.specs.Walks.{IsFlat, unnamed, start_within, end_within, starts_in, bounds_from, ended}
 
 no_braces : (s : Tree) → NoBraces s → braces s ≡ 0
@@ -208,10 +209,6 @@ path_ops x wf =
     ∙ ap (map (op_of_path x)) (row_names x.tree 1 0 (Plain 0) (Plain 0))
 
 -- the bounds' semaphores
-numbered_append : (n : ℕ) (xs ys : List ℕ) → numbered_values n (xs ++ ys) ≡ numbered_values n xs ++ numbered_values (n + length xs) ys
-numbered_append n [] ys = ap (λ k. numbered_values k ys) (let z : n ≡ n + 0 = omega arith in z)
-numbered_append n (x ∷ xs) ys = ap (λ zs. (n, x) ∷ zs) (numbered_append (n + 1) xs ys ∙ ap (λ k. numbered_values (n + 1) xs ++ numbered_values k ys) (let z : n + 1 + length xs ≡ n + length (x ∷ xs) = omega arith in z))
-
 pub length_bounds : (s : Tree) → length (bounds_in s) ≡ counted_braces s
 length_bounds (op a) = refl
 length_bounds (seq s t) = let a = length-append (bounds_in s) (bounds_in t) in omega (arith, a, length_bounds s, length_bounds t)
@@ -231,3 +228,25 @@ bounds_numbered (alt s t) u =
     ∙ sym (numbered_append u (bounds_in s) (bounds_in t))
 bounds_numbered (burst any s) u = bounds_numbered s u
 bounds_numbered (burst (most k) s) u = ap (λ xs. (u, k) ∷ xs) (bounds_numbered s (u + 1))
+
+-- what the walks give is the code of the path
+module _ (x : Sited) where
+  pub semaphores_whole : (us : List (ℕ × ℕ)) → us ≡ first_values x.own (first_bound x) ++ bounds_from x.tree (first_bound x) → us ≡ semaphores_of x
+  semaphores_whole us e =
+      let k : first_bound x - (x.own + 1) ≡ semicolons x.tree = omega arith in
+      let long : length (replicate {A = ℕ} (semicolons x.tree) 0) ≡ semicolons x.tree = length-replicate (semicolons x.tree) 0 in
+      e
+      ∙ ap (λ i. (x.own, 1) ∷ (numbered_values (x.own + 1) (replicate i 0) ++ bounds_from x.tree (first_bound x))) k
+      ∙ ap (λ zs. (x.own, 1) ∷ (numbered_values (x.own + 1) (replicate (semicolons x.tree) 0) ++ zs)) (bounds_numbered x.tree (first_bound x) ∙ ap (λ i. numbered_values i (bounds_in x.tree)) (let z : first_bound x ≡ x.own + 1 + length (replicate {A = ℕ} (semicolons x.tree) 0) = omega arith in z))
+      ∙ ap (λ zs. (x.own, 1) ∷ zs) (sym (numbered_append (x.own + 1) (replicate (semicolons x.tree) 0) (bounds_in x.tree)))
+
+  pub ops_whole : WellFormed x.tree → (p n m u : ℕ) (before after : List OpCode) → p ≡ 0 → n ≡ x.own + 1 → m ≡ x.first → u ≡ first_bound x → before ≡ starts_in x.tree (x.own + 1) x.first (first_bound x) (P x.own)
+      → after ≡ ended x.tree p n m u (V x.own) before → after ≡ ops_of x
+  ops_whole wf p n m u before after ep en em eu es e =
+      e
+      ∙ ap (λ i. ended x.tree i n m u (V x.own) before) ep
+      ∙ ap (λ i. ended x.tree 0 i m u (V x.own) before) en
+      ∙ ap (λ i. ended x.tree 0 (x.own + 1) i u (V x.own) before) em
+      ∙ ap (λ i. ended x.tree 0 (x.own + 1) x.first i (V x.own) before) eu
+      ∙ ap (λ zs. ended x.tree 0 (x.own + 1) x.first (first_bound x) (V x.own) zs) es
+      ∙ path_ops x wf

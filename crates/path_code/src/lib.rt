@@ -5,8 +5,11 @@
 #![tactic(auto)]
 
 mod code;
+mod copies;
 mod substitution;
 mod terms;
+mod translator;
 
 pub use code::{Code, PathCode};
 pub use terms::{Epilogue, OpCode, Prologue};
+pub use translator::translate;
