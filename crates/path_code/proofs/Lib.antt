@@ -1,2 +1,4 @@
 pub mod Substituted
 pub mod NumberLists
+pub mod Counts
+pub mod Tables

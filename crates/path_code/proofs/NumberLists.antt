@@ -1,5 +1,5 @@
 -- Lists of numbers that grow by the next one.
-use Rattle.std.proofs.Common.{◌≡◌, ◌+◌, ◌-◌, ◌≤◌, ℕ, zero, suc, List, [], ◌∷◌, ◌++◌, length, replicate, arith, refl, sym, ap, ◌∙◌, subst}
+use Rattle.std.proofs.Common.{◌≡◌, ◌+◌, ◌-◌, ◌≤◌, ℕ, zero, suc, List, [], ◌∷◌, ◌++◌, length, replicate, arith, ap, ◌∙◌}
 use Rattle.path_code.specs.PathCodes.{numbered_values, numbers_from}
 
 zeros_more : (n k : ℕ) → numbered_values n (replicate (suc k) 0) ≡ numbered_values n (replicate k 0) ++ (n + k, 0) ∷ []

@@ -23,7 +23,7 @@ use Rattle.path_code.specs.PathCodes.{bounds_in, numbered_values, semaphores_of,
 use Rattle.path_code.proofs.NumberLists.{numbered_append, first_values}
 use Rattle.path_code.specs.Walks.{IsFlat, unnamed, start_within, end_within, starts_in, bounds_from, ended}
 
-no_braces : (s : Tree) → NoBraces s → braces s ≡ 0
+pub no_braces : (s : Tree) → NoBraces s → braces s ≡ 0
 no_braces (op a) n = refl
 no_braces (seq s t) n = omega (arith, no_braces s n.0, no_braces t n.1)
 no_braces (alt s t) n = omega (arith, no_braces s n.0, no_braces t n.1)
