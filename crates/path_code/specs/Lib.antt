@@ -6,3 +6,4 @@ pub mod Walks
 pub mod KnownOnce
 pub mod Known
 pub mod Kept
+pub mod Listing
