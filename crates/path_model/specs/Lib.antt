@@ -12,6 +12,7 @@ pub mod BurstCounts
 pub mod AllPaths
 pub mod Trimmed
 pub mod Flat
+pub mod KeptTerms
 pub mod Agreement
 pub mod BoundedValues
 pub mod Declarations
