@@ -306,7 +306,7 @@ module _ (P : Tree → Type 0) where
           from (inl k) = inl k
           from (inr k) = inr (k.0, (g (failed_more seen x.1 f k.0)).1 k.1)
 
-  kept_none : (xs : List (ℕ × Tree)) (seen : List Tree) → Failed seen → NoneOf P (kept seen xs) ↔ NoneOf P xs
+  pub kept_none : (xs : List (ℕ × Tree)) (seen : List Tree) → Failed seen → NoneOf P (kept seen xs) ↔ NoneOf P xs
   kept_none [] seen f = (λ k. k, λ k. k)
   kept_none (x ∷ xs) seen f = go (stands_in x.1 seen) refl (kept_none xs seen f) (λ g. kept_none xs (x.1 ∷ seen) g)
     where
