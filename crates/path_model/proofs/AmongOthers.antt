@@ -65,7 +65,7 @@ still_may (burst bd s) nr nn h a b {p} {q} f m x = still_may s nr (flat_fits s n
     g : ((q ⊎ (0 < count s 0 (h ++ Began a ∷ []))) × Room bd (count s 0 (h ++ Began a ∷ []))) → ((p ⊎ (0 < count s 0 h)) × Room bd (count s 0 h))
     g (y, r) = (one y, room_less bd _ _ r fewer)
 
-project_named : (s : Tree) (h : List Event) (e : Event) → Names s (op_of e) → projection s (h ++ e ∷ []) ≡ projection s h ++ e ∷ []
+pub project_named : (s : Tree) (h : List Event) (e : Event) → Names s (op_of e) → projection s (h ++ e ∷ []) ≡ projection s h ++ e ∷ []
 project_named s h e k = projection_append s h (e ∷ []) ∙ ap (λ u. projection s h ++ u) (cond-true (has s (op_of e)) (e ∷ []) [] (has_names s (op_of e) k))
 
 project_other : (s : Tree) (h : List Event) (e : Event) → (Names s (op_of e) → ⊥) → projection s (h ++ e ∷ []) ≡ projection s h

@@ -10,6 +10,7 @@ pub use Rattle.path_model.proofs.Downward.{substitution_reads_upwards}
 pub use Rattle.path_model.proofs.Flat.{one_table_shows_all}
 pub use Rattle.path_model.proofs.Agreement.{the_machines_agree}
 pub use Rattle.path_model.proofs.BoundedValues.{each_value_is_bounded, values_among_are_bounded, table_values_are_bounded}
+pub use Rattle.path_model.proofs.KeptTerms.{trimmed_terms_touch_the_kept, finishes_find_their_counters}
 pub use Rattle.path_model.proofs.HonestJournals.{fronts_are_honest, each_live_activation_is_found}
 pub use Rattle.path_model.proofs.MachineOwes.{the_machine_owes_the_same, honest_by_machine_is_honest}
 pub use Rattle.path_model.proofs.Progress.{legal_kept as each_honest_journal_is_legal, room_kept as each_honest_journal_has_room, progress_counts as live_activations_are_in_progress}
@@ -19,10 +20,11 @@ pub use Rattle.path_model.proofs.StuckStates.{frozen_stays_frozen, startables_ma
 pub use Rattle.path_model.proofs.Upward.{has_names, names_has, path_left, path_right, path_one, path_other}
 -- lists of paths with numbers, and the values of all paths as those of each
 pub use Rattle.path_model.proofs.AllPaths.{every_map, every_both, every_from, every_to, first_from, first_to, first_same, none_same, on_tree, placed, after_placed, now}
--- equal trees
-pub use Rattle.path_model.proofs.Trimmed.{same_tree_same}
--- the numbers of bounds, and of what stands in terms
-pub use Rattle.path_model.proofs.FlatNumbers.{rank_before, rank_after, rank_low, bound_within, opening_out, opening_of}
+-- equal trees, and the kept paths with the values of each
+pub use Rattle.path_model.proofs.Trimmed.{same_tree_same, kept_none, kept_every, lean_now, lean_after_placed}
+-- the numbers of bounds, where there is none, and what stands in terms
+pub use Rattle.path_model.proofs.OnePath.{bounds_out}
+pub use Rattle.path_model.proofs.FlatNumbers.{rank_before, rank_after, rank_low, rank_apart, bound_within, opening_out, opening_of}
 pub use Rattle.path_model.proofs.FlatNumbers.{InTable, prologue_has, epilogue_has}
 -- the table of paths without braces
 pub use Rattle.path_model.proofs.FlatNumbers.{none_counted}

@@ -26,6 +26,7 @@ pub mod FlatNumbers
 pub mod Flat
 pub mod Agreement
 pub mod BoundedValues
+pub mod KeptTerms
 pub mod JournalLists
 pub mod Lookups
 pub mod HonestJournals

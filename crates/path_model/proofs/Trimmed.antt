@@ -23,7 +23,7 @@ does_nothing : (t : Term) → does t ≡ nothing → ⊥
 does_nothing t z = cc
 
 -- a path that isn't one pair of braces: nothing changes
-whole_term : (w : Bool) → w ≡ false → (t : Term) → lean w t ≡ does t
+pub whole_term : (w : Bool) → w ≡ false → (t : Term) → lean w t ≡ does t
 whole_term w z (Plain q) = refl
 whole_term w z (Braced c q) = cond-false w nothing (does (Braced c q)) z
 whole_term w z (Counted c q) = cond-false w (limits c) (does (Counted c q)) z
@@ -49,7 +49,7 @@ module _ (s : Tree) (z : is_burst s ≡ false) where
   }
 
 -- a path that is one pair of braces: its terms go through the counter 0 and the semaphore 0, or touch neither
-abbrev Outer : Bound → Term → Type 0
+abbrev pub Outer : Bound → Term → Type 0
 Outer bd t = (t ≡ through bd 0 0) ⊎ ((q : ℕ) × (t ≡ Plain q) × (0 < q))
 
 abbrev Low : List Above → Type 0
@@ -183,10 +183,10 @@ plain_counted : (p c q : ℕ) → Plain p ≡ Counted c q → ⊥
 plain_counted p c q z = cc
 
 module _ (bd : Bound) (b : Tree) (f : NoBraces b) where
-  begin_term : (a : OpId) → Outer bd (prologue (burst bd b) a)
+  pub begin_term : (a : OpId) → Outer bd (prologue (burst bd b) a)
   begin_term a = outer_prologue bd (above b 1 1 a) (low b f 1 1 (omega arith) a)
 
-  end_term : (a : OpId) → Outer bd (epilogue (burst bd b) a)
+  pub end_term : (a : OpId) → Outer bd (epilogue (burst bd b) a)
   end_term a = outer_epilogue bd (above b 1 1 a) (low b f 1 1 (omega arith) a)
 
   along : (v w : Values) (h : List Event) → Alike v w → Ready w → Alike (lean_among (burst bd b) v h) (values_among (burst bd b) w h) × Ready (values_among (burst bd b) w h)
@@ -306,7 +306,7 @@ module _ (P : Tree → Type 0) where
           from (inl k) = inl k
           from (inr k) = inr (k.0, (g (failed_more seen x.1 f k.0)).1 k.1)
 
-  kept_none : (xs : List (ℕ × Tree)) (seen : List Tree) → Failed seen → NoneOf P (kept seen xs) ↔ NoneOf P xs
+  pub kept_none : (xs : List (ℕ × Tree)) (seen : List Tree) → Failed seen → NoneOf P (kept seen xs) ↔ NoneOf P xs
   kept_none [] seen f = (λ k. k, λ k. k)
   kept_none (x ∷ xs) seen f = go (stands_in x.1 seen) refl (kept_none xs seen f) (λ g. kept_none xs (x.1 ∷ seen) g)
     where
@@ -315,7 +315,7 @@ module _ (P : Tree → Type 0) where
       go false e r g = (λ k. (k.0, (g (failed_more seen x.1 f k.0)).0 k.1), λ k. (k.0, (g (failed_more seen x.1 f k.0)).1 k.1))
 
   -- what holds of all paths holds of those that are kept
-  kept_every : (xs : List (ℕ × Tree)) (seen : List Tree) → Every P xs → Every P (kept seen xs)
+  pub kept_every : (xs : List (ℕ × Tree)) (seen : List Tree) → Every P xs → Every P (kept seen xs)
   kept_every [] seen e = e
   kept_every (x ∷ xs) seen e =
       elim (stands_in x.1 seen) as (λ b. Every P (if b then kept seen xs else (x ∷ kept (x.1 ∷ seen) xs))) [ true ↦ kept_every xs seen e.1 | false ↦ (e.0, kept_every xs (x.1 ∷ seen) e.1) ]
@@ -336,7 +336,7 @@ lean_run_placed : (f : Tree → Values) (xs : List (ℕ × Tree)) (h : List Even
 lean_run_placed f xs [] = refl
 lean_run_placed f xs (e ∷ h) = ap (λ m. lean_run m h) (lean_moved_placed e f xs) ∙ lean_run_placed (lean_stepped e f) xs h
 
-abbrev lean_now : List Event → Tree → Values
+abbrev pub lean_now : List Event → Tree → Values
 lean_now h s = lean_among s (opening s) h
 
 pub lean_after_placed : (xs : List (ℕ × Tree)) (h : List Event) → lean_after xs h ≡ placed (lean_now h) (kept [] xs)

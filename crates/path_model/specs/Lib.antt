@@ -13,6 +13,7 @@ pub mod AllPaths
 pub mod Trimmed
 pub mod Downward
 pub mod Flat
+pub mod KeptTerms
 pub mod Agreement
 pub mod BoundedValues
 pub mod Declarations

@@ -8,6 +8,7 @@ ghost use Rattle.path_model.specs.AllPaths.{StartsOnlyBlock, EachBlockStays, Fin
 ghost use Rattle.path_model.specs.Trimmed.{EachPathTrims, TrimmingKeepsAnswers, TrimmedAdmitsTheWords};
 ghost use Rattle.path_model.specs.Flat.{OneTableShowsAll};
 ghost use Rattle.path_model.specs.Downward.{SubstitutionReadsUpwards};
+ghost use Rattle.path_model.specs.KeptTerms.{TrimmedTermsTouchTheKept, FinishesFindTheirCounters};
 ghost use Rattle.path_model.specs.Agreement.{TheMachinesAgree};
 ghost use Rattle.path_model.specs.BoundedValues.{EachValueIsBounded, ValuesAmongAreBounded, TableValuesAreBounded};
 ghost use Rattle.path_model.specs.Honest.{FrontsAreHonest, TheMachineOwesTheSame, HonestByMachineIsHonest};
@@ -114,6 +115,16 @@ pub fn values_among_are_bounded()
 /// The same holds of the values of all paths in one table.
 pub fn table_values_are_bounded()
     ensures { TableValuesAreBounded }
+{}
+
+/// No trimmed term touches what was removed.
+pub fn trimmed_terms_touch_the_kept()
+    ensures { TrimmedTermsTouchTheKept }
+{}
+
+/// A finish that keeps the history legal finds each counter from which it takes one above 0.
+pub fn finishes_find_their_counters()
+    ensures { FinishesFindTheirCounters }
 {}
 
 /// What comes first in an honest journal is an honest journal.
