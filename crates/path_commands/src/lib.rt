@@ -2,6 +2,7 @@
 #![tactic(auto)]
 
 mod check;
+mod compile;
 mod fault;
 mod input;
 mod put;
@@ -10,6 +11,7 @@ mod trace;
 mod whole_input;
 
 pub use check::check_to;
+pub use compile::compile_to;
 pub use fault::{Fault, tell};
 pub use input::read_all;
 pub use status::Status;

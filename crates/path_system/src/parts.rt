@@ -7,10 +7,12 @@ ghost use Rattle.path_model.specs.Devices.{outcome_of};
 ghost use Rattle.path_model.specs.Journals.{activation_of};
 ghost use Rattle.path_system.specs.Parts.{Acts, Answers, AreOpened, AreReady, MovesFinish, MovesStart, MovesUse};
 
+use path_code::translate;
 use path_decl::{Decl, counts, resource_of};
 use path_gate::Gate;
 use path_ledger::{EndFault, Ledger};
 use path_model::{ActId, Attempt, OpId, OutOfMemory, Reply, ResId, Verb};
+use path_trim::{Lean, trim};
 use std::alloc::{Allocator, Global};
 use std::marker::Model;
 
@@ -51,6 +53,17 @@ fn act_on(cell: &mut u64, verb: Verb) -> Reply
     }
 }
 
+/// The semaphores of a declaration, without those that are useless.
+fn trimmed<A: Allocator + Copy>(alloc: A, decl: &Decl<A>) -> Result<Lean<A>, OutOfMemory>
+    ensures { IfOk result (λ lean. lean.trees ≡ declarations.trees decl.now.declaration) }
+{
+    let code = translate(alloc, decl)?;
+    match trim(alloc, code) {
+        Ok(lean) => Ok(lean),
+        Err((_, error)) => Err(error),
+    }
+}
+
 /// The resource of a declared operation.
 fn resource_at<A: Allocator + Copy>(decl: &Decl<A>, op: OpId) -> ResId
     requires { op.0 < length decl.now.declaration.operations }
@@ -66,7 +79,7 @@ impl<A: Allocator + Copy> Parts<A> {
         ensures { IfOk result (λ parts. AreOpened parts decl.declaration room) }
     {
         let resources = counts(&decl).resources as usize;
-        let gate = Gate::open(alloc, &decl)?;
+        let gate = Gate::open(alloc, trimmed(alloc, &decl)?)?;
         let ledger = Ledger::with_room(alloc, room)?;
         let cells = vec![in alloc; 0; resources]?;
         Ok(Parts {
