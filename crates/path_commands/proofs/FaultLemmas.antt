@@ -4,11 +4,11 @@ use Rattle.path_model.specs.Declarations.{Declaration}
 use Rattle.path_lex.specs.declared.fault.DeclFault.{DeclFault}
 use Rattle.path_lex.specs.declared.fault.DeclFault.TheVariants as declarations
 use Rattle.path_decl.specs.Refused.{Refuses}
-use Rattle.path_system.specs.declared.entry.LineFault.{LineFault}
-use Rattle.path_system.specs.declared.entry.LineFault.TheVariants as line_faults
+use Rattle.path_lines.specs.declared.entry.LineFault.{LineFault}
+use Rattle.path_lines.specs.declared.entry.LineFault.TheVariants as line_faults
+use Rattle.path_lines.specs.AttemptTexts.{Entry, IsAttemptsText, fault_of}
 use Rattle.path_system.specs.declared.system.OpenFault.{OpenFault}
 use Rattle.path_system.specs.declared.system.OpenFault.TheVariants as openings
-use Rattle.path_system.specs.AttemptTexts.{Entry, IsAttemptsText, fault_of}
 use Rattle.path_commands.specs.declared.status.Status.{Status}
 use Rattle.path_commands.specs.declared.status.Status.TheVariants.{Done, StreamFailed, NoMemory}
 use Rattle.path_commands.specs.declared.fault.Fault.{Fault}

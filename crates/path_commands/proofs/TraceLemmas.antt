@@ -10,9 +10,9 @@ use Rattle.path_model.specs.declared.journal.Reply.{Reply}
 use Rattle.path_model.specs.Declarations.{Declaration}
 use Rattle.path_model.specs.Journals.{with_line}
 use Rattle.path_model.specs.Owed.{Owed}
+use Rattle.path_lines.specs.LineTexts.{line_text, reply_text}
+use Rattle.path_lines.specs.AttemptTexts.{Entry, EntryFits, entry_line, entries_text, IsAttemptsText, IsFirstLine, IsNoRest}
 use Rattle.path_system.specs.Accounts.{Account}
-use Rattle.path_system.specs.LineTexts.{line_text, reply_text}
-use Rattle.path_system.specs.AttemptTexts.{Entry, EntryFits, entry_line, entries_text, IsAttemptsText, IsFirstLine, IsNoRest}
 use Rattle.path_commands.specs.Traces.{Traced, at_end, answers, reply_line, IsAnswered, IsTraceBy}
 
 -- the text goes on with this after these attempts; or it ended with them, and had no last line feed

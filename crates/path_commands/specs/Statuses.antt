@@ -2,10 +2,10 @@
 use Rattle.std.specs.Prelude.{ℕ}
 use Rattle.path_lex.specs.declared.fault.DeclFault.{DeclFault}
 use Rattle.path_lex.specs.declared.fault.DeclFault.TheVariants as declarations
+use Rattle.path_lines.specs.declared.texts.TextFault.{TextFault}
+use Rattle.path_lines.specs.declared.texts.TextFault.TheVariants as texts
 use Rattle.path_system.specs.declared.system.OpenFault.{OpenFault}
 use Rattle.path_system.specs.declared.system.OpenFault.TheVariants as openings
-use Rattle.path_system.specs.declared.texts.TextFault.{TextFault}
-use Rattle.path_system.specs.declared.texts.TextFault.TheVariants as texts
 use Rattle.path_commands.specs.declared.status.Status.{Status}
 use Rattle.path_commands.specs.declared.status.Status.TheVariants as statuses
 use Rattle.path_commands.specs.declared.fault.Fault.{Fault}

@@ -8,11 +8,11 @@ use Rattle.path_model.specs.Declarations.{Declaration}
 use Rattle.path_model.specs.Journals.{with_line}
 use Rattle.path_model.specs.Owed.{Owed}
 use Rattle.path_decl.specs.Text.{IsDeclarationText}
+use Rattle.path_lines.specs.declared.texts.TheConstants.{LIMIT}
+use Rattle.path_lines.specs.LineTexts.{journal_line_text, reply_text}
+use Rattle.path_lines.specs.AttemptTexts.{Entry, IsAttemptsText}
 use Rattle.path_system.specs.declared.system.TheConstants.{MOST_LINES}
-use Rattle.path_system.specs.declared.texts.TheConstants.{LIMIT}
 use Rattle.path_system.specs.Accounts.{Account, opening_contents}
-use Rattle.path_system.specs.LineTexts.{journal_line_text, reply_text}
-use Rattle.path_system.specs.AttemptTexts.{Entry, IsAttemptsText}
 use Rattle.path_commands.specs.declared.status.Status.{Status}
 use Rattle.path_commands.specs.declared.status.Status.TheVariants.{CommandRefused, TextRefused, NoMemory}
 

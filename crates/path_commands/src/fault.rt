@@ -6,8 +6,9 @@ ghost use Rattle.path_commands.specs.Statuses.{status_of};
 
 use crate::status::Status;
 use path_decl::DeclFault;
+use path_lines::TextFault;
 use path_model::OutOfMemory;
-use path_system::{OpenFault, TextFault};
+use path_system::OpenFault;
 use std::alloc::{AllocError, AllocFailed};
 use std::fmt::Display;
 use std::io::{ErrorKind, Write};

@@ -139,13 +139,13 @@ empty_number text n rest stop fits end e =
     let none : 0 ≡ length (decimal n) = ap length same in
     omega (arith, some, none)
 
-no_low : (b : ℕ) (ds : List ℕ) → b < 48 → AreDigits ds → HasNone b ds
-no_low b [] low h = tt
-no_low b (d ∷ ds) low h = (λ e. let i = h.0.0 in omega (arith, i), no_low b ds low h.1)
+no_other : (b : ℕ) (ds : List ℕ) → (IsDigit b → ⊥) → AreDigits ds → HasNone b ds
+no_other b [] other h = tt
+no_other b (d ∷ ds) other h = (λ e. other (subst IsDigit e h.0), no_other b ds other h.1)
 
--- a byte below the digits stands in no number
-pub none_in_number : (b n : ℕ) → b < 48 → n < 2 ^ 64 → HasNone b (decimal n)
-none_in_number b n low h = no_low b (decimal n) low (digits_decimal own n h)
+-- a byte that is no digit stands in no number
+pub none_in_number : (b n : ℕ) → (IsDigit b → ⊥) → n < 2 ^ 64 → HasNone b (decimal n)
+none_in_number b n other h = no_other b (decimal n) other (digits_decimal own n h)
 
 -- a text begins with one number
 pub number_once : (m n : ℕ) (rest end : List ℕ) → m < 2 ^ 64 → n < 2 ^ 64 → HasNoDigitNext rest → HasNoDigitNext end → decimal m ++ rest ≡ decimal n ++ end → (m ≡ n) × (rest ≡ end)
@@ -153,7 +153,15 @@ number_once m n rest end h k stop last e =
     let p = digits_once (decimal m) (decimal n) rest end (digits_decimal own m h) (digits_decimal own n k) stop last e in
     (decimal_injective m n h k p.0, p.1)
 
+-- the number that was read is the one that the text begins with
+pub same_number : (text : List ℕ) (m n : ℕ) (rest end : List ℕ) → text ≡ decimal m ++ rest → HasNoDigitNext rest → m < 2 ^ 64 → n < 2 ^ 64 → HasNoDigitNext end → text ≡ decimal n ++ end → (m ≡ n) × (rest ≡ end)
+same_number text m n rest end e stop h k last f = number_once m n rest end h k stop last (sym e ∙ f)
+
 -- where a byte that is no digit comes next, no digit does
 pub ends_number : (b : ℕ) (rest : List ℕ) → (IsDigit b → ⊥) → EndsAt b rest → HasNoDigitNext rest
 ends_number b [] none end = tt
 ends_number b (x ∷ rest) none end = λ is. none (subst IsDigit end is)
+
+-- a line's end comes behind all digits
+pub feed_ends : (rest : List ℕ) → EndsAt 10 rest → HasNoDigitNext rest
+feed_ends rest end = ends_number 10 rest (λ d. let low = d.0 in omega (arith, low)) end

@@ -1,6 +1,6 @@
 //! Cutting texts into fields.
 
-ghost use Rattle.std.specs.Prelude.{◌≡◌, ◌≢◌, ℕ, ◌<◌, ◌∷◌, ◌++◌, length, slice_index, take, IfSome, IfNone, MatchOption, List};
+ghost use Rattle.std.specs.Prelude.{◌≡◌, ◌≢◌, ℕ, ◌+◌, ◌<◌, ◌≤◌, ◌∷◌, ◌++◌, length, slice_index, take, drop, IfSome, IfNone, MatchOption, List};
 ghost use Rattle.path_fields.specs.Splits.{HasNone, EndsAt};
 
 /// The place of the first such byte.
@@ -49,4 +49,24 @@ pub fn strip<'a>(text: &'a [u8], front: &[u8]) -> Option<&'a [u8]>
         }
     }
     Some(&text[front.len()..])
+}
+
+/// The text itself, where the line ends before it: it is empty or begins with a line feed. Nothing where it goes on
+/// otherwise.
+pub fn at_end(text: &[u8]) -> Option<&[u8]>
+    ensures { MatchOption result (EndsAt 10 text.now → ⊥) (λ same. (same.now ≡ text.now) × EndsAt 10 same.now) }
+{
+    match text.first() {
+        None => Some(text),
+        Some(byte) if *byte == b'\n' => Some(text),
+        Some(_) => None,
+    }
+}
+
+/// What follows a line of so many bytes and its line feed, which the last line of a text may lack.
+pub fn after_line(text: &[u8], line: usize) -> &[u8]
+    requires { line ≤ length text.now }
+    ensures { result.now ≡ drop (line + 1) text.now }
+{
+    text.get(line + 1..).unwrap_or(&[])
 }

@@ -1,4 +1,2 @@
 pub mod Accounts
 pub mod Parts
-pub mod LineTexts
-pub mod AttemptTexts

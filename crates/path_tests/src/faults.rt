@@ -2,7 +2,8 @@
 
 use path_commands::{Fault, Status, tell};
 use path_decl::DeclFault;
-use path_system::{OpenFault, TextFault};
+use path_lines::TextFault;
+use path_system::OpenFault;
 
 #[test]
 fn tells_each_fault(rt: HostRuntime) {

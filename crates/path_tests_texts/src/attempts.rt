@@ -1,10 +1,10 @@
 //! Texts of attempts.
 
 use path_decl::read;
-use path_model::{ActId, Attempt, Line, OpId, Reply, Verb};
-use path_system::{
+use path_lines::{
     FirstLine, LineFault, TextFault, fault_at, first_entry, read_attempts, write_line,
 };
+use path_model::{ActId, Attempt, Line, OpId, Reply, Verb};
 use refusing::Refusing;
 use std::test::Fail;
 

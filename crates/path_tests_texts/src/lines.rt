@@ -1,8 +1,8 @@
 //! Texts of lines.
 
 use path_decl::read;
+use path_lines::{push_reply, write_line};
 use path_model::{ActId, Attempt, Line, OpId, OutOfMemory, PathId, Reply, Verb};
-use path_system::{push_reply, write_line};
 use refusing::Refusing;
 
 #[test]

@@ -3,7 +3,7 @@
 ghost use Rattle.std.specs.Prelude.{◌≤◌, length, IfOk};
 
 use path_commands::{Fault, read_all};
-use path_system::LIMIT;
+use path_lines::LIMIT;
 use std::fs;
 use std::rt::Files;
 

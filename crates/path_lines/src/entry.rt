@@ -3,18 +3,18 @@
 //! Each reader takes a text and answers what it begins with and what follows that, so a line is read in one pass.
 
 ghost use Rattle.std.specs.Prelude.{◌≡◌, ◌≢◌, ◌↔◌, ℕ, ◌<◌, ◌≤◌, ◌^◌, [], ◌∷◌, ◌++◌, List, decimal, length, All, Contains};
-ghost use Rattle.std.specs.Prelude.{Some, slice_get, IfSome, IfNone, IfOk, IfErr, OnErr, MatchOption};
+ghost use Rattle.std.specs.Prelude.{Some, slice_get, IfSome, IfNone, IfOk, IfErr, OnErr};
 ghost use Rattle.path_model.specs.declared.ids.OpId.{OpId};
 ghost use Rattle.path_model.specs.declared.journal.Verb.{Verb};
 ghost use Rattle.path_model.specs.declared.journal.Attempt.{Attempt};
 ghost use Rattle.path_lex.specs.Names.{IsName};
 ghost use Rattle.path_fields.specs.Splits.{EndsAt};
-ghost use Rattle.path_system.specs.LineTexts.{operation_names, operation_text, verb_text, use_text, attempt_text, line_text};
-ghost use Rattle.path_system.specs.LineTexts.{VerbFits, AttemptFits};
-ghost use Rattle.path_system.specs.AttemptTexts.{EntryFits, IsAttemptFault, IsFirstLine, IsFirstFault, IsNoRest};
+ghost use Rattle.path_lines.specs.LineTexts.{operation_names, operation_text, verb_text, use_text, attempt_text, line_text};
+ghost use Rattle.path_lines.specs.LineTexts.{VerbFits, AttemptFits};
+ghost use Rattle.path_lines.specs.AttemptTexts.{EntryFits, IsAttemptFault, IsFirstLine, IsFirstFault, IsNoRest};
 
 use path_decl::{Decl, counts, is_name, operation};
-use path_fields::{number, strip, until};
+use path_fields::{at_end, last_number, number, strip, until};
 use path_model::{ActId, Attempt, OpId, Verb};
 use std::alloc::Allocator;
 
@@ -36,27 +36,6 @@ pub struct FirstLine {
     pub attempt: Attempt,
     /// The bytes of the line, without its line feed.
     pub length: usize,
-}
-
-/// The text itself, where the line ended before it: it is empty or begins with a line feed.
-fn at_end(rest: &[u8]) -> Option<&[u8]>
-    ensures { MatchOption result (EndsAt 10 rest.now → ⊥) (λ same. (same.now ≡ rest.now) × EndsAt 10 same.now) }
-{
-    match rest.first() {
-        None => Some(rest),
-        Some(byte) if *byte == b'\n' => Some(rest),
-        Some(_) => None,
-    }
-}
-
-/// A number with which the line ends.
-fn last_number(text: &[u8]) -> Option<(u64, &[u8])>
-    ensures some { IfSome result (λ p. (text.now ≡ decimal p.0 ++ p.1.now) × (p.0 < 2 ^ 64) × EndsAt 10 p.1.now) }
-    ensures none { IfNone result ((n : ℕ) (rest : List ℕ) → n < 2 ^ 64 → EndsAt 10 rest → text.now ≢ decimal n ++ rest) }
-{
-    let (value, rest) = number(text)?;
-    let rest = at_end(rest)?;
-    Some((value, rest))
 }
 
 /// A verb with which the line ends, with its number where it has one.

@@ -1,8 +1,9 @@
 -- A use begins with one number.
 use Rattle.std.proofs.Common.{◌∷◌, ◌++◌, ◌∙◌, rules}
-use Rattle.path_system.specs.LineTexts.{verb_text}
-use Rattle.path_system.proofs.EntryLemmas.{space_ends, same_number, number_spaced}
-use Rattle.path_system.proofs.entry.read_use.Goals as goal
+use Rattle.path_lines.specs.LineTexts.{verb_text}
+use Rattle.path_fields.proofs.CallerLemmas.{same_number}
+use Rattle.path_lines.proofs.EntryLemmas.{space_ends, number_spaced}
+use Rattle.path_lines.proofs.entry.read_use.Goals as goal
 
 pub returns-in_err-rest-clause-none : goal.returns-in_err-rest-clause-none
 returns-in_err-rest-clause-none c =

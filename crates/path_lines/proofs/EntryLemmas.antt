@@ -8,23 +8,15 @@ use Rattle.path_model.specs.declared.ids.OpId.{OpId}
 use Rattle.path_model.specs.declared.journal.Attempt.{Attempt}
 use Rattle.path_model.specs.Declarations.{Declaration}
 use Rattle.path_fields.specs.Splits.{HasNone, EndsAt, HasNoDigitNext}
-use Rattle.path_fields.proofs.CallerLemmas.{none_joined, none_in_number, number_once, ends_number}
-use Rattle.path_system.specs.declared.entry.LineFault.{LineFault}
-use Rattle.path_system.specs.declared.entry.LineFault.TheVariants as line_faults
-use Rattle.path_system.specs.LineTexts.{operation_names, name_or_number, operation_text, attempt_text, AttemptFits}
-use Rattle.path_system.specs.AttemptTexts.{StartsUndeclared, IsAttemptFault, IsLineFault, IsFirstLine, IsFirstFault}
+use Rattle.path_fields.proofs.CallerLemmas.{none_joined, none_in_number, number_once, same_number}
+use Rattle.path_lines.specs.declared.entry.LineFault.{LineFault}
+use Rattle.path_lines.specs.declared.entry.LineFault.TheVariants as line_faults
+use Rattle.path_lines.specs.LineTexts.{operation_names, name_or_number, operation_text, attempt_text, AttemptFits}
+use Rattle.path_lines.specs.AttemptTexts.{StartsUndeclared, IsAttemptFault, IsLineFault, IsFirstLine, IsFirstFault}
 
--- a line's end comes behind all digits
-pub feed_ends : (rest : List ℕ) → EndsAt 10 rest → HasNoDigitNext rest
-feed_ends rest end = ends_number 10 rest (λ d. let low = d.0 in omega (arith, low)) end
-
--- so does a space
+-- a space comes behind all digits
 pub space_ends : (rest : List ℕ) → HasNoDigitNext (32 ∷ rest)
 space_ends rest = λ d. let low = d.0 in omega (arith, low)
-
--- the number that was read is the one that the text begins with
-pub same_number : (text : List ℕ) (m n : ℕ) (rest end : List ℕ) → text ≡ decimal m ++ rest → HasNoDigitNext rest → m < 2 ^ 64 → n < 2 ^ 64 → HasNoDigitNext end → text ≡ decimal n ++ end → (m ≡ n) × (rest ≡ end)
-same_number text m n rest end e stop h k last f = number_once m n rest end h k stop last (sym e ∙ f)
 
 pub number_spaced : (n : ℕ) (xs rest : List ℕ) → (decimal n ++ (32 ∷ xs)) ++ rest ≡ decimal n ++ (32 ∷ (xs ++ rest))
 number_spaced n xs rest = append_assoc (decimal n) (32 ∷ xs) rest
@@ -105,7 +97,7 @@ pub attempt_fault : (d : Declaration) (text : List ℕ) (w : ℕ) (r : List ℕ)
 attempt_fault d text w r f lt e none fault =
     let p = first_line r in
     let line = decimal w ++ (32 ∷ p.0) in
-    let clean : HasNone 10 line = none_joined 10 (decimal w) (32 ∷ p.0) (none_in_number 10 w (omega arith) (omega (arith, lt))) (λ i. omega (arith, i), p.2) in (
+    let clean : HasNone 10 line = none_joined 10 (decimal w) (32 ∷ p.0) (none_in_number 10 w (λ i. let low = i.0 in omega (arith, low)) (omega (arith, lt))) (λ i. omega (arith, i), p.2) in (
       line,
       is_first line p.1 text clean p.3 (e ∙ ap (λ v. decimal w ++ (32 ∷ v)) p.4 ∙ sym (number_spaced w p.0 p.1)),
       λ v a small fits k. none a p.1 fits p.3 (p.4 ∙ ap (λ x. x ++ p.1) (behind_number w v p.0 (attempt_text d a) lt small k)),

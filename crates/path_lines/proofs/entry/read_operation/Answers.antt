@@ -1,6 +1,6 @@
 -- What has neither a name nor a number is no operation.
-use Rattle.path_system.proofs.EntryLemmas.{no_operation}
-use Rattle.path_system.proofs.entry.read_operation.Goals as goal
+use Rattle.path_lines.proofs.EntryLemmas.{no_operation}
+use Rattle.path_lines.proofs.entry.read_operation.Goals as goal
 
 pub returns-in-None-clause-err : goal.returns-in-None-clause-err
 returns-in-None-clause-err g c = λ a lt e.

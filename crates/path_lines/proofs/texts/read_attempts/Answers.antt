@@ -2,9 +2,9 @@
 use Rattle.std.proofs.Common.{rules, arith, ◌≡◌, ◌≢◌, [], length, ap}
 use Rattle.std.proofs.lemmas.Grind.{common_steps}
 use Rattle.std.proofs.lemmas.List.{nil_from_length}
-use Rattle.path_system.proofs.AttemptLemmas.{entries_more, faulty, none_at_fault, ends}
-use Rattle.path_system.proofs.OneReading.{one_reading}
-use Rattle.path_system.proofs.texts.read_attempts.Goals as goal
+use Rattle.path_lines.proofs.AttemptLemmas.{entries_more, faulty, none_at_fault, ends}
+use Rattle.path_lines.proofs.OneReading.{one_reading}
+use Rattle.path_lines.proofs.texts.read_attempts.Goals as goal
 
 pub loop-rest-preserved : goal.loop-rest-preserved
 loop-rest-preserved g c =

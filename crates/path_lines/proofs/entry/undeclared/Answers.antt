@@ -1,8 +1,9 @@
 -- Behind `#` stands one number.
 use Rattle.std.proofs.Common.{◌≡◌, [], arith, rules, ap, length}
 use Rattle.std.proofs.lemmas.Grind.{common_steps}
-use Rattle.path_system.proofs.EntryLemmas.{same_number, behind_hash}
-use Rattle.path_system.proofs.entry.undeclared.Goals as goal
+use Rattle.path_fields.proofs.CallerLemmas.{same_number}
+use Rattle.path_lines.proofs.EntryLemmas.{behind_hash}
+use Rattle.path_lines.proofs.entry.undeclared.Goals as goal
 
 pub returns-in_err-value-clause-none : goal.returns-in_err-value-clause-none
 returns-in_err-value-clause-none c =

@@ -1,8 +1,8 @@
 -- A text begins with one number.
 use Rattle.std.proofs.Common.{subst, sym, rules}
 use Rattle.path_fields.specs.Splits.{EndsAt}
-use Rattle.path_system.proofs.EntryLemmas.{feed_ends, same_number}
-use Rattle.path_system.proofs.entry.last_number.Goals as goal
+use Rattle.path_fields.proofs.Numbers.{feed_ends, same_number}
+use Rattle.path_fields.proofs.digits.last_number.Goals as goal
 
 pub returns-in_err-rest-clause-none : goal.returns-in_err-rest-clause-none
 returns-in_err-rest-clause-none c =

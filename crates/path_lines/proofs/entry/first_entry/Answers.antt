@@ -1,11 +1,11 @@
 -- A line is cut behind the worker's number, and a line that is no attempt refutes each text that it is a line of.
 use Rattle.std.proofs.Common.{◌≡◌, ◌<◌, ◌^◌, arith, ◌∷◌, ◌++◌, ◌∙◌, ap, decimal, rules, sym}
 use Rattle.std.proofs.lemmas.Result.{err_from_is_err_and}
-use Rattle.path_system.specs.LineTexts.{attempt_text, line_text}
-use Rattle.path_system.specs.declared.entry.LineFault.TheVariants as line_faults
-use Rattle.path_system.proofs.EntryLemmas.{no_number, wide_number, no_space, front_fault, attempt_fault, number_spaced, is_first}
-use Rattle.path_system.proofs.AttemptLemmas.{no_rest, line_is_line}
-use Rattle.path_system.proofs.entry.first_entry.Goals as goal
+use Rattle.path_lines.specs.LineTexts.{attempt_text, line_text}
+use Rattle.path_lines.specs.declared.entry.LineFault.TheVariants as line_faults
+use Rattle.path_lines.proofs.EntryLemmas.{no_number, wide_number, no_space, front_fault, attempt_fault, number_spaced, is_first}
+use Rattle.path_lines.proofs.AttemptLemmas.{no_rest, line_is_line}
+use Rattle.path_lines.proofs.entry.first_entry.Goals as goal
 
 pub returns-in_default-clause-err : goal.returns-in_default-clause-err
 returns-in_default-clause-err g c = front_fault c.args.decl.now.declaration c.args.text.now (no_number c.args.text.now c.in_default.ensures.none)

@@ -3,8 +3,8 @@ use Rattle.std.proofs.Common.{arith}
 use Rattle.std.proofs.lemmas.List.Elements.{All-contains}
 use Rattle.std.proofs.lemmas.Str.{IsUtf8-from_ascii}
 use Rattle.path_lex.specs.Names.{IsName}
-use Rattle.path_system.proofs.NameLemmas.{name_is_ascii}
-use Rattle.path_system.proofs.entry.declared.Goals as goal
+use Rattle.path_lines.proofs.NameLemmas.{name_is_ascii}
+use Rattle.path_lines.proofs.entry.declared.Goals as goal
 
 pub from_utf8_unchecked-name-requires : goal.from_utf8_unchecked-name-requires
 from_utf8_unchecked-name-requires g c = IsUtf8-from_ascii c.args.name.now c.if-not-is_ascii.ensures.cases

@@ -2,8 +2,8 @@
 
 ghost use Rattle.std.specs.Prelude.{◌≡◌, ◌++◌, ◌∷◌, IfOk, OnOk};
 ghost use Rattle.std.specs.String.{string_bytes};
-ghost use Rattle.path_system.specs.LineTexts.{verb_text, operation_text, use_text, attempt_text, line_text};
-ghost use Rattle.path_system.specs.LineTexts.{digits, reply_text, journal_line_text};
+ghost use Rattle.path_lines.specs.LineTexts.{verb_text, operation_text, use_text, attempt_text, line_text};
+ghost use Rattle.path_lines.specs.LineTexts.{digits, reply_text, journal_line_text};
 
 use itoa::Buffer;
 use path_decl::{Decl, op_name};

@@ -4,13 +4,13 @@ use Rattle.std.specs.List.{flat_map}
 use Rattle.path_model.specs.declared.journal.Attempt.{Attempt}
 use Rattle.path_model.specs.Declarations.{Declaration}
 use Rattle.path_lex.specs.Names.{IsName}
-use Rattle.path_system.specs.declared.texts.TheConstants.{LIMIT}
-use Rattle.path_system.specs.declared.entry.LineFault.{LineFault}
-use Rattle.path_system.specs.declared.entry.LineFault.TheVariants as line_faults
-use Rattle.path_system.specs.declared.texts.TextFault.{TextFault}
-use Rattle.path_system.specs.declared.texts.TextFault.TheVariants as faults
+use Rattle.path_lines.specs.declared.texts.TheConstants.{LIMIT}
+use Rattle.path_lines.specs.declared.entry.LineFault.{LineFault}
+use Rattle.path_lines.specs.declared.entry.LineFault.TheVariants as line_faults
+use Rattle.path_lines.specs.declared.texts.TextFault.{TextFault}
+use Rattle.path_lines.specs.declared.texts.TextFault.TheVariants as faults
 use Rattle.path_fields.specs.Splits.{HasNone}
-use Rattle.path_system.specs.LineTexts.{operation_names, line_text, AttemptFits}
+use Rattle.path_lines.specs.LineTexts.{operation_names, line_text, AttemptFits}
 
 -- a worker's number, and what the worker attempts
 abbrev pub Entry : Type 0

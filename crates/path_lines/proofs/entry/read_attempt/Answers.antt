@@ -1,7 +1,7 @@
 -- A start names its operation up to the line's end.
 use Rattle.std.proofs.lemmas.Result.{err_from_is_err_and}
-use Rattle.path_system.proofs.AttemptLemmas.{no_start, start_fault}
-use Rattle.path_system.proofs.entry.read_attempt.Goals as goal
+use Rattle.path_lines.proofs.AttemptLemmas.{no_start, start_fault}
+use Rattle.path_lines.proofs.entry.read_attempt.Goals as goal
 
 pub returns-in_err-op-clause-err : goal.returns-in_err-op-clause-err
 returns-in_err-op-clause-err g c =

@@ -24,7 +24,7 @@ other_than b c h = grind (arith, nat_tests)
 
 high_byte : (b : ℕ) → 128 ≤ b → class_of b ≡ classes.Other
 unfolding class_of
-high_byte b h = rw (high_space b h, high_letter b h, high_digit b h, other_than b 95 (omega arith), other_than b 59 (omega arith), other_than b 44 (omega arith), other_than b 40 (omega arith), other_than b 41 (omega arith), other_than b 123 (omega arith), other_than b 125 (omega arith)) refl
+high_byte b h = rw (high_space b h, high_letter b h, high_digit b h, other_than b 95 (omega arith), other_than b 59 (omega arith), other_than b 44 (omega arith), other_than b 58 (omega arith), other_than b 40 (omega arith), other_than b 41 (omega arith), other_than b 123 (omega arith), other_than b 125 (omega arith)) refl
 
 -- a byte of a word is ASCII
 pub word_byte_low : (b : ℕ) → is_word_byte b ≡ true → b < 128
@@ -46,16 +46,17 @@ words_without : (b : ℕ) (bs : List ℕ) → is_word_byte b ≡ false → AllBy
 words_without b [] outside h = tt
 words_without b (c ∷ cs) outside h = (λ e. let k : is_word_byte b ≡ true = subst (λ x. is_word_byte x ≡ true) e h.0 in cc, words_without b cs outside h.1)
 
-name_without : (b : ℕ) (name : List ℕ) → is_word_byte b ≡ false → IsWordText name → HasNone b name
+pub name_without : (b : ℕ) (name : List ℕ) → is_word_byte b ≡ false → IsWordText name → HasNone b name
 name_without b [] outside h = absurd h
 name_without b (c ∷ cs) outside h = (λ e. let k : is_word_byte b ≡ true = subst (λ x. is_word_byte x ≡ true) e (ap in_word h.0) in cc, words_without b cs outside h.1)
 
-line_feed_outside : is_word_byte 10 ≡ false
+pub line_feed_outside : is_word_byte 10 ≡ false
 unfolding class_of
 line_feed_outside = refl
 
-pub name_is_line : (name : List ℕ) → IsName name → HasNone 10 name
-name_is_line name h = name_without 10 name line_feed_outside h.word
+pub colon_outside : is_word_byte 58 ≡ false
+unfolding class_of
+colon_outside = refl
 
 hash_outside : is_word_byte 35 ≡ false
 unfolding class_of

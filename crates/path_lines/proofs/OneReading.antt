@@ -1,7 +1,7 @@
 -- A text tells one list of attempts: each line has one worker and one attempt.
-use Rattle.std.proofs.Common.{◌≡◌, ℕ, ◌<◌, ◌^◌, List, [], ◌∷◌, ◌++◌, length, ◌≤◌, inl, inr, refl, sym, ap, ◌∙◌, subst, append_assoc, arith, decimal, All, get_or}
-use Rattle.std.proofs.lemmas.List.{append_cancel_right, length-map}
-use Rattle.std.proofs.lemmas.List.Elements.{All-head, All-tail, All-contains}
+use Rattle.std.proofs.Common.{◌≡◌, ◌≢◌, ℕ, ◌<◌, ◌^◌, List, [], ◌∷◌, ◌++◌, length, ◌≤◌, inl, inr, refl, sym, ap, ◌∙◌, subst, append_assoc, arith, decimal, All, get_or}
+use Rattle.std.proofs.lemmas.List.{length-map}
+use Rattle.std.proofs.lemmas.List.Elements.{All-contains}
 use Rattle.std.proofs.lemmas.Bool.{cases_lt}
 use Rattle.std.proofs.lemmas.Fmt.{decimal_injective}
 use Rattle.path_model.specs.declared.ids.OpId.{OpId}
@@ -14,12 +14,13 @@ use Rattle.path_model.specs.Declarations.{Declaration}
 use Rattle.path_decl.specs.Lawful.{IsDistinct, AreDistinctNames}
 use Rattle.path_lex.specs.Names.{IsName}
 use Rattle.path_fields.specs.Splits.{HasNone}
-use Rattle.path_system.specs.LineTexts.{verb_text, use_text, operation_text, operation_names, attempt_text, line_text, AttemptFits, VerbFits}
-use Rattle.path_system.specs.AttemptTexts.{Entry, EntryFits, entries_text, IsAttemptsText}
-use Rattle.path_fields.proofs.CallerLemmas.{cut_once, cut_none, number_once}
-use Rattle.path_system.proofs.EntryLemmas.{space_ends, named, numbered}
-use Rattle.path_system.proofs.NameLemmas.{name_is_plain}
-use Rattle.path_system.proofs.AttemptLemmas.{line_is_line, Spells, first_entry, spells_cut}
+use Rattle.path_lines.specs.LineTexts.{verb_text, use_text, operation_text, operation_names, attempt_text, line_text, AttemptFits, VerbFits}
+use Rattle.path_lines.specs.AttemptTexts.{Entry, EntryFits, IsAttemptsText}
+use Rattle.path_fields.proofs.CallerLemmas.{number_once}
+use Rattle.path_lines.proofs.EntryLemmas.{space_ends, named, numbered}
+use Rattle.path_lines.proofs.NameLemmas.{name_is_plain}
+use Rattle.path_lines.proofs.AttemptLemmas.{entry_text, line_is_line}
+use Rattle.path_lines.proofs.WholeTexts.{spells_once}
 
 same_head : {x y : ℕ} {xs ys : List ℕ} → x ∷ xs ≡ y ∷ ys → x ≡ y
 same_head e = cc
@@ -103,79 +104,25 @@ attempt_once d (Finish m) (Start b) names h k e = let i = same_head e in absurd 
 attempt_once d (Finish m) (Apply n v) names h k e = let i = same_head e in absurd (omega arith)
 attempt_once d (Finish m) (Finish n) names h k e = ap Finish (act_once m n (decimal_injective m.0 n.0 h k (tail_three (tail_four e))))
 
-entry_once : (d : Declaration) (e f : Entry) → AreDistinctNames (operation_names d) → EntryFits e → EntryFits f → line_text d e.0 e.1 ≡ line_text d f.0 f.1 → e ≡ f
+pub entry_once : (d : Declaration) (e f : Entry) → AreDistinctNames (operation_names d) → EntryFits e → EntryFits f → line_text d e.0 e.1 ≡ line_text d f.0 f.1 → e ≡ f
 entry_once d e f names h k same =
     let small : e.0 < 2 ^ 64 = let i = h.0 in omega (arith, i) in
     let other : f.0 < 2 ^ 64 = let i = k.0 in omega (arith, i) in
     let p = number_once e.0 f.0 (32 ∷ attempt_text d e.1) (32 ∷ attempt_text d f.1) small other (space_ends (attempt_text d e.1)) (space_ends (attempt_text d f.1)) same in
     ap (λ (w : ℕ). let x : Entry = (w, e.1) in x) p.0 ∙ ap (λ (a : Attempt). let x : Entry = (f.0, a) in x) (attempt_once d e.1 f.1 names h.1 k.1 (tail_one p.1))
 
--- an empty text tells nothing
-nonempty_line : (line rest : List ℕ) → line ++ 10 ∷ rest ≡ [] → ⊥
-nonempty_line [] rest e = cc
-nonempty_line (x ∷ line) rest e = cc
-
-number_is_some : (n : ℕ) (rest : List ℕ) → decimal n ++ (32 ∷ rest) ≡ [] → ⊥
+-- a line begins with a number and a space
+pub number_is_some : (n : ℕ) (rest : List ℕ) → decimal n ++ (32 ∷ rest) ≡ [] → ⊥
 number_is_some n rest e = some (decimal n) e
   where
     some : (ds : List ℕ) → ds ++ (32 ∷ rest) ≡ [] → ⊥
     some [] e = cc
     some (x ∷ ds) e = cc
 
-nothing_spelled : (d : Declaration) (es : List Entry) → Spells d [] es → es ≡ []
-nothing_spelled d [] s = refl
-nothing_spelled d (e ∷ es) (inl s) = absurd (nonempty_line (line_text d e.0 e.1) (entries_text d es) (sym (s ∙ first_entry d e es)))
-nothing_spelled d (e ∷ es) (inr s) = absurd (one_byte (line_text d e.0 e.1) (number_is_some e.0 (attempt_text d e.1)) (s ∙ first_entry d e es))
-  where
-    one_byte : (line : List ℕ) → (line ≡ [] → ⊥) → 10 ∷ [] ≡ line ++ 10 ∷ entries_text d es → ⊥
-    one_byte [] some e = some refl
-    one_byte (x ∷ []) some e = cc
-    one_byte (x ∷ y ∷ line) some e = cc
-
--- attempts end with a line feed
-ends_in_feed : (d : Declaration) (e : Entry) (es : List Entry) → (x : List ℕ) × (entries_text d (e ∷ es) ≡ x ++ 10 ∷ [])
-ends_in_feed d e [] = (line_text d e.0 e.1, first_entry d e [])
-ends_in_feed d e (f ∷ es) =
-    let p = ends_in_feed d f es in
-    (line_text d e.0 e.1 ++ 10 ∷ p.0, first_entry d e (f ∷ es) ∙ ap (λ x. line_text d e.0 e.1 ++ 10 ∷ x) p.1 ∙ sym (append_assoc (line_text d e.0 e.1) (10 ∷ p.0) (10 ∷ [])))
-
--- one line without its line feed tells one attempt
-last_once : (d : Declaration) (e : Entry) (fs : List Entry) → AreDistinctNames (operation_names d) → EntryFits e → All EntryFits fs → Spells d (line_text d e.0 e.1) fs → e ∷ [] ≡ fs
-last_once d e [] names h k (inl s) = absurd (number_is_some e.0 (attempt_text d e.1) s)
-last_once d e [] names h k (inr s) = absurd (nonempty_line (line_text d e.0 e.1) [] s)
-last_once d e (f ∷ fs) names h k (inl s) = absurd (cut_none 10 (line_text d f.0 f.1) (entries_text d fs) (subst (HasNone 10) (s ∙ first_entry d f fs) (line_is_line d e names.each h)))
-last_once d e (f ∷ fs) names h k (inr s) =
-    let fit = All-head EntryFits f fs k in
-    let p = cut_once 10 (line_text d e.0 e.1) (line_text d f.0 f.1) [] (entries_text d fs) (line_is_line d e names.each h) (line_is_line d f names.each fit) (s ∙ first_entry d f fs) in
-    let none : fs ≡ [] = nothing_spelled d fs (inl p.1) in
-    let same : e ≡ f = entry_once d e f names h fit p.0 in
-    cc
-
-spells_once : (d : Declaration) (es fs : List Entry) (text : List ℕ) → AreDistinctNames (operation_names d) → All EntryFits es → All EntryFits fs → Spells d text es → Spells d text fs → es ≡ fs
-spells_once d [] fs text names h k (inl s) t = sym (nothing_spelled d fs (subst (λ x. Spells d x fs) s t))
-spells_once d [] fs text names h k (inr s) t = absurd (nonempty_line text [] s)
-spells_once d (e ∷ es) fs text names h k (inl s) t =
-    let fit = All-head EntryFits e es h in
-    let p = spells_cut d (line_text d e.0 e.1) (entries_text d es) fs names.each k (line_is_line d e names.each fit) (subst (λ x. Spells d x fs) (s ∙ first_entry d e es) t) in
-    let fits : All EntryFits (p.0 ∷ p.1) = subst (All EntryFits) p.2 k in
-    let same : e ≡ p.0 = entry_once d e p.0 names fit (All-head EntryFits p.0 p.1 fits) p.3 in
-    let rest : es ≡ p.1 = spells_once d es p.1 (entries_text d es) names (All-tail EntryFits e es h) (All-tail EntryFits p.0 p.1 fits) (inl refl) p.4 in
-    let is = p.2 in cc
-spells_once d (e ∷ []) fs text names h k (inr s) t =
-    let fit = All-head EntryFits e [] h in
-    let is : text ≡ line_text d e.0 e.1 = append_cancel_right text (line_text d e.0 e.1) (10 ∷ []) (s ∙ first_entry d e []) in
-    last_once d e fs names fit k (subst (λ x. Spells d x fs) is t)
-spells_once d (e ∷ (g ∷ es)) fs text names h k (inr s) t =
-    let fit = All-head EntryFits e (g ∷ es) h in
-    let q = ends_in_feed d g es in
-    let regroup : line_text d e.0 e.1 ++ 10 ∷ (q.0 ++ 10 ∷ []) ≡ (line_text d e.0 e.1 ++ 10 ∷ q.0) ++ 10 ∷ [] = sym (append_assoc (line_text d e.0 e.1) (10 ∷ q.0) (10 ∷ [])) in
-    let cut : text ≡ line_text d e.0 e.1 ++ 10 ∷ q.0 = append_cancel_right text (line_text d e.0 e.1 ++ 10 ∷ q.0) (10 ∷ []) (s ∙ first_entry d e (g ∷ es) ∙ ap (λ x. line_text d e.0 e.1 ++ 10 ∷ x) q.1 ∙ regroup) in
-    let p = spells_cut d (line_text d e.0 e.1) q.0 fs names.each k (line_is_line d e names.each fit) (subst (λ x. Spells d x fs) cut t) in
-    let fits : All EntryFits (p.0 ∷ p.1) = subst (All EntryFits) p.2 k in
-    let same : e ≡ p.0 = entry_once d e p.0 names fit (All-head EntryFits p.0 p.1 fits) p.3 in
-    let rest : g ∷ es ≡ p.1 = spells_once d (g ∷ es) p.1 q.0 names (All-tail EntryFits e (g ∷ es) h) (All-tail EntryFits p.0 p.1 fits) (inr (sym q.1)) p.4 in
-    let is = p.2 in cc
-
 -- any attempts of a text are these
 pub one_reading : (d : Declaration) (text : List ℕ) (es : List Entry) → AreDistinctNames (operation_names d) → IsAttemptsText d text es → (fs : List Entry) → IsAttemptsText d text fs → fs ≡ es
-one_reading d text es names t fs u = spells_once d fs es text names u.fits t.fits u.spelled t.spelled
+one_reading d text es names t fs u =
+    let clean : (e : Entry) → EntryFits e → HasNone 10 (entry_text d e) = λ e fit. line_is_line d e names.each fit in
+    let some : (e : Entry) → entry_text d e ≢ [] = λ e is. number_is_some e.0 (attempt_text d e.1) is in
+    let once : (e f : Entry) → EntryFits e → EntryFits f → entry_text d e ≡ entry_text d f → e ≡ f = λ e f h k is. entry_once d e f names h k is in
+    spells_once Entry (entry_text d) EntryFits clean some once fs es text u.fits t.fits u.spelled t.spelled

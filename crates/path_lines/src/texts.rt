@@ -1,11 +1,12 @@
 //! Texts of attempts, one a line.
 
-ghost use Rattle.std.specs.Prelude.{◌≡◌, ◌≢◌, ◌<◌, ◌↔◌, ◌+◌, ◌≤◌, ℕ, List, length, drop, IfOk, IfErr, OnErr, IsErrOf};
-ghost use Rattle.path_system.specs.declared.texts.TextFault.TheVariants.{OutOfMemory};
-ghost use Rattle.path_system.specs.AttemptTexts.{Entry, IsAttemptsText, IsNoAttemptsText, IsTextFault, fault_of};
+ghost use Rattle.std.specs.Prelude.{◌≡◌, ◌≢◌, ◌<◌, ◌↔◌, List, length, IfOk, IfErr, IsErrOf};
+ghost use Rattle.path_lines.specs.declared.texts.TextFault.TheVariants.{OutOfMemory};
+ghost use Rattle.path_lines.specs.AttemptTexts.{Entry, IsAttemptsText, IsNoAttemptsText, IsTextFault, fault_of};
 
 use crate::entry::{LineFault, first_entry};
 use path_decl::Decl;
+use path_fields::after_line;
 use path_model::Attempt;
 use std::alloc::{AllocError, AllocFailed, Allocator};
 use thiserror::Error;
@@ -50,14 +51,6 @@ impl<T: Drop> From<AllocFailed<T>> for TextFault {
 fn lines_at_most(text: &[u8]) -> usize {
     let ends = text.iter().filter(|byte| **byte == b'\n').count();
     ends.min(text.len() / 10) + 1
-}
-
-/// What follows a line of this length and its line feed, which the last line of a text may lack.
-fn after_line(text: &[u8], line: usize) -> &[u8]
-    requires { line ≤ length text.now }
-    ensures { result.now ≡ drop (line + 1) text.now }
-{
-    text.get(line + 1..).unwrap_or(&[])
 }
 
 /// The text fault of a line's fault.

@@ -1,0 +1,6 @@
+pub mod CallerLemmas
+pub mod NameLemmas
+pub mod EntryLemmas
+pub mod WholeTexts
+pub mod AttemptLemmas
+pub mod OneReading

@@ -1,0 +1,10 @@
+//! The texts of attempts, and of the lines of a journal: each has one, and is read from it.
+#![tactic(auto)]
+
+mod entry;
+mod lines;
+mod texts;
+
+pub use entry::{FirstLine, LineFault, first_entry};
+pub use lines::{push_line, push_reply, write_line};
+pub use texts::{LIMIT, TextFault, fault_at, read_attempts};
