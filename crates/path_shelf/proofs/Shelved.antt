@@ -12,7 +12,7 @@ use Rattle.path_shelf.specs.States.{State, Acts, ActsAt, state_at, laws_of}
 use Rattle.path_shelf.specs.Shelves.{declared_laws}
 
 -- the state past the end
-abbrev nothing : State
+abbrev pub nothing : State
 nothing = record { law = Cell; contents = []; failures = 0 }
 
 -- the state of what stands at a place
@@ -36,7 +36,7 @@ law_at-map f xs i a d h =
     get_or-map (λ (s : State). s.law) (map f xs) i nothing d within ∙ ap (λ (s : State). s.law) (get_or-map f xs i a nothing h)
 
 -- the law of a resource
-law_declared : (d : Declaration) (i : ℕ) (l : Law) → i < length d.resources → get_or (declared_laws d) i l ≡ law_of d i
+pub law_declared : (d : Declaration) (i : ℕ) (l : Law) → i < length d.resources → get_or (declared_laws d) i l ≡ law_of d i
 law_declared d i l h = get_or-map (λ (r : Resource). r.law) d.resources i (record { name = []; law = Cell }) l h
 
 -- one more device has the law of its resource

@@ -1,5 +1,5 @@
 -- One more device has the law of its resource.
-use Rattle.std.proofs.Common.{rules, ◌≡◌, ◌<◌, length, arith}
+use Rattle.std.proofs.Common.{rules, ◌<◌, length}
 use Rattle.path_shelf.proofs.Shelved.{laws_more}
 use Rattle.path_shelf.proofs.shelf.shelf_fault.Goals as goal
 

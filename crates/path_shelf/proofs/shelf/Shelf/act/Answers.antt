@@ -1,5 +1,5 @@
 -- The device at the place acts, and is put back.
-use Rattle.std.proofs.Common.{rules, length, ◌<◌, ap, arith}
+use Rattle.std.proofs.Common.{length, ◌<◌, ap, arith}
 use Rattle.std.proofs.lemmas.List.{length-map}
 use Rattle.path_shelf.proofs.Shelved.{acts_at}
 use Rattle.path_shelf.proofs.shelf.Shelf.act.Goals as goal

@@ -1,5 +1,4 @@
 -- The device at the place is another.
-use Rattle.std.proofs.Common.{rules}
 use Rattle.std.proofs.lemmas.List.{map-set}
 use Rattle.path_shelf.proofs.shelf.Shelf.replace.Goals as goal
 
