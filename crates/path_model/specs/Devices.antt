@@ -1,5 +1,5 @@
 -- The table of the laws: what a device answers to a verb, and what it then contains.
-use Rattle.std.specs.Prelude.{ℕ, ◌+◌, ◌^◌, List, [], ◌∷◌, ◌++◌, length, slice_index, nat_lt, if◌then◌else◌}
+use Rattle.std.specs.Prelude.{◌≡◌, ◌≤◌, ℕ, ◌+◌, ◌^◌, List, [], ◌∷◌, ◌++◌, length, slice_index, nat_lt, if◌then◌else◌}
 use Rattle.path_model.specs.declared.resource.Law.{Law}
 use Rattle.path_model.specs.declared.resource.Law.TheVariants.{Cell, Tally, Queue}
 use Rattle.path_model.specs.declared.journal.Verb.{Verb}
@@ -45,3 +45,9 @@ outcome_of (Queue n) (Add x) held = refuses NotOffered
 abbrev pub contents_left : Outcome → List ℕ → List ℕ
 contents_left (serves x rest) held = rest
 contents_left (refuses r) held = held
+
+-- contents that a device of this law may have: one number, or at most as many as a queue's capacity
+abbrev pub Fits : Law → List ℕ → Type 0
+Fits Cell held = length held ≡ 1
+Fits Tally held = length held ≡ 1
+Fits (Queue n) held = length held ≤ n

@@ -1,0 +1,17 @@
+//! The devices behind the resources of a declaration.
+//!
+//! A [`Device`] keeps a law: it is a cell, a tally or a queue, or the caller's own. A [`Shelf`] holds one for each resource.
+#![tactic(auto)]
+
+mod boxed;
+mod cell;
+mod device;
+mod queue;
+mod shelf;
+mod tally;
+
+pub use cell::Cell;
+pub use device::{ActFault, Device};
+pub use queue::Queue;
+pub use shelf::{Shelf, ShelfFault};
+pub use tally::Tally;

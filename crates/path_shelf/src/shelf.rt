@@ -1,0 +1,132 @@
+//! One device for each resource of a declaration.
+
+ghost use Rattle.std.specs.Prelude.{◌≡◌, ◌<◌, ◌↔◌, length, map, slice_get, slice_set, IsOk, IsTrue, IfOk, IfErr, OnOk, OnErr, MatchOption};
+ghost use Rattle.path_model.specs.Declarations as declarations;
+ghost use Rattle.path_model.specs.Devices.{Fits};
+ghost use Rattle.path_shelf.specs.States.{ActsAt, state_at, laws_of};
+ghost use Rattle.path_shelf.specs.Shelves.{IsShelfFault, declared_laws};
+
+use crate::device::{ActFault, Device};
+use path_decl::{Decl, counts, law_of};
+use path_model::{Law, ResId, Verb};
+use std::alloc::{Allocator, Global};
+use std::marker::Model;
+
+/// Why devices make no shelf.
+#[derive(Clone, Copy, Debug, PartialEq, Eq)]
+pub enum ShelfFault {
+    /// There isn't one device for each resource.
+    WrongCount,
+    /// This resource is the first whose law its device doesn't have.
+    WrongDevice(ResId),
+}
+
+/// The devices of a declaration's resources, in order. Contracts see their states. No call takes memory. To drop a
+/// shelf is to drop each device.
+#[derive(Drop)]
+pub struct Shelf<D: Device, A: Allocator + Copy = Global> {
+    devices: Vec<D, A>,
+}
+
+impl<D: Device, A: Allocator + Copy> Model for Shelf<D, A> {
+    ghost use Rattle.std.specs.Prelude.{List, map};
+    ghost use Rattle.path_shelf.specs.States.{State};
+
+    ghost Value = { List State };
+
+    ghost view = { λ s. map D.state s.devices.items };
+}
+
+impl<D: Device, A: Allocator + Copy> Shelf<D, A> {
+    /// A shelf of these devices, one for each resource of the declaration, and of its law; for a queue the capacity counts.
+    ///
+    /// It is a `WrongCount` where there isn't one for each, and else a `WrongDevice` where one has another law. The devices then
+    /// come back, in their order. The cost is one look at each.
+    pub fn open(devices: Vec<D, A>, decl: &Decl<A>) -> Result<Shelf<D, A>, (ShelfFault, Vec<D, A>)>
+        ensures ok { IfOk result (λ shelf. shelf ≡ map D.state devices.items) }
+        ensures laws { OnOk result (laws_of (map D.state devices.items) ≡ declared_laws decl.now.declaration) }
+        ensures fault { IfErr result (λ refusal. IsShelfFault (map D.state devices.items) decl.now.declaration refusal.0) }
+        ensures back { IfErr result (λ refusal. refusal.1.items ≡ devices.items) }
+    {
+        match shelf_fault(&devices, decl) {
+            Some(fault) => Err((fault, devices)),
+            None => Ok(Shelf { devices }),
+        }
+    }
+
+    /// The device of the resource, which is declared, answers the verb as its law says. All other devices stay.
+    pub fn act(&mut self, resource: ResId, verb: Verb) -> Result<u64, ActFault>
+        requires { resource.0 < length self.old }
+        ensures { ActsAt self.old resource.0 verb result self.new }
+    {
+        self.devices[resource.0 as usize].act(verb)
+    }
+
+    /// The number at a place of what the resource contains; `None` past the end. The resource is declared.
+    pub fn at(&self, resource: ResId, place: u32) -> Option<u64>
+        requires { resource.0 < length self.now }
+        ensures { result ≡ slice_get (state_at self.now resource.0).contents place }
+    {
+        self.devices[resource.0 as usize].at(place)
+    }
+
+    /// The law of the resource, which is declared.
+    pub fn law(&self, resource: ResId) -> Law
+        requires { resource.0 < length self.now }
+        ensures law { result ≡ (state_at self.now resource.0).law }
+        ensures fits { Fits (state_at self.now resource.0).law (state_at self.now resource.0).contents }
+    {
+        self.devices[resource.0 as usize].law()
+    }
+
+    /// How often the device of the resource has failed. The resource is declared.
+    pub fn failures(&self, resource: ResId) -> u64
+        requires { resource.0 < length self.now }
+        ensures { result ≡ (state_at self.now resource.0).failures }
+    {
+        self.devices[resource.0 as usize].failures()
+    }
+
+    /// Puts this device in the place of the resource's own, which is dropped. The resource is declared.
+    ///
+    /// A device of another law is handed back, and all devices stay. Otherwise all others do.
+    pub fn replace(&mut self, resource: ResId, device: D) -> Result<(), D>
+        requires { resource.0 < length self.old }
+        ensures same_law { IsOk result ↔ ((D.state device).law ≡ (state_at self.old resource.0).law) }
+        ensures replaced { OnOk result (self.new ≡ slice_set self.old resource.0 (D.state device)) }
+        ensures back { IfErr result (λ refused. refused ≡ device) }
+        ensures kept { OnErr result (self.new ≡ self.old) }
+    {
+        let held = &mut self.devices[resource.0 as usize];
+        if held.law() != device.law() {
+            return Err(device);
+        }
+        *held = device;
+        Ok(())
+    }
+}
+
+/// Whether the device has the law of the resource.
+fn has_its_law<D: Device, A: Allocator + Copy>(device: &D, decl: &Decl<A>, resource: ResId) -> bool
+    requires { resource.0 < length decl.now.declaration.resources }
+    ensures { IsTrue result ↔ ((D.state device.now).law ≡ declarations.law_of decl.now.declaration resource.0) }
+{
+    law_of(decl, resource) == Some(device.law())
+}
+
+/// Why these devices make no shelf, if they don't.
+fn shelf_fault<D: Device, A: Allocator + Copy>(devices: &[D], decl: &Decl<A>) -> Option<ShelfFault>
+    ensures { MatchOption result (laws_of (map D.state devices.now) ≡ declared_laws decl.now.declaration)
+        (IsShelfFault (map D.state devices.now) decl.now.declaration) }
+{
+    if devices.len() != counts(decl).resources as usize {
+        return Some(ShelfFault::WrongCount);
+    }
+    for (i, device) in devices.iter().enumerate() {
+        let resource = ResId(i as u32);
+        if !has_its_law(device, decl, resource) {
+            return Some(ShelfFault::WrongDevice(resource));
+        }
+    }
+    None
+}

@@ -1,0 +1,11 @@
+//! Tests of the public calls of devices and shelves. The crate has no other code, so that no library is proved twice.
+#![tactic(auto)]
+
+#[cfg(test)]
+mod laws;
+#[cfg(test)]
+mod own;
+#[cfg(test)]
+mod remembering;
+#[cfg(test)]
+mod shelf;
