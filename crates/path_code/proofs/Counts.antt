@@ -2,12 +2,11 @@
 use Rattle.std.proofs.Common.{◌≡◌, ◌+◌, ◌*◌, ◌≤◌, ℕ, zero, suc, List, [], ◌∷◌, length, map, replicate, arith, refl, ◌∙◌, All}
 use Rattle.std.proofs.lemmas.List.{length-append, length-map, length-replicate}
 use Rattle.std.proofs.lemmas.List.Elements.{All-head, All-tail}
-use Rattle.path_model.specs.Trees.{any, most, Tree, op, seq, alt, burst, NoBraces, NoNesting, WellFormed, FewAtOnce}
+use Rattle.path_model.specs.Trees.{any, most, Tree, op, seq, alt, burst, NoNesting, WellFormed}
 use Rattle.path_model.specs.Legal.{Every, numbered}
 use Rattle.path_model.specs.Machine.{semicolons, braces}
 use Rattle.path_model.specs.Flat.{counted_braces, semaphores_in, Sited}
 use Rattle.path_model.specs.Declarations.{Path, Declaration}
-use Rattle.path_model.proofs.CallerLemmas.{every_map}
 use Rattle.path_decl.specs.Lawful.{names_count, Lawful}
 use Rattle.path_code.specs.Names.{names_in}
 use Rattle.path_code.specs.PathCodes.{bounds_in, numbered_values, numbers_from, opening_values, semaphores_of, braces_of, op_of_path, ops_of, numbered_trees, total_semaphores, total_braces}
@@ -117,19 +116,10 @@ pub length_ops : (x : Sited) → length (ops_of x) ≡ names_count x.tree
 length_ops x = length-map (names_in x.tree) (op_of_path x) ∙ length_names x.tree
 
 -- the paths of a declaration are lawful
-plain_few : (s : Tree) → NoBraces s → FewAtOnce s
-plain_few (op a) n = tt
-plain_few (seq s t) n = (plain_few s n.0, plain_few t n.1)
-plain_few (alt s t) n = (plain_few s n.0, plain_few t n.1)
-plain_few (burst b s) n = absurd n
-
-few_at_once : (d : Declaration) → Lawful d → Every FewAtOnce (numbered_trees d.paths)
-few_at_once d L = every_map plain_few (numbered_trees d.paths) L.plain
-
 pub lawful_paths : (d : Declaration) → Lawful d → LawfulPaths d.paths
 lawful_paths d L = record {
   well_formed = L.well_formed;
-  few_at_once = few_at_once d L;
+  few_at_once = L.bounded;
   few_names = L.few_names;
   few_operations = λ k p lt a n. let x = (L.named k p lt a n).0 in let f = L.few_operations in omega (arith, x, f);
   few_paths = L.few_paths;
