@@ -1,9 +1,8 @@
 //! Braces, with a bound or without, and the faults that they bring.
 
 use crate::decl::{declared, drawn, expect_faults, expect_read};
-use crate::in_turn::refuse_in_turn;
 use path_decl::{DeclFault, counts, read};
-use refusing::Refusing;
+use refusing::{Refusing, refuse_in_turn};
 use std::alloc::{AllocError, Global};
 use std::test::Fail;
 

@@ -7,6 +7,4 @@ mod braces;
 #[cfg(test)]
 mod decl;
 #[cfg(test)]
-mod in_turn;
-#[cfg(test)]
 mod model;
