@@ -25,6 +25,8 @@ pub use Rattle.path_model.proofs.Trimmed.{same_tree_same, kept_none, kept_every,
 -- the numbers of bounds, where there is none, and what stands in terms
 pub use Rattle.path_model.proofs.OnePath.{bounds_out}
 pub use Rattle.path_model.proofs.FlatNumbers.{rank_before, rank_after, rank_low, rank_apart, bound_within, opening_out, opening_of}
+-- the numbers of bounds, and of what stands in terms
+pub use Rattle.path_model.proofs.Flat.{owns_low, bounds_low}
 pub use Rattle.path_model.proofs.FlatNumbers.{InTable, prologue_has, epilogue_has}
 -- the table of paths without braces
 pub use Rattle.path_model.proofs.FlatNumbers.{none_counted}
