@@ -22,10 +22,9 @@ pub use Rattle.path_model.proofs.Upward.{has_names, names_has, path_left, path_r
 pub use Rattle.path_model.proofs.AllPaths.{every_map, every_both, every_from, every_to, first_from, first_to, first_same, none_same, on_tree, placed, after_placed, now}
 -- equal trees, and the kept paths with the values of each
 pub use Rattle.path_model.proofs.Trimmed.{same_tree_same, kept_none, kept_every, lean_now, lean_after_placed}
--- the numbers of bounds, where there is none, and what stands in terms
+-- the numbers of bounds, where there is none, and of what stands in terms
 pub use Rattle.path_model.proofs.OnePath.{bounds_out}
 pub use Rattle.path_model.proofs.FlatNumbers.{rank_before, rank_after, rank_low, rank_apart, bound_within, opening_out, opening_of}
--- the numbers of bounds, and of what stands in terms
 pub use Rattle.path_model.proofs.Flat.{owns_low, bounds_low}
 pub use Rattle.path_model.proofs.FlatNumbers.{InTable, prologue_has, epilogue_has}
 -- the table of paths without braces

@@ -3,4 +3,5 @@ pub mod Ranges
 pub mod LeftOver
 pub mod Lawful
 pub mod Walk
+pub mod Listed
 pub mod CallerLemmas

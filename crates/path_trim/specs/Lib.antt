@@ -4,6 +4,7 @@ pub mod Known
 pub mod Compared
 pub mod LeanTable
 pub mod RemovedList
+pub mod LeanListing
 pub mod Totals
 pub mod FirstEqual
 pub mod Steps

@@ -7,9 +7,11 @@
 mod equal;
 mod lean;
 mod left;
+mod listing;
 mod table;
 mod trimming;
 
 pub use lean::{Lean, kept, removed};
+pub use listing::lean_listing;
 pub use table::{LeanOp, LeanPath, Removed};
 pub use trimming::trim;
