@@ -20,10 +20,10 @@ pub use Rattle.path_model.proofs.Upward.{has_names, names_has, path_left, path_r
 -- lists of paths with numbers, and the values of all paths as those of each
 pub use Rattle.path_model.proofs.AllPaths.{every_map, every_both, every_from, every_to, first_from, first_to, first_same, none_same, on_tree, placed, after_placed, now}
 -- the kept paths, with the values of each
-pub use Rattle.path_model.proofs.Trimmed.{kept_none, kept_every, lean_now, lean_after_placed}
+pub use Rattle.path_model.proofs.Trimmed.{same_tree_same, kept_none, kept_every, lean_now, lean_after_placed}
 -- the numbers of bounds, and where there is none
 pub use Rattle.path_model.proofs.OnePath.{bounds_out}
-pub use Rattle.path_model.proofs.FlatNumbers.{rank_low, rank_apart, bound_within}
+pub use Rattle.path_model.proofs.FlatNumbers.{rank_before, rank_after, rank_low, rank_apart, bound_within}
 -- the table of paths without braces
 pub use Rattle.path_model.proofs.FlatNumbers.{none_counted}
 pub use Rattle.path_model.proofs.Flat.{plain_openings}

@@ -136,13 +136,13 @@ one_bound : (bd : Bound) → IsBound bd → bound_count bd ≡ 1
 one_bound any b = absurd b
 one_bound (most n) b = refl
 
-rank_before : (s : Tree) (m c : ℕ) → c ≤ m → rank s m c ≡ 0
+pub rank_before : (s : Tree) (m c : ℕ) → c ≤ m → rank s m c ≡ 0
 rank_before (op a) m c l = refl
 rank_before (seq s t) m c l = let x = rank_before s m c l in let y = rank_before t (m + braces s) c (omega (arith, l)) in omega (arith, x, y)
 rank_before (alt s t) m c l = let x = rank_before s m c l in let y = rank_before t (m + braces s) c (omega (arith, l)) in omega (arith, x, y)
 rank_before (burst bd s) m c l = let x = before_no bd m c l in let y = rank_before s (m + 1) c (omega (arith, l)) in omega (arith, x, y)
 
-rank_after : (s : Tree) (m c : ℕ) → m + braces s ≤ c → rank s m c ≡ counted_braces s
+pub rank_after : (s : Tree) (m c : ℕ) → m + braces s ≤ c → rank s m c ≡ counted_braces s
 rank_after (op a) m c l = refl
 rank_after (seq s t) m c l = let x = rank_after s m c (omega (arith, l)) in let y = rank_after t (m + braces s) c (omega (arith, l)) in omega (arith, x, y)
 rank_after (alt s t) m c l = let x = rank_after s m c (omega (arith, l)) in let y = rank_after t (m + braces s) c (omega (arith, l)) in omega (arith, x, y)

@@ -254,7 +254,7 @@ same_bound_same (most n) (most m) h = ap most (eqb-true n m h)
 same_bound_same any (most m) h = absurd (false_true h)
 same_bound_same (most n) any h = absurd (false_true h)
 
-same_tree_same : (s t : Tree) → same_tree s t ≡ true → s ≡ t
+pub same_tree_same : (s t : Tree) → same_tree s t ≡ true → s ≡ t
 same_tree_same (op a) (op b) h = ap op (op_same a b (eqb-true a.0 b.0 h))
 same_tree_same (seq s t) (seq u v) h =
     let p = and_parts (same_tree s u) (same_tree t v) h in
