@@ -1,7 +1,10 @@
-pub mod GateRows
-pub mod GatePasses
-pub mod GateMoves
-pub mod GateJudges
-pub mod GateSound
-pub mod GateTable
-pub mod GateOpen
+pub mod OnePath
+pub mod Passes
+pub mod KeptPaths
+pub mod Counts
+pub mod Fits
+pub mod Sound
+pub mod Runs
+pub mod OpeningValues
+pub mod Opened
+pub mod Adding

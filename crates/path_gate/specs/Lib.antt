@@ -1,3 +1,7 @@
+pub mod Levels
+pub mod Sites
 pub mod Standings
-pub mod Rows
-pub mod Translation
+pub mod Terms
+pub mod Soundness
+pub mod Opening
+pub mod Inside

@@ -8,44 +8,44 @@ use Rattle.path_model.specs.declared.history.Event.TheVariants.{Began, Ended}
 use Rattle.path_model.specs.Trees.{Tree, Names}
 use Rattle.path_model.specs.Histories.{begun, ended}
 use Rattle.path_model.specs.Legal as legal
-use Rattle.path_model.specs.Declarations.{Declaration, paths_of}
-use Rattle.path_model.specs.Flat.{sited, flat_from, flat_opening}
+use Rattle.path_model.specs.Machine.{opening}
+use Rattle.path_model.specs.Trimmed.{lean_among}
 use Rattle.path_decl.specs.Stored.{tree_code}
+use Rattle.path_gate.specs.Levels.{levels}
+use Rattle.path_gate.specs.Sites.{kept_paths, Shows}
 
--- the trees of all paths with their numbers, the values of all semaphores in one table, how often each operation is
--- in progress, and how many starts were admitted
+-- the trees of all paths with their numbers, the values of all semaphores and of all counters, how often each operation is in
+-- progress, and how many starts were admitted
 pub record Standing : Type 0 where
   pub paths : List (ℕ × Tree)
   pub semaphores : List ℕ
+  pub counters : List ℕ
   pub in_progress : List ℕ
   pub admitted : ℕ
 
--- that of a gate over the paths of a declaration
-abbrev pub standing_of : Declaration → List ℕ → List ℕ → ℕ → Standing
-standing_of d semaphores in_progress admitted =
-    record { paths = paths_of d; semaphores = semaphores; in_progress = in_progress; admitted = admitted }
-
--- a standing is stored as its four parts
+-- a standing is stored as its five parts
 abbrev pub standing_code : Coded Standing
 standing_code =
-    code_by (List (ℕ × Tree) × (List ℕ × (List ℕ × ℕ)))
-    (coded× (coded_list (coded× coded_ℕ tree_code)) (coded× (coded_list coded_ℕ) (coded× (coded_list coded_ℕ) coded_ℕ)))
-    (λ g. (g.paths, (g.semaphores, (g.in_progress, g.admitted))))
-    (λ p. record { paths = p.0; semaphores = p.1.0; in_progress = p.1.1.0; admitted = p.1.1.1 }) (λ _. refl)
+    code_by (List (ℕ × Tree) × (List ℕ × (List ℕ × (List ℕ × ℕ))))
+    (coded× (coded_list (coded× coded_ℕ tree_code))
+    (coded× (coded_list coded_ℕ) (coded× (coded_list coded_ℕ) (coded× (coded_list coded_ℕ) coded_ℕ))))
+    (λ g. (g.paths, (g.semaphores, (g.counters, (g.in_progress, g.admitted)))))
+    (λ p. record { paths = p.0; semaphores = p.1.0; counters = p.1.1.0; in_progress = p.1.1.1.0; admitted = p.1.1.1.1 }) (λ _. refl)
 
 -- a path names the operation
 abbrev pub IsNamed : List (ℕ × Tree) → OpId → Type 0
 IsNamed xs a = legal.NoneOf (λ s. Names s a) xs → ⊥
 
--- The gate is at a history: it has the values of the semaphore machine after it, and for each operation that a path
--- names it tells how often it began there and hasn't ended.
+-- The gate is at a history: of each path that is kept it has the values of the trimmed semaphores after it, and for each operation
+-- that a path names it tells how often it began there and hasn't ended.
 pub record IsAt (g : Standing) (h : List Event) : Type 0 where
-  pub semaphores : (q : ℕ) → slice_index g.semaphores q ≡ (flat_from (sited 0 0 g.paths) (flat_opening (sited 0 0 g.paths)) h).semaphore q
+  pub values : legal.Every (λ x. Shows (levels g.semaphores g.counters) (lean_among x.tree (opening x.tree) h) x) (kept_paths g.paths)
   pub progress : (a : OpId) → IsNamed g.paths a → slice_index g.in_progress a.0 + ended a h ≡ begun a h
 
 -- a start is let through exactly where it keeps each legal history legal at which the gate is; else the first path that forbids it is named
 abbrev pub Judges : {E : Type 0} → Standing → OpId → Result E PathId → Type 0
-Judges g a result = (h : List Event) → legal.Legal g.paths h → IsAt g h
+Judges g a result =
+    (h : List Event) → legal.Legal g.paths h → IsAt g h
     → MatchResult result (λ ok. legal.Legal g.paths (h ++ Began a ∷ [])) (λ p. legal.First (legal.Forbids h a) g.paths p.0)
 
 -- the gate goes on by an admitted start
@@ -53,6 +53,12 @@ pub record Admitted (old : Standing) (a : OpId) (new : Standing) : Type 0 where
   pub paths : new.paths ≡ old.paths
   pub admitted : new.admitted ≡ old.admitted + 1
   pub moved : (h : List Event) → IsAt old h → IsAt new (h ++ Began a ∷ [])
+
+-- each path that forbade a start of any operation still does after this one
+abbrev pub BlocksStay : Standing → OpId → Type 0
+BlocksStay g a =
+    (h : List Event) → legal.Legal g.paths h → IsAt g h → (b : OpId)
+    → legal.Every (λ s. legal.Forbids h b s → legal.Forbids (h ++ Began a ∷ []) b s) g.paths
 
 -- the gate goes on by a finish
 pub record Released (old : Standing) (a : OpId) (new : Standing) : Type 0 where

@@ -1,45 +1,129 @@
 //! Admission over several paths.
 //!
-//! Each path is translated to semaphores as Campbell and Habermann describe (1974): it has one of its own, which opens
-//! at 1, and one for each `;`, which opens at 0. All paths' semaphores stand in one table. A start takes one from a
-//! semaphore of each path that names its operation, and is refused if one of these is 0; a finish gives one to another.
-//! `specs/Standings.antt` says at which histories a gate is, and what it answers there.
+//! Each path is a few semaphores and counters, as Campbell and Habermann describe (1974), of which only the useful ones are left.
+//! Those of all paths stand in one table. A start does its prologue in each path that names its operation, and is refused if one of
+//! these can't pass; a finish does its epilogues. `specs/Standings.antt` says at which histories a gate is, and what it answers there.
 
-ghost use Rattle.std.specs.Prelude.{◌≡◌, ◌≢◌, ◌+◌, ◌<◌, length, All, IfOk, OnOk, OnErr, MatchResult, slice_index, []};
+ghost use Rattle.std.specs.Prelude.{◌≡◌, ◌≢◌, ◌+◌, ◌<◌, ◌≤◌, length, All, IfOk, OnOk, OnErr, MatchResult, slice_index, slice_index_or, []};
 ghost use Rattle.path_model.specs.Trees.{Names};
 ghost use Rattle.path_model.specs.Legal as legal;
-ghost use Rattle.path_model.specs.Declarations.{paths_of};
-ghost use Rattle.path_gate.specs.Standings.{IsNamed, IsAt, Judges, Admitted, Released};
-ghost use Rattle.path_gate.specs.Rows.{blocking, taken, given, CanTake, CanGive, one_more, one_less};
-ghost use Rattle.path_gate.specs.Translation.{terms_for};
+ghost use Rattle.path_gate.specs.Standings.{IsNamed, IsAt, Judges, Admitted, BlocksStay, Released};
+ghost use Rattle.path_gate.specs.Levels as spec;
+ghost use Rattle.path_gate.specs.Levels.{levels, PrologueWithin, EpilogueWithin, CanEnter, CanLeave, CanStart, CanFinish};
+ghost use Rattle.path_gate.specs.Terms.{IsWithin, blocking, all_started, all_finished, CanStartAll, CanFinishAll, one_more, one_less};
+ghost use Rattle.path_gate.specs.Soundness.{IsLaidOut, runs_of};
 
 mod table;
 
-use crate::gate::table::{add_path, no_counts, no_terms};
-use path_decl::{Decl, counts, tree_of};
+use crate::gate::table::{add_path, in_one_list, no_counts, no_terms};
+use path_code::{Epilogue, Prologue};
 use path_model::{OpId, OutOfMemory, PathId};
+use path_trim::{Lean, kept};
 use std::alloc::{Allocator, Global};
 use std::marker::Model;
 use std::snapshot::Snapshot;
 
-/// What an operation asks of the semaphores of one path.
-#[derive(Clone, Copy, Debug, PartialEq, Eq)]
+/// What an operation asks of one path that names it.
+#[derive(Clone, Copy)]
 struct Term {
-    /// The path, which names the operation.
+    /// The path.
     path: PathId,
-    /// The semaphore from which a start takes one.
-    wait: u32,
-    /// The semaphore to which a finish gives one.
-    signal: u32,
+    /// What a start waits on; `None` where it always passes.
+    prologue: Option<Prologue>,
+    /// What a finish gives back; `None` where that is nothing.
+    epilogue: Option<Epilogue>,
+}
+
+/// Whether an execution of braces may begin: one is under way already, or the semaphore lets the first one in.
+fn is_open(semaphores: &[u64], counters: &[u64], counter: u32, semaphore: u32) -> bool
+    requires { (counter < length counters.now) × (semaphore < length semaphores.now) }
+    ensures { result ≡ spec.is_open counter semaphore (levels semaphores.now counters.now) }
+{
+    counters[counter as usize] > 0 || semaphores[semaphore as usize] > 0
+}
+
+/// Whether a prologue can pass.
+fn can_pass(semaphores: &[u64], counters: &[u64], prologue: Option<Prologue>) -> bool
+    requires { PrologueWithin (length semaphores.now) (length counters.now) prologue }
+    ensures { result ≡ spec.can_pass prologue (levels semaphores.now counters.now) }
+{
+    match prologue {
+        None => true,
+        Some(Prologue::P(semaphore)) => semaphores[semaphore as usize] > 0,
+        Some(Prologue::PP(counter, semaphore)) => is_open(semaphores, counters, counter, semaphore),
+        Some(Prologue::PPN(counter, semaphore, bound)) => {
+            semaphores[bound as usize] > 0 && is_open(semaphores, counters, counter, semaphore)
+        }
+    }
+}
+
+/// Counts one execution more of braces, the first of which takes one from the semaphore.
+fn enter(semaphores: &mut [u64], counters: &mut [u64], counter: u32, semaphore: u32)
+    requires within { (counter < length counters.old) × (semaphore < length semaphores.old) }
+    requires can { CanEnter counter semaphore (levels semaphores.old counters.old) }
+    ensures { levels semaphores.new counters.new ≡ spec.entered counter semaphore (levels semaphores.old counters.old) }
+{
+    if counters[counter as usize] == 0 {
+        semaphores[semaphore as usize] -= 1;
+    }
+    counters[counter as usize] += 1;
+}
+
+/// Counts one execution less of braces, the last of which gives one to the semaphore.
+fn leave(semaphores: &mut [u64], counters: &mut [u64], counter: u32, semaphore: u32)
+    requires within { (counter < length counters.old) × (semaphore < length semaphores.old) }
+    requires can { CanLeave counter semaphore (levels semaphores.old counters.old) }
+    ensures { levels semaphores.new counters.new ≡ spec.left counter semaphore (levels semaphores.old counters.old) }
+{
+    if counters[counter as usize] == 1 {
+        semaphores[semaphore as usize] += 1;
+    }
+    counters[counter as usize] -= 1;
+}
+
+/// Does a prologue, which can pass.
+fn start(semaphores: &mut [u64], counters: &mut [u64], prologue: Option<Prologue>)
+    requires within { PrologueWithin (length semaphores.old) (length counters.old) prologue }
+    requires can { CanStart prologue (levels semaphores.old counters.old) }
+    ensures { levels semaphores.new counters.new ≡ spec.started prologue (levels semaphores.old counters.old) }
+{
+    match prologue {
+        None => {}
+        Some(Prologue::P(semaphore)) => semaphores[semaphore as usize] -= 1,
+        Some(Prologue::PP(counter, semaphore)) => enter(semaphores, counters, counter, semaphore),
+        Some(Prologue::PPN(counter, semaphore, bound)) => {
+            semaphores[bound as usize] -= 1;
+            enter(semaphores, counters, counter, semaphore);
+        }
+    }
+}
+
+/// Does an epilogue.
+fn finish(semaphores: &mut [u64], counters: &mut [u64], epilogue: Option<Epilogue>)
+    requires within { EpilogueWithin (length semaphores.old) (length counters.old) epilogue }
+    requires can { CanFinish epilogue (levels semaphores.old counters.old) }
+    ensures { levels semaphores.new counters.new ≡ spec.finished epilogue (levels semaphores.old counters.old) }
+{
+    match epilogue {
+        None => {}
+        Some(Epilogue::V(semaphore)) => semaphores[semaphore as usize] += 1,
+        Some(Epilogue::VV(counter, semaphore)) => leave(semaphores, counters, counter, semaphore),
+        Some(Epilogue::VVN(counter, semaphore, bound)) => {
+            leave(semaphores, counters, counter, semaphore);
+            semaphores[bound as usize] += 1;
+        }
+    }
 }
 
 /// The checking pass, which writes nothing.
-fn first_blocked(semaphores: &[u64], terms: &[Term]) -> Result<(), PathId>
-    requires { All (λ t. t.wait < length semaphores.now) terms.now }
-    ensures { MatchResult result (λ _. blocking terms.now semaphores.now ≡ None) (λ path. blocking terms.now semaphores.now ≡ Some path) }
+fn first_blocked(semaphores: &[u64], counters: &[u64], terms: &[Term]) -> Result<(), PathId>
+    requires { All (IsWithin (length semaphores.now) (length counters.now)) terms.now }
+    ensures { MatchResult result
+        (λ _. blocking terms.now (levels semaphores.now counters.now) ≡ None)
+        (λ path. blocking terms.now (levels semaphores.now counters.now) ≡ Some path) }
 {
     for term in terms {
-        if semaphores[term.wait as usize] == 0 {
+        if !can_pass(semaphores, counters, term.prologue) {
             return Err(term.path);
         }
     }
@@ -47,24 +131,24 @@ fn first_blocked(semaphores: &[u64], terms: &[Term]) -> Result<(), PathId>
 }
 
 /// The applying pass of a start.
-fn take(semaphores: &mut [u64], terms: &[Term])
-    requires within { All (λ t. t.wait < length semaphores.old) terms.now }
-    requires can { CanTake terms.now semaphores.old }
-    ensures { semaphores.new ≡ taken terms.now semaphores.old }
+fn start_all(semaphores: &mut [u64], counters: &mut [u64], terms: &[Term])
+    requires within { All (IsWithin (length semaphores.old) (length counters.old)) terms.now }
+    requires can { CanStartAll terms.now (levels semaphores.old counters.old) }
+    ensures { levels semaphores.new counters.new ≡ all_started terms.now (levels semaphores.old counters.old) }
 {
     for term in terms {
-        semaphores[term.wait as usize] -= 1;
+        start(semaphores, counters, term.prologue);
     }
 }
 
 /// The pass of a finish.
-fn give(semaphores: &mut [u64], terms: &[Term])
-    requires within { All (λ t. t.signal < length semaphores.old) terms.now }
-    requires can { CanGive terms.now semaphores.old }
-    ensures { semaphores.new ≡ given terms.now semaphores.old }
+fn finish_all(semaphores: &mut [u64], counters: &mut [u64], terms: &[Term])
+    requires within { All (IsWithin (length semaphores.old) (length counters.old)) terms.now }
+    requires can { CanFinishAll terms.now (levels semaphores.old counters.old) }
+    ensures { levels semaphores.new counters.new ≡ all_finished terms.now (levels semaphores.old counters.old) }
 {
     for term in terms {
-        semaphores[term.signal as usize] += 1;
+        finish(semaphores, counters, term.epilogue);
     }
 }
 
@@ -91,66 +175,72 @@ fn count_finish(in_progress: &mut [u32], terms: &[Term], op: OpId)
 }
 
 /// The terms of an operation; none for one that no path names.
-fn terms_of<A: Allocator + Copy>(by_op: &[Vec<Term, A>], op: OpId) -> &[Term]
-    ensures { result.now ≡ terms_for by_op.now op }
+fn run_of<'a>(terms: &'a [Term], bounds: &[(usize, usize)], op: OpId) -> &'a [Term]
+    requires { IsLaidOut terms.now bounds.now }
+    ensures { result.now ≡ slice_index_or (runs_of terms.now bounds.now) op.0 [] }
 {
-    match by_op.get(op.0 as usize) {
-        Some(terms) => terms,
+    match bounds.get(op.0 as usize) {
+        Some((start, end)) => &terms[*start..*end],
         None => &[],
     }
 }
 
-/// Admission over all paths of a declaration. Contracts see the trees of its paths, the values of its semaphores, how
+/// Admission over all paths of a declaration. Contracts see the trees of its paths, the values of its semaphores and counters, how
 /// often each operation is in progress, and how many starts were admitted.
 #[derive(Drop)]
 pub struct Gate<A: Allocator + Copy = Global> {
     /// What was opened, which only contracts read: it takes no memory.
-    decl: Snapshot<Decl<A>>,
-    /// The terms of each operation, in the order of the paths.
-    by_op: Vec<Vec<Term, A>, A>,
+    lean: Snapshot<Lean<A>>,
+    /// The terms of all operations, those of each in the order of the paths.
+    terms: Vec<Term, A>,
+    /// Where the terms of each operation begin, and where they end.
+    bounds: Vec<(usize, usize), A>,
+    /// The values of the semaphores by their numbers in the file; 0 for those that were removed.
     semaphores: Vec<u64, A>,
+    /// The values of the counters by their numbers in the file; 0 for those that were removed.
+    counters: Vec<u64, A>,
     /// How often each operation that a path names is in progress; 0 for the others.
     in_progress: Vec<u32, A>,
     admitted: u32,
 }
 
 impl<A: Allocator + Copy> Model for Gate<A> {
-    ghost use Rattle.path_gate.specs.Standings.{Standing, standing_of, standing_code};
-    ghost use Rattle.path_gate.specs.Rows.{IsSound};
-    ghost use Rattle.path_gate.specs.Translation.{rows_of};
+    ghost use Rattle.path_gate.specs.Standings.{Standing, standing_code};
+    ghost use Rattle.path_gate.specs.Inside.{standing_in, IsKeeping};
 
     ghost Value = { Standing };
 
     ghost coded = { standing_code };
 
-    ghost view = { λ g. standing_of g.decl.value.declaration g.semaphores.items g.in_progress.items g.admitted };
+    ghost view = { standing_in };
 
-    ghost invariant = { λ g. IsSound
-        (standing_of g.decl.value.declaration g.semaphores.items g.in_progress.items g.admitted) (rows_of g.by_op.items) };
+    ghost invariant = { IsKeeping };
 }
 
 impl<A: Allocator + Copy> Gate<A> {
-    /// A gate over the paths of a declaration, with nothing in progress and nothing admitted.
+    /// A gate over trimmed paths, with nothing in progress and nothing admitted.
     ///
-    /// The only error is want of memory; nothing is kept then. All memory of the gate is taken here. The cost is two walks
-    /// over the tree of each path, and a place for each operation.
-    pub fn open(alloc: A, decl: &Decl<A>) -> Result<Gate<A>, OutOfMemory>
-        ensures paths { IfOk result (λ gate. gate.paths ≡ paths_of decl.now.declaration) }
+    /// The only error is want of memory; nothing is kept then. All memory of the gate is taken here. The cost is one look at each
+    /// semaphore, counter and operation of the paths that are kept, and a place for each operation.
+    pub fn open(alloc: A, lean: Lean<A>) -> Result<Gate<A>, OutOfMemory>
+        ensures paths { IfOk result (λ gate. gate.paths ≡ legal.numbered 0 lean.trees) }
         ensures opened { IfOk result (λ gate. IsAt gate []) }
         ensures admitted { IfOk result (λ gate. gate.admitted ≡ 0) }
     {
-        let counts = counts(decl);
         let mut semaphores = Vec::new(alloc);
-        let mut by_op = no_terms(alloc, counts.operations)?;
-        for number in 0..counts.paths {
-            let tree = tree_of(decl, PathId(number)).unwrap();
-            add_path(&mut semaphores, &mut by_op, PathId(number), tree)?;
+        let mut counters = Vec::new(alloc);
+        let mut by_op = no_terms(alloc)?;
+        for path in kept(&lean) {
+            add_path(&mut semaphores, &mut counters, &mut by_op, path)?;
         }
-        let in_progress = no_counts(alloc, counts.operations)?;
+        let (terms, bounds) = in_one_list(alloc, &by_op)?;
+        let in_progress = no_counts(alloc)?;
         Ok(Gate {
-            decl: Snapshot::of(decl),
-            by_op,
+            lean: Snapshot::of(&lean),
+            terms,
+            bounds,
             semaphores,
+            counters,
             in_progress,
             admitted: 0,
         })
@@ -158,30 +248,32 @@ impl<A: Allocator + Copy> Gate<A> {
 
     /// Whether a start of the operation would be admitted; if not, the first path in the file that forbids it.
     ///
-    /// An operation that no path names is always let through. Nothing changes, and no memory is taken. The cost is one
-    /// look at a semaphore for each path that names the operation.
+    /// An operation that no path names is always let through. Nothing changes, and no memory is taken. The cost is one look at a
+    /// prologue for each path that names the operation.
     pub fn would_admit(&self, op: OpId) -> Result<(), PathId>
         ensures { Judges self.now op result }
     {
-        first_blocked(&self.semaphores, terms_of(&self.by_op, op))
+        let terms = run_of(&self.terms, &self.bounds, op);
+        first_blocked(&self.semaphores, &self.counters, terms)
     }
 
     /// Admits a start of the operation, or answers the first path in the file that forbids it.
     ///
-    /// All paths are asked before a semaphore is written, so after an error the gate is as it was. Fewer than
-    /// 4,294,967,295 starts may have been admitted before. No memory is taken. The cost is two passes over the paths that
-    /// name the operation.
+    /// All paths are asked before a value is written, so after an error the gate is as it was. After a start each path that forbade
+    /// an operation still does. Fewer than 4,294,967,295 starts may have been admitted before. No memory is taken. The cost is two
+    /// passes over the paths that name the operation.
     pub fn admit(&mut self, op: OpId) -> Result<(), PathId>
         requires { self.old.admitted < 4294967295 }
         ensures judges { Judges self.old op result }
         ensures ok { OnOk result (Admitted self.old op self.new) }
+        ensures blocks { OnOk result (BlocksStay self.old op) }
         ensures err { OnErr result (self.new ≡ self.old) }
     {
-        let terms = terms_of(&self.by_op, op);
-        match first_blocked(&self.semaphores, terms) {
+        let terms = run_of(&self.terms, &self.bounds, op);
+        match first_blocked(&self.semaphores, &self.counters, terms) {
             Err(path) => Err(path),
             Ok(()) => {
-                take(&mut self.semaphores, terms);
+                start_all(&mut self.semaphores, &mut self.counters, terms);
                 count_start(&mut self.in_progress, terms, op);
                 self.admitted += 1;
                 Ok(())
@@ -197,8 +289,8 @@ impl<A: Allocator + Copy> Gate<A> {
         ensures moves { Released self.old op self.new }
         ensures unnamed { legal.NoneOf (λ s. Names s op) self.old.paths → self.new ≡ self.old }
     {
-        let terms = terms_of(&self.by_op, op);
-        give(&mut self.semaphores, terms);
+        let terms = run_of(&self.terms, &self.bounds, op);
+        finish_all(&mut self.semaphores, &mut self.counters, terms);
         count_finish(&mut self.in_progress, terms, op);
     }
 

@@ -1,134 +1,145 @@
-//! The table of a gate: the terms of each operation and the opening values of all semaphores.
+//! The table of a gate: the terms of each operation, and the opening values of all semaphores and counters.
 
-ghost use Rattle.std.specs.Prelude.{◌≡◌, ◌+◌, ◌<◌, ◌≤◌, ◌++◌, ◌^◌, length, IfOk, OnOk, replicate, []};
+ghost use Rattle.std.specs.Prelude.{◌≡◌, ◌+◌, ◌-◌, ◌<◌, ◌++◌, length, map, All, IfOk, OnOk, replicate, []};
 ghost use Rattle.path_model.specs.declared.ids.OpId.{OpId};
-ghost use Rattle.path_model.specs.Trees.{shape, NoBraces, WellFormed};
-ghost use Rattle.path_model.specs.Machine.{semicolons};
-ghost use Rattle.path_gate.specs.Translation.{NamesBelow, IsAdded, IsTranslated, rows_of, terms_for, waiting_in, signalled, opening_of};
+ghost use Rattle.path_trim.specs.Rows.{row_of};
+ghost use Rattle.path_gate.specs.Soundness.{IsLaidOut, runs_of};
+ghost use Rattle.path_gate.specs.Opening.{rows_of, terms_for, ops_terms, put_value, put_all, at_zero, IsBelow};
 
 use crate::gate::Term;
-use path_model::{Expr, OpId, OutOfMemory, PathId};
+use path_model::{OutOfMemory, PathId};
+use path_trim::{LeanOp, LeanPath};
 use std::alloc::Allocator;
 
-/// Adds a term for each name of a tree, from the left to the right: it waits where `term` waits, and at the right of a
-/// `;` on the semaphore of that. The first `;` has the number `next`; what is answered is the number after the last one.
-fn add_waits<A: Allocator + Copy>(
-    by_op: &mut Vec<Vec<Term, A>, A>,
-    tree: &Expr<A>,
-    next: u32,
-    term: Term,
-) -> Result<u32, OutOfMemory>
-    requires named { NamesBelow (length by_op.old.items) (shape tree.now) }
-    requires plain { NoBraces (shape tree.now) }
-    requires few { next + semicolons (shape tree.now) < 2 ^ 32 }
-    ensures end { IfOk result (λ end. end ≡ next + semicolons (shape tree.now)) }
-    ensures kept { OnOk result (length by_op.new.items ≡ length by_op.old.items) }
-    ensures added { OnOk result (IsAdded (waiting_in (shape tree.now) next term) by_op.old.items by_op.new.items) }
-{
-    match tree {
-        Expr::Op(op) => {
-            let terms = &mut by_op[op.0 as usize];
-            terms.push(term)?;
-            Ok(next)
-        }
-        Expr::Seq(left, right) => {
-            let middle = add_waits(by_op, left, next, term)?;
-            let after = Term {
-                wait: middle,
-                ..term
-            };
-            add_waits(by_op, right, middle + 1, after)
-        }
-        Expr::Alt(left, right) => {
-            let middle = add_waits(by_op, left, next, term)?;
-            add_waits(by_op, right, middle, term)
-        }
-        Expr::Burst(_) | Expr::Counted(_, _) => unreachable!(),
-    }
-}
+/// The numbers of operations are below this.
+const OPERATIONS: u32 = 256;
 
-/// Lets the last term of each name of a tree give to `signal`, and at the left of a `;` to the semaphore of that. It goes
-/// from the right to the left: the number after the last `;` is `end`, and what is answered is that of the first one.
-fn set_signals<A: Allocator + Copy>(
-    by_op: &mut Vec<Vec<Term, A>, A>,
-    tree: &Expr<A>,
-    end: u32,
-    signal: u32,
-) -> u32
-    requires named { NamesBelow (length by_op.old.items) (shape tree.now) }
-    requires plain { NoBraces (shape tree.now) }
-    requires few { semicolons (shape tree.now) ≤ end }
-    ensures first { result + semicolons (shape tree.now) ≡ end }
-    ensures kept { length by_op.new.items ≡ length by_op.old.items }
-    ensures set { (a : OpId) → terms_for by_op.new.items a ≡ signalled (shape tree.now) result signal a (terms_for by_op.old.items a) }
+/// Makes so many places at least, with 0 in the new ones.
+fn reach<A: Allocator + Copy>(values: &mut Vec<u64, A>, places: usize) -> Result<(), OutOfMemory>
+    ensures { OnOk result (values.new.items ≡ values.old.items ++ replicate (places - length values.old.items) 0) }
 {
-    match tree {
-        Expr::Op(op) => {
-            let terms = &mut by_op[op.0 as usize];
-            if let Some(term) = terms.last_mut() {
-                term.signal = signal;
-            }
-            end
-        }
-        Expr::Seq(left, right) => {
-            let middle = set_signals(by_op, right, end, signal) - 1;
-            set_signals(by_op, left, middle, middle)
-        }
-        Expr::Alt(left, right) => {
-            let middle = set_signals(by_op, right, end, signal);
-            set_signals(by_op, left, middle, signal)
-        }
-        Expr::Burst(_) | Expr::Counted(_, _) => unreachable!(),
+    if places <= values.len() {
+        return Ok(());
     }
-}
-
-/// Adds a path: the semaphores that it opens, and the terms of its operations. The cost is two walks over its tree.
-pub fn add_path<A: Allocator + Copy>(
-    semaphores: &mut Vec<u64, A>,
-    by_op: &mut Vec<Vec<Term, A>, A>,
-    path: PathId,
-    tree: &Expr<A>,
-) -> Result<(), OutOfMemory>
-    requires named { NamesBelow (length by_op.old.items) (shape tree.now) }
-    requires formed { WellFormed (shape tree.now) }
-    requires plain { NoBraces (shape tree.now) }
-    requires few { length semaphores.old.items + semicolons (shape tree.now) + 1 < 2 ^ 32 }
-    ensures opened { OnOk result (semaphores.new.items ≡ semaphores.old.items ++ opening_of (shape tree.now)) }
-    ensures kept { OnOk result (length by_op.new.items ≡ length by_op.old.items) }
-    ensures added { OnOk result (IsTranslated (length semaphores.old.items) path.0 (shape tree.now) by_op.old.items by_op.new.items) }
-{
-    let own = semaphores.len() as u32;
-    let term = Term {
-        path,
-        wait: own,
-        signal: own,
-    };
-    let end = add_waits(by_op, tree, own + 1, term)?;
-    set_signals(by_op, tree, end, own);
-    semaphores.push(1)?;
-    semaphores.resize(end as usize, 0)?;
+    values.resize(places, 0)?;
     Ok(())
 }
 
-/// No terms, for each of so many operations.
-pub fn no_terms<A: Allocator + Copy>(
+/// Writes a value at its number, and 0 in the places below it that weren't there.
+fn put_at<A: Allocator + Copy>(
+    values: &mut Vec<u64, A>,
+    number: u32,
+    value: u64,
+) -> Result<(), OutOfMemory>
+    ensures { OnOk result (values.new.items ≡ put_value values.old.items number value) }
+{
+    let place = number as usize;
+    reach(values, place + 1)?;
+    values[place] = value;
+    Ok(())
+}
+
+/// Writes the opening values of semaphores at their numbers.
+fn put_semaphores<A: Allocator + Copy>(
+    values: &mut Vec<u64, A>,
+    semaphores: &[(u32, u32)],
+) -> Result<(), OutOfMemory>
+    ensures { OnOk result (values.new.items ≡ put_all semaphores.now values.old.items) }
+{
+    for semaphore in semaphores {
+        put_at(values, semaphore.0, semaphore.1 as u64)?;
+    }
+    Ok(())
+}
+
+/// Writes 0 at the numbers of counters.
+fn put_counters<A: Allocator + Copy>(
+    values: &mut Vec<u64, A>,
+    counters: &[u32],
+) -> Result<(), OutOfMemory>
+    ensures { OnOk result (values.new.items ≡ put_all (map at_zero counters.now) values.old.items) }
+{
+    for counter in counters {
+        put_at(values, *counter, 0)?;
+    }
+    Ok(())
+}
+
+/// Adds the terms of a path's operations.
+fn add_terms<A: Allocator + Copy>(
+    by_op: &mut Vec<Vec<Term, A>, A>,
+    path: PathId,
+    ops: &[LeanOp],
+) -> Result<(), OutOfMemory>
+    requires { All (IsBelow (length by_op.old.items)) ops.now }
+    ensures kept { OnOk result (length by_op.new.items ≡ length by_op.old.items) }
+    ensures added { OnOk result ((a : OpId) → terms_for by_op.new.items a ≡ terms_for by_op.old.items a ++ ops_terms path ops.now a) }
+{
+    for lean_op in ops {
+        let terms = &mut by_op[lean_op.op.0 as usize];
+        terms.push(Term {
+            path,
+            prologue: lean_op.prologue,
+            epilogue: lean_op.epilogue,
+        })?;
+    }
+    Ok(())
+}
+
+/// Adds a path that is kept: the opening values of its semaphores and counters, and the terms of its operations. The cost is one
+/// look at each of these.
+pub fn add_path<A: Allocator + Copy>(
+    semaphores: &mut Vec<u64, A>,
+    counters: &mut Vec<u64, A>,
+    by_op: &mut Vec<Vec<Term, A>, A>,
+    path: &LeanPath<A>,
+) -> Result<(), OutOfMemory>
+    requires { All (IsBelow (length by_op.old.items)) (row_of path.now).ops }
+    ensures semaphores { OnOk result (semaphores.new.items ≡ put_all (row_of path.now).semaphores semaphores.old.items) }
+    ensures counters { OnOk result (counters.new.items ≡ put_all (map at_zero (row_of path.now).counters) counters.old.items) }
+    ensures kept { OnOk result (length by_op.new.items ≡ length by_op.old.items) }
+    ensures added { OnOk result ((a : OpId) →
+        terms_for by_op.new.items a ≡ terms_for by_op.old.items a ++ ops_terms path.now.path (row_of path.now).ops a) }
+{
+    put_semaphores(semaphores, &path.semaphores)?;
+    put_counters(counters, &path.counters)?;
+    add_terms(by_op, path.path, &path.ops)
+}
+
+/// All terms in one list, with the places where those of each operation begin and end.
+pub fn in_one_list<A: Allocator + Copy>(
     alloc: A,
-    operations: u32,
-) -> Result<Vec<Vec<Term, A>, A>, OutOfMemory>
-    ensures { IfOk result (λ v. rows_of v.items ≡ replicate operations []) }
+    by_op: &[Vec<Term, A>],
+) -> Result<(Vec<Term, A>, Vec<(usize, usize), A>), OutOfMemory>
+    ensures runs { IfOk result (λ lists. runs_of lists.0.items lists.1.items ≡ rows_of by_op.now) }
+    ensures laid_out { IfOk result (λ lists. IsLaidOut lists.0.items lists.1.items) }
+{
+    let mut terms = Vec::new(alloc);
+    let mut bounds = Vec::new(alloc);
+    for run in by_op {
+        let start = terms.len();
+        terms.extend_from_slice(run)?;
+        bounds.push((start, terms.len()))?;
+    }
+    Ok((terms, bounds))
+}
+
+/// No terms, for each operation.
+pub fn no_terms<A: Allocator + Copy>(alloc: A) -> Result<Vec<Vec<Term, A>, A>, OutOfMemory>
+    ensures { IfOk result (λ v. rows_of v.items ≡ replicate 256 []) }
 {
     let mut by_op = Vec::new(alloc);
-    for _ in 0..operations {
+    for _ in 0..OPERATIONS {
         by_op.push(Vec::new(alloc))?;
     }
     Ok(by_op)
 }
 
-/// No execution in progress, of so many operations.
-pub fn no_counts<A: Allocator + Copy>(alloc: A, operations: u32) -> Result<Vec<u32, A>, OutOfMemory>
-    ensures { IfOk result (λ v. v.items ≡ replicate operations 0) }
+/// No execution in progress, of any operation.
+pub fn no_counts<A: Allocator + Copy>(alloc: A) -> Result<Vec<u32, A>, OutOfMemory>
+    ensures { IfOk result (λ v. v.items ≡ replicate 256 0) }
 {
     let mut counts = Vec::new(alloc);
-    counts.resize(operations as usize, 0)?;
+    counts.resize(OPERATIONS as usize, 0)?;
     Ok(counts)
 }

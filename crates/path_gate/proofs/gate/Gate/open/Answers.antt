@@ -1,46 +1,65 @@
 -- Each path is added to the table, and then the gate is at the empty history.
-use Rattle.std.proofs.Common.{◌≡◌, ◌∙◌, ap, length, take, arith, replicate}
+use Rattle.std.proofs.Common.{◌≡◌, ◌∙◌, [], ap, map, length, replicate, get_or, arith}
 use Rattle.std.proofs.lemmas.List.{length-map}
-use Rattle.path_model.specs.Trees.{shape}
-use Rattle.path_model.specs.Declarations.{paths_of}
-use Rattle.path_model.specs.Flat.{sited}
-use Rattle.path_gate.specs.Rows.{terms_at}
-use Rattle.path_gate.specs.Translation.{openings}
-use Rattle.path_gate.proofs.GateOpen.{opened_at, opened_sound, path_names, path_formed, path_plain, values_more, terms_more, room_more, all_paths}
+use Rattle.path_trim.specs.LeanTable.{lean_table}
+use Rattle.path_trim.specs.Rows.{row_of}
+use Rattle.path_gate.specs.Soundness.{runs_of}
+use Rattle.path_gate.specs.Opening.{rows_of, terms_for, semaphores_put, counters_put, rows_terms}
+use Rattle.path_gate.proofs.Adding.{first_rows, first_terms, path_low, more_semaphores, more_counters, more_terms, last_semaphores, last_counters, last_terms}
+use Rattle.path_gate.proofs.Opened.{opened_at, opened_sound}
 use Rattle.path_gate.proofs.gate.Gate.open.Goals as goal
 
-pub add_path-requires-clause-named : goal.add_path-requires-clause-named
-add_path-requires-clause-named g c = rw c.loop-number.invariant.rows (path_names c.args.decl.now.declaration c.args.decl.now.lawful c.loop-number.number (shape c.unwrap-tree.result.now) (rw c.unwrap-tree.ensures at c.tree_of.ensures))
+pub loop-path-init : goal.loop-path-init
+loop-path-init g c =
+    let items = c.kept-path-items.result.now in
+    record {
+      semaphores = ap (semaphores_put (map row_of items)) c.new-semaphores.ensures.items ∙ ap (λ rs. semaphores_put rs []) c.kept-path-items.ensures;
+      counters = ap (counters_put (map row_of items)) c.new-counters.ensures.items ∙ ap (λ rs. counters_put rs []) c.kept-path-items.ensures;
+      rows = first_rows c.args.lean.trees items c.kept-path-items.ensures c.in_ok-by_op.by_op.items c.in_ok-by_op.ensures;
+      terms = first_terms c.args.lean.trees items c.kept-path-items.ensures c.in_ok-by_op.by_op.items c.in_ok-by_op.ensures;
+    }
 
-pub add_path-requires-clause-plain : goal.add_path-requires-clause-plain
-add_path-requires-clause-plain g c = path_plain c.args.decl.now.declaration c.args.decl.now.lawful c.loop-number.number (shape c.unwrap-tree.result.now) (rw c.unwrap-tree.ensures at c.tree_of.ensures)
+pub add_path-requires : goal.add_path-requires
+add_path-requires g c =
+    path_low c.args.lean.trees c.kept-path-items.result.now c.kept-path-items.ensures c.loop-path.path-index (omega arith) c.path-item.result c.path-item.is (length c.loop-path.by_op.items) c.loop-path.invariant.rows c.args.lean.lawful
 
-pub add_path-requires-clause-formed : goal.add_path-requires-clause-formed
-add_path-requires-clause-formed g c = path_formed c.args.decl.now.declaration c.args.decl.now.lawful c.loop-number.number (shape c.unwrap-tree.result.now) (rw c.unwrap-tree.ensures at c.tree_of.ensures)
-
-pub add_path-requires-clause-few : goal.add_path-requires-clause-few
-add_path-requires-clause-few g c =
-    room_more c.args.decl.now.declaration c.args.decl.now.lawful c.loop-number.number (shape c.unwrap-tree.result.now) (rw c.unwrap-tree.ensures at c.tree_of.ensures) (omega arith) c.loop-number.semaphores.items c.loop-number.invariant.semaphores
-
-pub loop-number-preserved : goal.loop-number-preserved
-loop-number-preserved g c = record {
-  semaphores = values_more c.args.decl.now.declaration c.args.decl.now.lawful c.loop-number.number (shape c.unwrap-tree.result.now) (rw c.unwrap-tree.ensures at c.tree_of.ensures) (omega arith) c.loop-number.semaphores.items c.loop-number.invariant.semaphores c.add_path.new.semaphores.items c.in_ok-add_path.ensures.opened;
-  rows = c.in_ok-add_path.ensures.kept ∙ c.loop-number.invariant.rows;
-  terms = λ a. terms_more c.args.decl.now.declaration c.args.decl.now.lawful c.loop-number.number (shape c.unwrap-tree.result.now) (rw c.unwrap-tree.ensures at c.tree_of.ensures) (omega arith) c.loop-number.semaphores.items c.loop-number.invariant.semaphores a _ _ (c.loop-number.invariant.terms a) (c.in_ok-add_path.ensures.added a);
-}
+pub loop-path-preserved : goal.loop-path-preserved
+loop-path-preserved g c =
+    let ss = c.args.lean.trees in
+    let items = c.kept-path-items.result.now in
+    let table = c.kept-path-items.ensures in
+    let i = c.loop-path.path-index in
+    let p = c.path-item.result in
+    record {
+      semaphores = more_semaphores ss items table i (omega arith) p c.path-item.is c.loop-path.semaphores.items c.add_path.new.semaphores.items (semaphores_put (lean_table ss) []) c.in_ok-add_path.ensures.semaphores c.loop-path.invariant.semaphores;
+      counters = more_counters ss items table i (omega arith) p c.path-item.is c.loop-path.counters.items c.add_path.new.counters.items (counters_put (lean_table ss) []) c.in_ok-add_path.ensures.counters c.loop-path.invariant.counters;
+      rows = c.in_ok-add_path.ensures.kept ∙ c.loop-path.invariant.rows;
+      terms = λ a. more_terms ss items table i (omega arith) p c.path-item.is a (terms_for c.loop-path.by_op.items a) (terms_for c.add_path.new.by_op.items a) (rows_terms (lean_table ss) a) (c.in_ok-add_path.ensures.added a) (c.loop-path.invariant.terms a);
+    }
 
 pub invariant_of-result : goal.invariant_of-result
 invariant_of-result g c =
-    let d = c.args.decl.now.declaration in
-    let whole : take c.loop-number.number (paths_of d) ≡ paths_of d = all_paths d c.loop-number.number (omega arith) in
-    let values : c.loop-number.semaphores.items ≡ openings (paths_of d) = c.loop-number.invariant.semaphores ∙ ap openings whole in
-    let zeros : c.in_ok-in_progress.in_progress.items ≡ replicate (length d.operations) 0 = rw c.counts-counts.ensures.operations at c.in_ok-in_progress.ensures in
-    rw (c.of.ensures, values, zeros) (opened_sound d _ c.args.decl.now.lawful (length-map c.loop-number.by_op.items (λ terms. terms.items) ∙ c.loop-number.invariant.rows) (λ a. c.loop-number.invariant.terms a ∙ ap (λ u. terms_at (sited 0 0 u) a) whole))
+    let ss = c.args.lean.trees in
+    let items = c.kept-path-items.result.now in
+    let table = c.kept-path-items.ensures in
+    let i = c.loop-path.path-index in
+    let semaphores : c.loop-path.semaphores.items ≡ semaphores_put (lean_table ss) [] = last_semaphores ss items table i (omega arith) c.loop-path.semaphores.items (semaphores_put (lean_table ss) []) c.loop-path.invariant.semaphores in
+    let counters : c.loop-path.counters.items ≡ counters_put (lean_table ss) [] = last_counters ss items table i (omega arith) c.loop-path.counters.items (counters_put (lean_table ss) []) c.loop-path.invariant.counters in
+    let zeros : c.in_ok-in_progress.in_progress.items ≡ replicate 256 0 = c.in_ok-in_progress.ensures in
+    let runs : runs_of c.in_ok-terms.terms.items c.in_ok-terms.bounds.items ≡ rows_of c.loop-path.by_op.items = c.in_ok-terms.ensures.runs ∙ ap rows_of c.deref.ensures.value in
+    record {
+      sound = rw (c.of.ensures, semaphores, counters, zeros) (opened_sound ss c.args.lean.lawful _ (ap length runs ∙ length-map c.loop-path.by_op.items (λ terms. terms.items) ∙ c.loop-path.invariant.rows)
+          (λ a. ap (λ rs. get_or rs a.0 []) runs ∙ last_terms ss items table i (omega arith) a (terms_for c.loop-path.by_op.items a) (rows_terms (lean_table ss) a) (c.loop-path.invariant.terms a)));
+      laid_out = c.in_ok-terms.ensures.laid_out;
+    }
 
 pub returns-clause-opened : goal.returns-clause-opened
 returns-clause-opened g c =
-    let d = c.args.decl.now.declaration in
-    let whole : take c.loop-number.number (paths_of d) ≡ paths_of d = all_paths d c.loop-number.number (omega arith) in
-    let values : c.loop-number.semaphores.items ≡ openings (paths_of d) = c.loop-number.invariant.semaphores ∙ ap openings whole in
-    let zeros : c.in_ok-in_progress.in_progress.items ≡ replicate (length d.operations) 0 = rw c.counts-counts.ensures.operations at c.in_ok-in_progress.ensures in
-    rw (c.of.ensures, values, zeros) (opened_at d c.args.decl.now.lawful)
+    let ss = c.args.lean.trees in
+    let items = c.kept-path-items.result.now in
+    let table = c.kept-path-items.ensures in
+    let i = c.loop-path.path-index in
+    let semaphores : c.loop-path.semaphores.items ≡ semaphores_put (lean_table ss) [] = last_semaphores ss items table i (omega arith) c.loop-path.semaphores.items (semaphores_put (lean_table ss) []) c.loop-path.invariant.semaphores in
+    let counters : c.loop-path.counters.items ≡ counters_put (lean_table ss) [] = last_counters ss items table i (omega arith) c.loop-path.counters.items (counters_put (lean_table ss) []) c.loop-path.invariant.counters in
+    let zeros : c.in_ok-in_progress.in_progress.items ≡ replicate 256 0 = c.in_ok-in_progress.ensures in
+    rw (c.of.ensures, semaphores, counters, zeros) (opened_at ss c.args.lean.lawful)

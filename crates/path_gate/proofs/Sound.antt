@@ -1,0 +1,294 @@
+-- A sound gate judges a start, can go on by it, and stays sound.
+use Rattle.std.proofs.Common.{◌≡◌, ◌≢◌, ◌⊎◌, ◌+◌, ◌-◌, ◌<◌, ◌≤◌, ◌^◌, ℕ, cond, Bool, true, false, List, [], ◌∷◌, ◌++◌, length, get_or, take, drop, arith, refl, sym, ap, ◌∙◌, subst, Option, Some, None, Result, Ok, Err, MatchResult, All, inl, inr}
+use Rattle.std.specs.Prelude.{MatchOption}
+use Rattle.std.proofs.lemmas.List.{get_or-set_other, get_or_past, length-set, take_at}
+use Rattle.std.proofs.lemmas.Bool.{cases_lt}
+use Rattle.path_model.specs.declared.ids.OpId.{OpId}
+use Rattle.path_model.specs.declared.ids.PathId.{PathId}
+use Rattle.path_model.specs.declared.history.Event.{Event}
+use Rattle.path_model.specs.declared.history.Event.TheVariants.{Began, Ended}
+use Rattle.path_model.specs.Trees.{Tree, Names, FewAtOnce, WellFormed, has}
+use Rattle.path_model.specs.Histories.{begun, ended, starts_in}
+use Rattle.path_model.specs.Projection.{LegalOn}
+use Rattle.path_model.specs.Legal as legal
+use Rattle.path_model.specs.Machine.{Values}
+use Rattle.path_model.specs.AllPaths.{Judged}
+use Rattle.path_model.specs.Flat.{Sited}
+use Rattle.path_model.specs.Trimmed.{kept, lean_prologue, lean_epilogue, LeanPasses, LeanBlocks}
+use Rattle.path_model.proofs.CallerLemmas.{has_names, all_paths_judge, each_block_stays, every_map, every_both, every_from, first_from, on_tree, lean_now, lean_after_placed, trimmed_admits_the_words, trimmed_terms_touch_the_kept}
+use Rattle.path_trim.specs.LeanTable.{prologue_left}
+use Rattle.path_gate.specs.declared.gate.Term.{Term}
+use Rattle.path_gate.specs.Levels.{Levels, levels, can_pass}
+use Rattle.path_gate.specs.Sites.{kept_paths, Shows}
+use Rattle.path_gate.specs.Standings.{Standing, IsNamed, IsAt, Judges, Admitted, BlocksStay, Released}
+use Rattle.path_gate.specs.Terms.{term_at, terms_at, blocking, all_started, all_finished, CanStartAll, CanFinishAll, IsWithin, one_more, one_less}
+use Rattle.path_gate.specs.Soundness.{HasPlaces, IsSound}
+use Rattle.path_gate.proofs.OnePath.{StartFits, FinishFits, passes_to}
+use Rattle.path_gate.proofs.Passes.{next, Low, Moved, StartReady, started_moves, started_can, finished_moves, finished_can, IsFirst, blocking_first, all_within}
+use Rattle.path_gate.proofs.KeptPaths.{rising_kept, every_kept, trees_kept, terms_none, none_terms}
+use Rattle.path_gate.proofs.Counts.{starts_snoc, begun_few, counts_start, counts_finish, counts_other}
+use Rattle.path_gate.proofs.Fits.{start_fits, ends_fit, next_now}
+
+true_false : true ≡ false → ⊥
+true_false z = cc
+
+-- the standing after the passes of a start
+abbrev pub begun_from : Standing → List Term → ℕ → Standing
+begun_from g terms op =
+    record g {
+      semaphores = (all_started terms (levels g.semaphores g.counters)).semaphores;
+      counters = (all_started terms (levels g.semaphores g.counters)).counters;
+      in_progress = one_more terms op g.in_progress;
+      admitted = g.admitted + 1;
+    }
+
+-- the standing after the passes of a finish
+abbrev pub ended_from : Standing → List Term → ℕ → Standing
+ended_from g terms op =
+    record g {
+      semaphores = (all_finished terms (levels g.semaphores g.counters)).semaphores;
+      counters = (all_finished terms (levels g.semaphores g.counters)).counters;
+      in_progress = one_less terms op g.in_progress;
+    }
+
+length_more : (terms : List Term) (op : ℕ) (counts : List ℕ) → length (one_more terms op counts) ≡ length counts
+length_more [] op counts = refl
+length_more (t ∷ terms) op counts = length-set counts op (get_or counts op 0 + 1)
+
+length_less : (terms : List Term) (op : ℕ) (counts : List ℕ) → length (one_less terms op counts) ≡ length counts
+length_less [] op counts = refl
+length_less (t ∷ terms) op counts = length-set counts op (get_or counts op 0 - 1)
+
+same_op : (a b : OpId) → a.0 ≡ b.0 → a ≡ b
+same_op a b e = ap (λ n. record { 0 = n }) e
+
+none_at : (xs : List (ℕ × Tree)) (a b : OpId) → a.0 ≡ b.0 → legal.NoneOf (λ s. Names s a) xs → legal.NoneOf (λ s. Names s b) xs
+none_at xs a b e n = subst (λ c. legal.NoneOf (λ s. Names s c) xs) (same_op a b e) n
+
+-- the counts after the passes, for each operation that a path names
+module _ (xs : List (ℕ × Tree)) (a b : OpId) (counts : List ℕ) (h : List Event) (named : IsNamed xs b) (r : get_or counts b.0 0 + ended b h ≡ begun b h) where
+  more_progress : (terms : List Term) → terms ≡ terms_at (kept_paths xs) a → (terms ≢ [] → a.0 < length counts) → get_or (one_more terms a.0 counts) b.0 0 + ended b (h ++ Began a ∷ []) ≡ begun b (h ++ Began a ∷ [])
+  more_progress [] is l = (counts_other counts b a h (λ e. named (none_at xs a b (sym e) (none_terms a xs (sym is)))) r).0
+  more_progress (t ∷ terms) is l = counts_start counts b a h (l (λ e. cc)) r
+
+  less_progress : (terms : List Term) → terms ≡ terms_at (kept_paths xs) a → (terms ≢ [] → a.0 < length counts) → (terms ≢ [] → 0 < get_or counts a.0 0) → get_or (one_less terms a.0 counts) b.0 0 + ended b (h ++ Ended a ∷ []) ≡ begun b (h ++ Ended a ∷ [])
+  less_progress [] is l some = (counts_other counts b a h (λ e. named (none_at xs a b (sym e) (none_terms a xs (sym is)))) r).1
+  less_progress (t ∷ terms) is l some = counts_finish counts b a h (l (λ e. cc)) (some (λ e. cc)) r
+
+-- what no path names still isn't counted
+module _ (xs : List (ℕ × Tree)) (a b : OpId) (counts : List ℕ) (none : legal.NoneOf (λ s. Names s b) xs) (r : get_or counts b.0 0 ≡ 0) where
+  apart : (t : Term) (terms : List Term) → t ∷ terms ≡ terms_at (kept_paths xs) a → b.0 ≡ a.0 → ⊥
+  apart t terms is e = let n = terms_none a xs (none_at xs b a e none) in cc
+
+  more_idle : (terms : List Term) → terms ≡ terms_at (kept_paths xs) a → get_or (one_more terms a.0 counts) b.0 0 ≡ 0
+  more_idle [] is = r
+  more_idle (t ∷ terms) is = get_or-set_other counts a.0 b.0 (get_or counts a.0 0 + 1) 0 (apart t terms is) ∙ r
+
+  less_idle : (terms : List Term) → terms ≡ terms_at (kept_paths xs) a → get_or (one_less terms a.0 counts) b.0 0 ≡ 0
+  less_idle [] is = r
+  less_idle (t ∷ terms) is = get_or-set_other counts a.0 b.0 (get_or counts a.0 0 - 1) 0 (apart t terms is) ∙ r
+
+-- a list that was lent as a slice, and came back as another of its length
+pub written : (n : ℕ) (after lent values new : List ℕ) → n ≡ length values → lent ≡ values → length after ≡ length lent → after ≡ new → take n (after ++ drop (length after) values) ≡ new
+written n after lent values new e same long is = take_at after (drop (length after) values) n (long ∙ ap length same ∙ sym e) ∙ is
+
+empty_or : (terms : List Term) → (terms ≡ []) ⊎ (terms ≢ [])
+empty_or [] = inl refl
+empty_or (t ∷ terms) = inr (λ e. cc)
+
+-- where no term blocks, each path lets the operation in
+free_passes : (a : OpId) (f : Tree → Values) (ys : List (ℕ × Sited)) → legal.Every (λ x. WellFormed x.tree) ys → (v : Levels) → legal.Every (λ x. Shows v (f x.tree) x) ys
+    → legal.Every (λ x. HasPlaces (length v.semaphores) (length v.counters) x) ys → blocking (terms_at ys a) v ≡ None
+    → legal.Every (λ x. Names x.tree a → LeanPasses (lean_prologue x.tree a) (f x.tree)) ys
+free_passes a f [] wf v S P free = tt
+free_passes a f (y ∷ ys) wf v S P free = go (has y.1.tree a) refl free (free_passes a f ys wf.1 v S.1 P.1)
+  where
+    at : has y.1.tree a ≡ true → (d : Bool) → can_pass (prologue_left y.1 (lean_prologue y.1.tree a)) v ≡ d → cond d (blocking (terms_at ys a) v) (Some (record { 0 = y.0 })) ≡ None
+        → (blocking (terms_at ys a) v ≡ None → legal.Every (λ x. Names x.tree a → LeanPasses (lean_prologue x.tree a) (f x.tree)) ys)
+        → legal.Every (λ x. Names x.tree a → LeanPasses (lean_prologue x.tree a) (f x.tree)) (y ∷ ys)
+    at h true e z rest = (λ n. passes_to y.1 v (f y.1.tree) S.0 P.0 (lean_prologue y.1.tree a) ((trimmed_terms_touch_the_kept y.1.tree wf.0 a n).0) e, rest z)
+    at h false e z rest = absurd (cc)
+
+    go : (b : Bool) → has y.1.tree a ≡ b → blocking (cond b (term_at y a ∷ terms_at ys a) (terms_at ys a)) v ≡ None
+        → (blocking (terms_at ys a) v ≡ None → legal.Every (λ x. Names x.tree a → LeanPasses (lean_prologue x.tree a) (f x.tree)) ys)
+        → legal.Every (λ x. Names x.tree a → LeanPasses (lean_prologue x.tree a) (f x.tree)) (y ∷ ys)
+    go true h z rest = at h (can_pass (prologue_left y.1 (lean_prologue y.1.tree a)) v) refl z rest
+    go false h z rest = (λ n. absurd (true_false (sym (has_names y.1.tree a n) ∙ h)), rest z)
+
+-- the start is legal, or the path is the first that forbids it
+abbrev pub IsJudged : List (ℕ × Tree) → List Event → OpId → Option PathId → Type 0
+IsJudged xs h a result = MatchOption result (legal.Legal xs (h ++ Began a ∷ [])) (λ p. legal.First (legal.Forbids h a) xs p.0)
+
+first_judges : (xs : List (ℕ × Tree)) → legal.Every WellFormed xs → (h : List Event) → legal.Legal xs h → (a : OpId) (result : Option PathId)
+    → IsFirst (λ s. LeanBlocks a (on_tree (lean_now h) s)) (kept [] xs) result → IsJudged xs h a result
+first_judges xs wf h l a None r =
+    (trimmed_admits_the_words xs wf h l a).starts.0
+    (subst (λ m. legal.NoneOf (LeanBlocks a) m) (sym (lean_after_placed xs h)) (every_from (λ r. LeanBlocks a r → ⊥) (lean_now h) (kept [] xs) r))
+first_judges xs wf h l a (Some p) r =
+    ((trimmed_admits_the_words xs wf h l a).first p.0).0
+    (subst (λ m. legal.First (LeanBlocks a) m p.0) (sym (lean_after_placed xs h)) (first_from (LeanBlocks a) (lean_now h) (kept [] xs) p.0 r))
+
+-- the values after one more event
+along : (h : List Event) (e : Event) (v : Levels) (ys : List (ℕ × Sited)) → legal.Every (λ x. Shows v (next e (lean_now h) x.tree) x) ys → legal.Every (λ x. Shows v (lean_now (h ++ e ∷ []) x.tree) x) ys
+along h e v ys S = every_map (λ x T. subst (λ w. Shows v w x) (next_now h e x.tree) T) ys S
+
+every_three : (P Q R T : Tree → Type 0) → ((s : Tree) → P s → Q s → R s → T s) → (xs : List (ℕ × Tree)) → legal.Every P xs → legal.Every Q xs → legal.Every R xs → legal.Every T xs
+every_three P Q R T f [] p q r = tt
+every_three P Q R T f (x ∷ xs) p q r = (f x.1 p.0 q.0 r.0, every_three P Q R T f xs p.1 q.1 r.1)
+
+module _ (g : Standing) (by_op : List (List Term)) (S : IsSound g by_op) (a : OpId) (terms : List Term) (run : terms ≡ get_or by_op a.0 []) where
+  is : terms ≡ terms_at (kept_paths g.paths) a
+  is = run ∙ S.terms a
+
+  formed : legal.Every (λ x. WellFormed x.tree) (kept_paths g.paths)
+  formed = every_kept WellFormed g.paths S.well_formed
+
+  pub within : All (IsWithin (length g.semaphores) (length g.counters)) terms
+  within = subst (All (IsWithin (length g.semaphores) (length g.counters))) (sym is) (all_within (length g.semaphores) (length g.counters) a (kept_paths g.paths) formed S.places)
+
+  -- an operation that has terms is counted
+  pub counted : terms ≢ [] → a.0 < length g.in_progress
+  counted n = elim (cases_lt a.0 (length by_op)) [
+    | inl l ↦ let c = S.counts in omega arith
+    | inr l ↦ absurd (n (run ∙ get_or_past by_op a.0 [] l))
+  ]
+
+  pub named : terms ≢ [] → IsNamed g.paths a
+  named n none = n (is ∙ terms_none a g.paths none)
+
+  pub unnamed : legal.NoneOf (λ s. Names s a) g.paths → terms ≡ []
+  unnamed none = is ∙ terms_none a g.paths none
+
+  pub unmoved : legal.NoneOf (λ s. Names s a) g.paths → ended_from g terms a.0 ≡ g
+  unmoved none = subst (λ ts. ended_from g ts a.0 ≡ g) (sym (unnamed none)) refl
+
+  judged : (h : List Event) → legal.Legal g.paths h → IsAt g h → IsJudged g.paths h a (blocking terms (levels g.semaphores g.counters))
+  judged h l at =
+      subst (λ ts. IsJudged g.paths h a (blocking ts (levels g.semaphores g.counters))) (sym is)
+      (first_judges g.paths S.well_formed h l a _
+      (subst (λ ys. IsFirst (λ s. LeanBlocks a (on_tree (lean_now h) s)) ys (blocking (terms_at (kept_paths g.paths) a) (levels g.semaphores g.counters))) (trees_kept g.paths)
+      (blocking_first a (lean_now h) (kept_paths g.paths) formed (levels g.semaphores g.counters) at.values S.places)))
+
+  pub judges : (result : Result (Unit {0}) PathId) → MatchResult result (λ _. blocking terms (levels g.semaphores g.counters) ≡ None) (λ path. blocking terms (levels g.semaphores g.counters) ≡ Some path) → Judges g a result
+  judges (Ok u) e h l at = subst (IsJudged g.paths h a) e (judged h l at)
+  judges (Err p) e h l at = subst (IsJudged g.paths h a) e (judged h l at)
+
+  -- each path that forbade a start still does
+  pub stay : BlocksStay g a
+  stay h l at b = every_map (λ s w. each_block_stays s w h a b) g.paths S.well_formed
+
+  few_starts : g.admitted < 2 ^ 32 → starts_in S.history.0 ≤ 2 ^ 32
+  few_starts small = let e = S.history.3 in omega (arith, e, small)
+
+  start_all_fits : g.admitted < 2 ^ 32 → legal.Every (λ s. Names s a → StartFits (lean_prologue s a) (lean_now S.history.0 s)) g.paths
+  start_all_fits small =
+      every_three WellFormed FewAtOnce (λ s. LegalOn s S.history.0) (λ s. Names s a → StartFits (lean_prologue s a) (lean_now S.history.0 s))
+      (λ s w f l n. start_fits s w f S.history.0 l (few_starts small) (lean_prologue s a) (trimmed_terms_touch_the_kept s w a n).0) g.paths S.well_formed S.few_at_once S.history.1
+
+  pub starts : g.admitted < 2 ^ 32 → blocking terms (levels g.semaphores g.counters) ≡ None → CanStartAll terms (levels g.semaphores g.counters)
+  starts small free =
+      subst (λ ts. CanStartAll ts (levels g.semaphores g.counters)) (sym is)
+      (started_can a (lean_now S.history.0) (kept_paths g.paths) 0 0 (rising_kept g.paths) formed (levels g.semaphores g.counters) S.history.2.values S.places ready)
+    where
+      free' : blocking (terms_at (kept_paths g.paths) a) (levels g.semaphores g.counters) ≡ None
+      free' = subst (λ ts. blocking ts (levels g.semaphores g.counters) ≡ None) is free
+
+      ready : StartReady a (lean_now S.history.0) (kept_paths g.paths)
+      ready = every_both (λ x p f n. (p n, f n)) (kept_paths g.paths)
+          (free_passes a (lean_now S.history.0) (kept_paths g.paths) formed (levels g.semaphores g.counters) S.history.2.values S.places free')
+          (every_kept (λ s. Names s a → StartFits (lean_prologue s a) (lean_now S.history.0 s)) g.paths (start_all_fits small))
+
+  -- a start counts up to the number of starts at most
+  pub count_small : terms ≢ [] → get_or g.in_progress a.0 0 ≤ g.admitted
+  count_small n =
+      let p = S.history.2.progress a (named n) in
+      let b = begun_few a S.history.0 in
+      let e = S.history.3 in
+      omega arith
+
+  begun_moved : (h : List Event) → IsAt g h → Moved a (lean_now h) (Began a) (kept_paths g.paths) 0 0 (all_started terms (levels g.semaphores g.counters)) (levels g.semaphores g.counters)
+  begun_moved h at =
+      subst (λ ts. Moved a (lean_now h) (Began a) (kept_paths g.paths) 0 0 (all_started ts (levels g.semaphores g.counters)) (levels g.semaphores g.counters)) (sym is)
+      (started_moves a (lean_now h) (kept_paths g.paths) 0 0 (rising_kept g.paths) formed (levels g.semaphores g.counters) at.values S.places)
+
+  begun_at : (h : List Event) → IsAt g h → IsAt (begun_from g terms a.0) (h ++ Began a ∷ [])
+  begun_at h at = record {
+    values = along h (Began a) (all_started terms (levels g.semaphores g.counters)) (kept_paths g.paths) (begun_moved h at).0;
+    progress = λ b n. more_progress g.paths a b g.in_progress h n (at.progress b n) terms is counted;
+  }
+
+  placed_after : (u : Levels) → Low 0 0 u (levels g.semaphores g.counters) → legal.Every (λ x. HasPlaces (length u.semaphores) (length u.counters) x) (kept_paths g.paths)
+  placed_after u L =
+      subst (λ n. legal.Every (λ y. HasPlaces n (length u.counters) y) (kept_paths g.paths)) (sym L.places.0)
+      (subst (λ m. legal.Every (λ y. HasPlaces (length g.semaphores) m y) (kept_paths g.paths)) (sym L.places.1) S.places)
+
+  pub admits : Admitted g a (begun_from g terms a.0)
+  admits = record { paths = refl; admitted = refl; moved = begun_at }
+
+  pub begun_sound : blocking terms (levels g.semaphores g.counters) ≡ None → IsSound (begun_from g terms a.0) by_op
+  begun_sound free = record {
+    well_formed = S.well_formed;
+    few_at_once = S.few_at_once;
+    terms = S.terms;
+    counts = length_more terms a.0 g.in_progress ∙ S.counts;
+    places = placed_after (all_started terms (levels g.semaphores g.counters)) (begun_moved S.history.0 S.history.2).1;
+    idle = λ b n. more_idle g.paths a b g.in_progress n (S.idle b n) terms is;
+    history = (
+      S.history.0 ++ Began a ∷ [],
+      subst (IsJudged g.paths S.history.0 a) free (judged S.history.0 S.history.1 S.history.2),
+      begun_at S.history.0 S.history.2,
+      (let e = S.history.3 in let s = starts_snoc S.history.0 (Began a) in let o : starts_in (Began a ∷ []) ≡ 0 + 1 = refl in omega arith),
+    );
+  }
+
+  module _ (some : IsNamed g.paths a → 0 < get_or g.in_progress a.0 0) where
+    finish_legal : legal.Legal g.paths (S.history.0 ++ Ended a ∷ [])
+    finish_legal = elim (empty_or terms) [
+      | inl e ↦ (all.unnamed a (none_terms a g.paths (sym is ∙ e))).2
+      | inr n ↦ all.finishes a (let p = S.history.2.progress a (named n) in let l = some (named n) in omega arith)
+    ]
+      where
+        all : Judged g.paths S.history.0
+        all = all_paths_judge g.paths S.well_formed S.history.0 S.history.1
+
+    finish_all_fits : g.admitted < 2 ^ 32 → legal.Every (λ s. Names s a → FinishFits (lean_epilogue s a) (lean_now S.history.0 s)) g.paths
+    finish_all_fits small =
+        every_three (λ s. WellFormed s × FewAtOnce s) (λ s. LegalOn s S.history.0) (λ s. LegalOn s (S.history.0 ++ Ended a ∷ [])) (λ s. Names s a → FinishFits (lean_epilogue s a) (lean_now S.history.0 s))
+        (λ s w l k n. ends_fit s w.0 w.1 S.history.0 l (few_starts small) a n k (trimmed_terms_touch_the_kept s w.0 a n).1) g.paths
+        (every_both (λ s w f. (w, f)) g.paths S.well_formed S.few_at_once) S.history.1 finish_legal
+
+    pub finishes : g.admitted < 2 ^ 32 → CanFinishAll terms (levels g.semaphores g.counters)
+    finishes small =
+        subst (λ ts. CanFinishAll ts (levels g.semaphores g.counters)) (sym is)
+        (finished_can a (lean_now S.history.0) (kept_paths g.paths) 0 0 (rising_kept g.paths) formed (levels g.semaphores g.counters) S.history.2.values S.places
+        (every_kept (λ s. Names s a → FinishFits (lean_epilogue s a) (lean_now S.history.0 s)) g.paths (finish_all_fits small)))
+
+    ended_moved : (h : List Event) → IsAt g h → Moved a (lean_now h) (Ended a) (kept_paths g.paths) 0 0 (all_finished terms (levels g.semaphores g.counters)) (levels g.semaphores g.counters)
+    ended_moved h at =
+        subst (λ ts. Moved a (lean_now h) (Ended a) (kept_paths g.paths) 0 0 (all_finished ts (levels g.semaphores g.counters)) (levels g.semaphores g.counters)) (sym is)
+        (finished_moves a (lean_now h) (kept_paths g.paths) 0 0 (rising_kept g.paths) formed (levels g.semaphores g.counters) at.values S.places)
+
+    ended_at : (h : List Event) → IsAt g h → IsAt (ended_from g terms a.0) (h ++ Ended a ∷ [])
+    ended_at h at = record {
+      values = along h (Ended a) (all_finished terms (levels g.semaphores g.counters)) (kept_paths g.paths) (ended_moved h at).0;
+      progress = λ b n. less_progress g.paths a b g.in_progress h n (at.progress b n) terms is counted (λ m. some (named m));
+    }
+
+    pub releases : Released g a (ended_from g terms a.0)
+    releases = record { paths = refl; admitted = refl; moved = ended_at }
+
+    pub ended_sound : IsSound (ended_from g terms a.0) by_op
+    ended_sound = record {
+      well_formed = S.well_formed;
+      few_at_once = S.few_at_once;
+      terms = S.terms;
+      counts = length_less terms a.0 g.in_progress ∙ S.counts;
+      places = placed_after (all_finished terms (levels g.semaphores g.counters)) (ended_moved S.history.0 S.history.2).1;
+      idle = λ b n. less_idle g.paths a b g.in_progress n (S.idle b n) terms is;
+      history = (
+        S.history.0 ++ Ended a ∷ [],
+        finish_legal,
+        ended_at S.history.0 S.history.2,
+        (let e = S.history.3 in let s = starts_snoc S.history.0 (Ended a) in let o : starts_in (Ended a ∷ []) ≡ 0 = refl in omega arith),
+      );
+    }
