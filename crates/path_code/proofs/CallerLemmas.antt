@@ -6,3 +6,7 @@ pub use Rattle.path_code.proofs.Counts.{semicolons_between, braces_few, bounds_f
 pub use Rattle.path_code.proofs.Counts.{length_trees, length_openings, length_semaphores, length_braces, length_names, length_ops}
 -- the paths of a declaration are lawful
 pub use Rattle.path_code.proofs.Counts.{lawful_paths}
+-- the numbers of each path lie in their ranges, and its semaphores open as those of the one table
+pub use Rattle.path_code.proofs.Ranges.{each_site_below, prologue_own, epilogue_own, each_site_opens}
+-- each operation that a path names has one code there
+pub use Rattle.path_code.proofs.Ranges.{each_name, each_op, named_once}

@@ -5,3 +5,4 @@ pub mod Tables
 pub mod CallerLemmas
 pub mod Texts
 pub mod Examples
+pub mod Ranges

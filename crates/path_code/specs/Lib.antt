@@ -7,3 +7,4 @@ pub mod KnownOnce
 pub mod Known
 pub mod Kept
 pub mod Listing
+pub mod Ranges

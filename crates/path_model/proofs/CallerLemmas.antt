@@ -23,6 +23,7 @@ pub use Rattle.path_model.proofs.AllPaths.{every_map, every_both, every_from, ev
 pub use Rattle.path_model.proofs.Trimmed.{same_tree_same}
 -- the numbers of bounds, and of what stands in terms
 pub use Rattle.path_model.proofs.FlatNumbers.{rank_before, rank_after, rank_low, bound_within, opening_out, opening_of}
+pub use Rattle.path_model.proofs.Flat.{owns_low, bounds_low}
 pub use Rattle.path_model.proofs.FlatNumbers.{InTable, prologue_has, epilogue_has}
 -- the table of paths without braces
 pub use Rattle.path_model.proofs.FlatNumbers.{none_counted}

@@ -263,14 +263,14 @@ flat_run xs [] g v S = S
 flat_run xs (e ∷ h) g v S = flat_run xs h (next e g) (flat_changed (sited 0 0 xs) e v) (flat_step g e xs 0 0 v S)
 
 -- the opening values
-owns_low : (xs : List (ℕ × Tree)) (k c i : ℕ) → i < k → owns (sited k c xs) i ≡ 0
+pub owns_low : (xs : List (ℕ × Tree)) (k c i : ℕ) → i < k → owns (sited k c xs) i ≡ 0
 owns_low [] k c i l = refl
 owns_low (x ∷ xs) k c i l =
     let z : ◌≡◌ {A = ℕ} (if i == k then 1 else 0) 0 = cond-false (i == k) 1 0 (ne_eqb i k (λ q. omega (arith, l, q))) in
     let r = owns_low xs (k + semaphores_in x.1) (c + braces x.1) i (omega (arith, l)) in
     omega (arith, z, r)
 
-bounds_low : (xs : List (ℕ × Tree)) (k c i : ℕ) → i < k → bound_openings (sited k c xs) i ≡ 0
+pub bounds_low : (xs : List (ℕ × Tree)) (k c i : ℕ) → i < k → bound_openings (sited k c xs) i ≡ 0
 bounds_low [] k c i l = refl
 bounds_low (x ∷ xs) k c i l =
     let z = opening_out x.1 (first_bound (site x.1 k c)) i (inl (omega (arith, l))) in
