@@ -1,4 +1,4 @@
-//! Tests of the public calls that read, print and compile declarations, and of plain types. The crate has no other code, so that no library
+//! Tests of the public calls that read, print, compile and trim declarations, and of plain types. The crate has no other code, so that no library
 //! is proved twice.
 #![tactic(auto)]
 
@@ -8,3 +8,5 @@ mod braces;
 mod decl;
 #[cfg(test)]
 mod model;
+#[cfg(test)]
+mod trim;

@@ -4,4 +4,5 @@ pub mod LeftOver
 pub mod Lawful
 pub mod Walk
 pub mod Listed
+pub mod Examples
 pub mod CallerLemmas

@@ -3,7 +3,7 @@ use Rattle.std.specs.Prelude.{IfSome}
 use Rattle.std.proofs.Common.{◌≡◌, ◌+◌, ◌*◌, ◌<◌, ◌≤◌, ◌^◌, ℕ, zero, suc, Bool, true, false, List, [], ◌∷◌, ◌++◌, length, map, replicate, All, refl, sym, subst, inl, inr, arith, if◌then◌else◌}
 use Rattle.std.proofs.lemmas.List.{length-append, length-replicate}
 use Rattle.std.proofs.lemmas.List.Elements.{All-map, All-append, All-cons, All-tail}
-use Rattle.path_model.specs.Trees.{any, most, Tree, op, seq, alt, burst, Names, NoBraces, NoNesting, WellFormed}
+use Rattle.path_model.specs.Trees.{any, most, Tree, op, seq, alt, burst, Names, WellFormed}
 use Rattle.path_model.specs.Legal.{Every, numbered}
 use Rattle.path_model.specs.Machine.{semicolons, braces, Term, Plain, Braced, Counted}
 use Rattle.path_model.specs.Flat.{Sited, sited, semaphores_in, counted_braces}
@@ -12,6 +12,7 @@ use Rattle.path_model.proofs.CallerLemmas.{has_names, InTable, prologue_has, epi
 use Rattle.path_decl.specs.Lawful.{names_count}
 use Rattle.path_code.specs.Names.{names_in}
 use Rattle.path_code.specs.PathCodes.{bounds_in, numbered_values, numbers_from, opening_values}
+use Rattle.path_code.proofs.CallerLemmas.{small}
 use Rattle.path_trim.specs.LawfulTrees.{LawfulTrees}
 use Rattle.path_trim.specs.Compared.{kept_sites}
 use Rattle.path_trim.specs.LeanTable.{prologue_left, epilogue_left, op_left, semaphores_left, counters_left, lean_row, lean_table}
@@ -94,44 +95,13 @@ map_within n m (x ∷ xs) h = All-cons (RowWithin n m) (lean_row x) (map lean_ro
 pub rows_within : (ss : List Tree) → All (RowWithin (semaphore_total ss) (counter_total ss)) (lean_table ss)
 rows_within ss = map_within (semaphore_total ss) (counter_total ss) (kept_sites ss) (every_kept (Within (semaphore_total ss) (counter_total ss)) ss (all_within ss 0 0 0 (semaphore_total ss) (counter_total ss) (omega arith) (omega arith)))
 
-plain_braces : (s : Tree) → NoBraces s → braces s ≡ 0
-plain_braces (op a) h = refl
-plain_braces (seq s t) h = omega (arith, plain_braces s h.0, plain_braces t h.1)
-plain_braces (alt s t) h = omega (arith, plain_braces s h.0, plain_braces t h.1)
-plain_braces (burst b s) h = absurd h
-
-some_names : (s : Tree) → 1 ≤ names_count s
-some_names (op a) = omega arith
-some_names (seq s t) = omega (arith, some_names s)
-some_names (alt s t) = omega (arith, some_names s)
-some_names (burst b s) = some_names s
-
-few_braces : (s : Tree) → NoNesting s → braces s ≤ names_count s
-few_braces (op a) h = omega arith
-few_braces (seq s t) h = omega (arith, few_braces s h.0, few_braces t h.1)
-few_braces (alt s t) h = omega (arith, few_braces s h.0, few_braces t h.1)
-few_braces (burst b s) h = omega (arith, plain_braces s h.0, some_names s)
-
-few_bounds : (s : Tree) → counted_braces s ≤ braces s
-few_bounds (op a) = omega arith
-few_bounds (seq s t) = omega (arith, few_bounds s, few_bounds t)
-few_bounds (alt s t) = omega (arith, few_bounds s, few_bounds t)
-few_bounds (burst any s) = omega (arith, few_bounds s)
-few_bounds (burst (most n) s) = omega (arith, few_bounds s)
-
-semicolons_few : (s : Tree) → semicolons s + 1 ≤ names_count s
-semicolons_few (op a) = omega arith
-semicolons_few (seq s t) = omega (arith, semicolons_few s, semicolons_few t)
-semicolons_few (alt s t) = omega (arith, semicolons_few s, semicolons_few t)
-semicolons_few (burst b s) = semicolons_few s
-
 sums_small : (ss : List Tree) (p : ℕ) → Every WellFormed (numbered p ss) → All (λ s. names_count s ≤ 64) ss → (semaphore_total ss ≤ 128 * length ss) × (counter_total ss ≤ 64 * length ss)
 sums_small [] p f h = (omega arith, omega arith)
 sums_small (s ∷ ss) p f h =
     let r = sums_small ss (p + 1) f.1 (All-tail (λ t. names_count t ≤ 64) s ss h) in
     let n : names_count s ≤ 64 = h 0 s (omega arith) in
-    let b = few_braces s f.0.not_nested in
-    (omega (arith, r.0, n, b, few_bounds s, semicolons_few s), omega (arith, r.1, n, b))
+    let i = small s f.0 n in
+    (omega (arith, r.0, i.semaphores), omega (arith, r.1, i.braces))
 
 -- and there are fewer than 2 ^ 32 of each
 pub totals_small : (ss : List Tree) → LawfulTrees ss → (semaphore_total ss < 2 ^ 32) × (counter_total ss < 2 ^ 32)

@@ -67,30 +67,32 @@ fn lean_ops<A: Allocator + Copy>(
     Ok(lean)
 }
 
-/// The semaphores that are left: where braces are the whole path, all but the first.
-fn lean_semaphores<A: Allocator + Copy>(
-    alloc: A,
-    whole: bool,
-    semaphores: &[(u32, u32)],
-) -> Result<Vec<(u32, u32), A>, OutOfMemory>
-    ensures { let left = if whole then drop 1 semaphores.now else semaphores.now in IfOk result (λ v. v.items ≡ left) }
+/// A copy of these values.
+fn copied<T: Copy, A: Allocator + Copy>(alloc: A, values: &[T]) -> Result<Vec<T, A>, OutOfMemory>
+    ensures { IfOk result (λ v. v.items ≡ values.now) }
 {
-    let removed = usize::from(whole);
-    Ok(semaphores.iter().copied().skip(removed).collect(alloc)?)
+    let mut copies = Vec::with_capacity(alloc, values.len())?;
+    for value in values {
+        copies.push(*value)?;
+    }
+    Ok(copies)
+}
+
+/// The semaphores that are left: where braces are the whole path, all but the first.
+fn semaphores_left(whole: bool, semaphores: &[(u32, u32)]) -> &[(u32, u32)]
+    ensures { let left = if whole then drop 1 semaphores.now else semaphores.now in result.now ≡ left }
+{
+    match semaphores.split_first() {
+        Some((_, others)) if whole => others,
+        _ => semaphores,
+    }
 }
 
 /// The counters that are left: where braces are the whole path, none.
-fn lean_counters<A: Allocator + Copy>(
-    alloc: A,
-    whole: bool,
-    braces: &[u32],
-) -> Result<Vec<u32, A>, OutOfMemory>
-    ensures { let left = if whole then [] else braces.now in IfOk result (λ v. v.items ≡ left) }
+fn counters_left(whole: bool, braces: &[u32]) -> &[u32]
+    ensures { let left = if whole then [] else braces.now in result.now ≡ left }
 {
-    if whole {
-        return Ok(Vec::new(alloc));
-    }
-    Ok(braces.iter().copied().collect(alloc)?)
+    if whole { &[] } else { braces }
 }
 
 /// What is left of a path that is kept. One pass over its code.
@@ -104,8 +106,8 @@ pub(crate) fn lean_path<A: Allocator + Copy>(
     let whole = is_burst(&code.tree);
     Ok(LeanPath {
         path,
-        semaphores: lean_semaphores(alloc, whole, &code.semaphores)?,
-        counters: lean_counters(alloc, whole, &code.braces)?,
+        semaphores: copied(alloc, semaphores_left(whole, &code.semaphores))?,
+        counters: copied(alloc, counters_left(whole, &code.braces))?,
         ops: lean_ops(alloc, whole, &code.ops)?,
     })
 }

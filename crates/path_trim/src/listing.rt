@@ -1,41 +1,18 @@
 //! The listing of trimmed paths.
 
-ghost use Rattle.std.specs.Prelude.{◌≡◌, ◌++◌, ◌∷◌, [], flat_map, slice_get, option_map, IfOk, OnOk};
+ghost use Rattle.std.specs.Prelude.{◌≡◌, ◌++◌, ◌∷◌, [], flat_map, IfOk, OnOk};
 ghost use Rattle.std.specs.String.{string_bytes};
-ghost use Rattle.path_trim.specs.LeanListing.{name_or, owner_name, prologue_text, epilogue_text, op_line, semaphore_line};
-ghost use Rattle.path_trim.specs.LeanListing.{counter_line, value_text, removed_line, row_lines, header, same_rest, lean_text};
+ghost use Rattle.path_trim.specs.LeanListing.{prologue_text, epilogue_text, op_line, value_text};
+ghost use Rattle.path_trim.specs.LeanListing.{removed_line, row_lines, header, same_rest, lean_text};
 ghost use Rattle.path_trim.specs.Rows.{row_of};
 
 use crate::lean::Lean;
 use crate::table::{Fate, LeanOp, LeanPath, Removed};
+use path_code::lister::{push_counters, push_header, push_operation, push_semaphores};
 use path_code::{Epilogue, Prologue};
-use path_decl::{Decl, op_name, path_resource, resource_name};
+use path_decl::{Decl, path_resource};
 use path_model::{OutOfMemory, PathId};
 use std::alloc::Allocator;
-
-/// Writes a name, or `#` and the number where there is none.
-fn put_name<C: Allocator + Copy>(
-    out: &mut String<C>,
-    name: Option<&str>,
-    number: u32,
-) -> Result<(), OutOfMemory>
-    ensures { let text = name_or (option_map (λ s. s.now) name.entry) number in
-        OnOk result (string_bytes out.new ≡ string_bytes out.old ++ text) }
-{
-    match name {
-        Some(name) => out.push_str(name)?,
-        None => write!(out, "#{number}")?,
-    }
-    Ok(())
-}
-
-/// The name of the resource that has the path.
-fn owner<A: Allocator + Copy>(decl: &Decl<A>, path: PathId) -> Option<&str>
-    ensures { let name = owner_name decl.now.declaration (slice_get decl.now.declaration.paths path.0) in
-        option_map (λ s. s.now) result ≡ name }
-{
-    resource_name(decl, path_resource(decl, path)?)
-}
 
 /// Writes how the lines of a path begin.
 fn put_header<A: Allocator + Copy, C: Allocator + Copy>(
@@ -45,8 +22,14 @@ fn put_header<A: Allocator + Copy, C: Allocator + Copy>(
 ) -> Result<(), OutOfMemory>
     ensures { OnOk result (string_bytes out.new ≡ string_bytes out.old ++ header decl.now.declaration path.0) }
 {
-    write!(out, "path {} of ", path.0)?;
-    put_name(out, owner(decl, path), path.0)
+    let number = path.0;
+    match path_resource(decl, path) {
+        Some(resource) => push_header(out, decl, number, resource),
+        None => {
+            write!(out, "path {number} of #{number}")?;
+            Ok(())
+        }
+    }
 }
 
 /// Writes what is left of a prologue.
@@ -93,7 +76,7 @@ fn put_op<A: Allocator + Copy, C: Allocator + Copy>(
 ) -> Result<(), OutOfMemory>
     ensures { OnOk result (string_bytes out.new ≡ string_bytes out.old ++ op_line decl.now.declaration op) }
 {
-    put_name(out, op_name(decl, op.op), op.op.0)?;
+    push_operation(out, decl, op.op)?;
     out.push_str(": ")?;
     put_prologue(out, op.prologue)?;
     out.push_str(" | ")?;
@@ -112,33 +95,6 @@ fn put_ops<A: Allocator + Copy, C: Allocator + Copy>(
 {
     for op in ops {
         put_op(out, decl, *op)?;
-    }
-    Ok(())
-}
-
-/// Writes the lines of semaphores.
-fn put_semaphores<C: Allocator + Copy>(
-    out: &mut String<C>,
-    semaphores: &[(u32, u32)],
-) -> Result<(), OutOfMemory>
-    ensures { OnOk result (string_bytes out.new ≡ string_bytes out.old ++ flat_map semaphore_line semaphores.now) }
-{
-    for semaphore in semaphores {
-        let (number, value) = *semaphore;
-        writeln!(out, "s{number} = {value}")?;
-    }
-    Ok(())
-}
-
-/// Writes the lines of counters.
-fn put_counters<C: Allocator + Copy>(
-    out: &mut String<C>,
-    counters: &[u32],
-) -> Result<(), OutOfMemory>
-    ensures { OnOk result (string_bytes out.new ≡ string_bytes out.old ++ flat_map counter_line counters.now) }
-{
-    for counter in counters {
-        writeln!(out, "c{counter} = 0")?;
     }
     Ok(())
 }
@@ -193,8 +149,8 @@ fn put_row<A: Allocator + Copy, B: Allocator + Copy, C: Allocator + Copy>(
 ) -> Result<(), OutOfMemory>
     ensures { OnOk result (string_bytes out.new ≡ string_bytes out.old ++ row_lines decl.now.declaration (row_of path.now)) }
 {
-    put_semaphores(out, &path.semaphores)?;
-    put_counters(out, &path.counters)?;
+    push_semaphores(out, &path.semaphores)?;
+    push_counters(out, &path.counters)?;
     put_ops(out, decl, &path.ops)
 }
 

@@ -8,4 +8,4 @@ pub returns : goal.returns
 returns g c = λ x h.
     row_same x c.args.path c.is_burst-whole.result _ _ _ _ _ _
     (c.is_burst-whole.ensures ∙ ap is_burst h.tree) (c.deref.ensures.value ∙ h.semaphores) (c.deref-2.ensures.value ∙ h.braces) (c.deref-3.ensures.value ∙ h.ops)
-    c.in_ok-lean_semaphores.ensures c.in_ok-lean_counters.ensures c.in_ok-lean_ops.ensures
+    (c.in_ok-copied.ensures ∙ c.semaphores_left.ensures) (c.in_ok-copied-2.ensures ∙ c.counters_left.ensures) c.in_ok-lean_ops.ensures
