@@ -32,20 +32,20 @@ NoNesting-prop (seq s t) = ×_prop (NoNesting-prop s) (NoNesting-prop t)
 NoNesting-prop (alt s t) = ×_prop (NoNesting-prop s) (NoNesting-prop t)
 NoNesting-prop (burst b s) = ×_prop (NoBraces-prop s) (Room-prop b 0)
 
-WellFormed-prop : (s : Tree) → IsProp (WellFormed s)
+pub WellFormed-prop : (s : Tree) → IsProp (WellFormed s)
 WellFormed-prop s x y i = record {
   names_once = NoRepeats-prop s x.names_once y.names_once i;
   not_nested = NoNesting-prop s x.not_nested y.not_nested i;
 }
 
-FewAtOnce-prop : (s : Tree) → IsProp (FewAtOnce s)
+pub FewAtOnce-prop : (s : Tree) → IsProp (FewAtOnce s)
 FewAtOnce-prop (op a) = Unit-prop
 FewAtOnce-prop (seq s t) = ×_prop (FewAtOnce-prop s) (FewAtOnce-prop t)
 FewAtOnce-prop (alt s t) = ×_prop (FewAtOnce-prop s) (FewAtOnce-prop t)
 FewAtOnce-prop (burst any s) = FewAtOnce-prop s
 FewAtOnce-prop (burst (most n) s) = ×_prop le_prop (FewAtOnce-prop s)
 
-Every-prop : {A : Type 0} (P : A → Type 0) → ((x : A) → IsProp (P x)) → (xs : List (ℕ × A)) → IsProp (Every P xs)
+pub Every-prop : {A : Type 0} (P : A → Type 0) → ((x : A) → IsProp (P x)) → (xs : List (ℕ × A)) → IsProp (Every P xs)
 Every-prop P p [] = Unit-prop
 Every-prop P p (x ∷ xs) = ×_prop (p x.1) (Every-prop P p xs)
 

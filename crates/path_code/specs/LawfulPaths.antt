@@ -1,5 +1,5 @@
 -- What always holds of compiled paths.
-use Rattle.std.specs.Prelude.{ℕ, ◌<◌, ◌≤◌, List, length, All}
+use Rattle.std.specs.Prelude.{◌<◌, ◌≤◌, List, length, All}
 use Rattle.path_model.specs.declared.ids.OpId.{OpId}
 use Rattle.path_model.specs.Trees.{Names, WellFormed, FewAtOnce}
 use Rattle.path_model.specs.Legal.{Every}

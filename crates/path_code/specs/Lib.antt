@@ -2,6 +2,8 @@ pub mod Names
 pub mod Terms
 pub mod PathCodes
 pub mod LawfulPaths
+pub mod Walks
 pub mod KnownOnce
 pub mod Known
 pub mod Kept
+pub mod Listing

@@ -4,7 +4,7 @@ use Rattle.path_model.specs.declared.ids.OpId.{OpId}
 use Rattle.path_model.specs.Trees.{any, most, Tree, op, seq, alt, burst, shape}
 use Rattle.path_model.specs.Legal.{numbered}
 use Rattle.path_model.specs.Machine.{semicolons, braces, prologue, epilogue}
-use Rattle.path_model.specs.Flat.{Sited, sited, in_table}
+use Rattle.path_model.specs.Flat.{semaphores_in, Sited, sited, in_table}
 use Rattle.path_model.specs.Declarations.{Path}
 use Rattle.path_code.specs.declared.terms.OpCode.{OpCode}
 use Rattle.path_code.specs.declared.code.PathCode.{PathCode}
@@ -80,3 +80,12 @@ numbered_trees ps = numbered 0 (map (λ p. p.tree) ps)
 
 abbrev pub sites : List Path → List (ℕ × Sited)
 sites ps = sited 0 0 (numbered_trees ps)
+
+-- how many semaphores and how many pairs of braces the paths have together
+abbrev pub total_semaphores : List (ℕ × Tree) → ℕ
+total_semaphores [] = 0
+total_semaphores (x ∷ xs) = semaphores_in x.1 + total_semaphores xs
+
+abbrev pub total_braces : List (ℕ × Tree) → ℕ
+total_braces [] = 0
+total_braces (x ∷ xs) = braces x.1 + total_braces xs

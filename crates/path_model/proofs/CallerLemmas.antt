@@ -6,6 +6,7 @@ pub use Rattle.path_model.proofs.OpenBurst.{each_labelling_counts, counters_tell
 pub use Rattle.path_model.proofs.AmongOthers.{each_path_guards}
 pub use Rattle.path_model.proofs.AllPaths.{all_paths_judge, projections_keep_progress, each_event_moves, first_is_one, starts_only_block, each_block_stays, finishes_unblock}
 pub use Rattle.path_model.proofs.Trimmed.{each_path_trims, trimming_keeps_answers, trimmed_admits_the_words}
+pub use Rattle.path_model.proofs.Downward.{substitution_reads_upwards}
 pub use Rattle.path_model.proofs.Flat.{one_table_shows_all}
 pub use Rattle.path_model.proofs.Agreement.{the_machines_agree}
 pub use Rattle.path_model.proofs.BoundedValues.{each_value_is_bounded, values_among_are_bounded, table_values_are_bounded}
@@ -19,11 +20,12 @@ pub use Rattle.path_model.proofs.StuckStates.{frozen_stays_frozen, startables_ma
 pub use Rattle.path_model.proofs.Upward.{has_names, names_has, path_left, path_right, path_one, path_other}
 -- lists of paths with numbers, and the values of all paths as those of each
 pub use Rattle.path_model.proofs.AllPaths.{every_map, every_both, every_from, every_to, first_from, first_to, first_same, none_same, on_tree, placed, after_placed, now}
--- the kept paths, with the values of each
+-- equal trees, and the kept paths with the values of each
 pub use Rattle.path_model.proofs.Trimmed.{same_tree_same, kept_none, kept_every, lean_now, lean_after_placed}
--- the numbers of bounds, and where there is none
+-- the numbers of bounds, where there is none, and of what stands in terms
 pub use Rattle.path_model.proofs.OnePath.{bounds_out}
-pub use Rattle.path_model.proofs.FlatNumbers.{rank_before, rank_after, rank_low, rank_apart, bound_within}
+pub use Rattle.path_model.proofs.FlatNumbers.{rank_before, rank_after, rank_low, rank_apart, bound_within, opening_out, opening_of}
+pub use Rattle.path_model.proofs.FlatNumbers.{InTable, prologue_has, epilogue_has}
 -- the table of paths without braces
 pub use Rattle.path_model.proofs.FlatNumbers.{none_counted}
 pub use Rattle.path_model.proofs.Flat.{plain_openings}

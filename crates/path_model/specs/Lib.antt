@@ -11,6 +11,7 @@ pub mod AmongOthers
 pub mod BurstCounts
 pub mod AllPaths
 pub mod Trimmed
+pub mod Downward
 pub mod Flat
 pub mod KeptTerms
 pub mod Agreement

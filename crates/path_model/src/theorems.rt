@@ -8,6 +8,7 @@ ghost use Rattle.path_model.specs.AllPaths.{StartsOnlyBlock, EachBlockStays, Fin
 ghost use Rattle.path_model.specs.Trimmed.{EachPathTrims, TrimmingKeepsAnswers, TrimmedAdmitsTheWords};
 ghost use Rattle.path_model.specs.Flat.{OneTableShowsAll};
 ghost use Rattle.path_model.specs.KeptTerms.{TrimmedTermsTouchTheKept, FinishesFindTheirCounters};
+ghost use Rattle.path_model.specs.Downward.{SubstitutionReadsUpwards};
 ghost use Rattle.path_model.specs.Agreement.{TheMachinesAgree};
 ghost use Rattle.path_model.specs.BoundedValues.{EachValueIsBounded, ValuesAmongAreBounded, TableValuesAreBounded};
 ghost use Rattle.path_model.specs.Honest.{FrontsAreHonest, TheMachineOwesTheSame, HonestByMachineIsHonest};
@@ -84,6 +85,11 @@ pub fn trimming_keeps_answers()
 /// The trimmed semaphores admit exactly what the words of all paths allow.
 pub fn trimmed_admits_the_words()
     ensures { TrimmedAdmitsTheWords }
+{}
+
+/// The substitution from the root of a tree downwards puts round each name what is read upwards from it.
+pub fn substitution_reads_upwards()
+    ensures { SubstitutionReadsUpwards }
 {}
 
 /// One table, with numbers that count through the paths, holds the values of each path.

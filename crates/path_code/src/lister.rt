@@ -1,0 +1,209 @@
+//! Shows what paths are compiled to.
+
+ghost use Rattle.std.specs.Prelude.{◌≡◌, ◌++◌, ◌∷◌, [], map, IfOk, OnOk};
+ghost use Rattle.std.specs.String.{string_bytes};
+ghost use Rattle.path_code.specs.Listing.{operation_text, resource_text, prologue_text, epilogue_text, header_line, semaphore_line};
+ghost use Rattle.path_code.specs.Listing.{counter_line, mutex_line, op_line, lines_text, parts_text, listing_text};
+
+use crate::code::{Code, PathCode};
+use crate::terms::{Epilogue, OpCode, Prologue};
+use path_decl::{Decl, op_name, resource_name};
+use path_model::{OpId, OutOfMemory, ResId};
+use std::alloc::Allocator;
+
+/// Appends the name of an operation; `#` and its number where the declaration doesn't have it. Refused only for want of memory; a
+/// front of the text may have been appended then.
+pub fn push_operation<A: Allocator + Copy, B: Allocator + Copy>(
+    out: &mut String<B>,
+    decl: &Decl<A>,
+    op: OpId,
+) -> Result<(), OutOfMemory>
+    ensures { OnOk result (string_bytes out.new ≡ string_bytes out.old ++ operation_text decl.now.declaration op.0) }
+{
+    match op_name(decl, op) {
+        Some(name) => out.push_str(name)?,
+        None => {
+            let number = op.0;
+            write!(out, "#{number}")?;
+        }
+    }
+    Ok(())
+}
+
+/// Appends the name of a resource; `#` and its number where the declaration doesn't have it. Refused only for want of memory; a
+/// front of the text may have been appended then.
+pub fn push_resource<A: Allocator + Copy, B: Allocator + Copy>(
+    out: &mut String<B>,
+    decl: &Decl<A>,
+    resource: ResId,
+) -> Result<(), OutOfMemory>
+    ensures { OnOk result (string_bytes out.new ≡ string_bytes out.old ++ resource_text decl.now.declaration resource.0) }
+{
+    match resource_name(decl, resource) {
+        Some(name) => out.push_str(name)?,
+        None => {
+            let number = resource.0;
+            write!(out, "#{number}")?;
+        }
+    }
+    Ok(())
+}
+
+/// Appends what stands before an operation.
+fn push_prologue<B: Allocator + Copy>(
+    out: &mut String<B>,
+    prologue: Prologue,
+) -> Result<(), OutOfMemory>
+    ensures { OnOk result (string_bytes out.new ≡ string_bytes out.old ++ prologue_text prologue) }
+{
+    match prologue {
+        Prologue::P(s) => write!(out, "P(s{s})")?,
+        Prologue::PP(c, s) => write!(out, "PP(c{c},m{c},P(s{s}))")?,
+        Prologue::PPN(c, s, u) => write!(out, "P(s{u}); PP(c{c},m{c},P(s{s}))")?,
+    }
+    Ok(())
+}
+
+/// Appends what stands after an operation.
+fn push_epilogue<B: Allocator + Copy>(
+    out: &mut String<B>,
+    epilogue: Epilogue,
+) -> Result<(), OutOfMemory>
+    ensures { OnOk result (string_bytes out.new ≡ string_bytes out.old ++ epilogue_text epilogue) }
+{
+    match epilogue {
+        Epilogue::V(s) => write!(out, "V(s{s})")?,
+        Epilogue::VV(c, s) => write!(out, "VV(c{c},m{c},V(s{s}))")?,
+        Epilogue::VVN(c, s, u) => write!(out, "VV(c{c},m{c},V(s{s})); V(s{u})")?,
+    }
+    Ok(())
+}
+
+/// Appends `path N of RESOURCE` without a line feed; `#` and its number stand for a resource that the declaration doesn't have.
+/// Refused only for want of memory; a front of the text may have been appended then.
+pub fn push_header<A: Allocator + Copy, B: Allocator + Copy>(
+    out: &mut String<B>,
+    decl: &Decl<A>,
+    number: u32,
+    resource: ResId,
+) -> Result<(), OutOfMemory>
+    ensures { OnOk result (string_bytes out.new ≡
+        string_bytes out.old ++ header_line decl.now.declaration number resource.0) }
+{
+    write!(out, "path {number} of ")?;
+    push_resource(out, decl, resource)
+}
+
+/// Appends a line `sK = V` for each of these semaphores and the value at which it opens, in order. Refused only for want of memory;
+/// a front of the text may have been appended then. The cost is that of the text.
+pub fn push_semaphores<B: Allocator + Copy>(
+    out: &mut String<B>,
+    semaphores: &[(u32, u32)],
+) -> Result<(), OutOfMemory>
+    ensures { OnOk result (string_bytes out.new ≡ string_bytes out.old ++ lines_text (map semaphore_line semaphores.now)) }
+{
+    for (number, value) in semaphores {
+        write!(out, "s{number} = {value}\n")?;
+    }
+    Ok(())
+}
+
+/// Appends a line `cK = 0` for each of these counters, in order. Refused only for want of memory; a front of the text may have been
+/// appended then. The cost is that of the text.
+pub fn push_counters<B: Allocator + Copy>(
+    out: &mut String<B>,
+    counters: &[u32],
+) -> Result<(), OutOfMemory>
+    ensures { OnOk result (string_bytes out.new ≡ string_bytes out.old ++ lines_text (map counter_line counters.now)) }
+{
+    for number in counters {
+        write!(out, "c{number} = 0\n")?;
+    }
+    Ok(())
+}
+
+/// Appends a line for each mutex.
+fn push_mutexes<B: Allocator + Copy>(
+    out: &mut String<B>,
+    mutexes: &[u32],
+) -> Result<(), OutOfMemory>
+    ensures { OnOk result (string_bytes out.new ≡ string_bytes out.old ++ lines_text (map mutex_line mutexes.now)) }
+{
+    for number in mutexes {
+        write!(out, "m{number} = 1\n")?;
+    }
+    Ok(())
+}
+
+/// Appends the line of an operation.
+fn push_op<A: Allocator + Copy, B: Allocator + Copy>(
+    out: &mut String<B>,
+    decl: &Decl<A>,
+    op: &OpCode,
+) -> Result<(), OutOfMemory>
+    ensures { OnOk result (string_bytes out.new ≡
+        string_bytes out.old ++ lines_text (op_line decl.now.declaration op.now ∷ [])) }
+{
+    push_operation(out, decl, op.op)?;
+    out.push_str(": ")?;
+    push_prologue(out, op.prologue)?;
+    out.push_str(" | ")?;
+    push_epilogue(out, op.epilogue)?;
+    out.push_str("\n")?;
+    Ok(())
+}
+
+/// Appends a line for each operation.
+fn push_ops<A: Allocator + Copy, B: Allocator + Copy>(
+    out: &mut String<B>,
+    decl: &Decl<A>,
+    ops: &[OpCode],
+) -> Result<(), OutOfMemory>
+    ensures { OnOk result (string_bytes out.new ≡
+        string_bytes out.old ++ lines_text (map (op_line decl.now.declaration) ops.now)) }
+{
+    for op in ops {
+        push_op(out, decl, op)?;
+    }
+    Ok(())
+}
+
+/// Appends the lines of a path.
+fn push_path<A: Allocator + Copy, B: Allocator + Copy, C: Allocator + Copy>(
+    out: &mut String<C>,
+    decl: &Decl<A>,
+    number: u32,
+    path: &PathCode<B>,
+) -> Result<(), OutOfMemory>
+    ensures { OnOk result (string_bytes out.new ≡ string_bytes out.old ++
+        parts_text decl.now.declaration number path.now.resource.0 path.now.semaphores.items path.now.braces.items path.now.ops.items) }
+{
+    push_header(out, decl, number, path.resource)?;
+    out.push_str("\n")?;
+    push_semaphores(out, &path.semaphores)?;
+    push_counters(out, &path.braces)?;
+    push_mutexes(out, &path.braces)?;
+    push_ops(out, decl, &path.ops)
+}
+
+/// The text of compiled paths: for each path the line `path N of RESOURCE`; a line `sK = V` for each semaphore, `cK = 0` for each
+/// counter and `mK = 1` for each mutex, ascending; and a line `NAME: PROLOGUE | EPILOGUE` for each operation, in the order of their
+/// places. Each line ends with a line feed. Of a number that the declaration doesn't have, `#` and the number stand in the place of
+/// the name.
+///
+/// The only error is want of memory. The cost is that of the text.
+pub fn listing<A: Allocator + Copy, B: Allocator + Copy, C: Allocator + Copy>(
+    alloc: C,
+    decl: &Decl<A>,
+    code: &Code<B>,
+) -> Result<String<C>, OutOfMemory>
+    ensures { IfOk result (λ text. string_bytes text ≡ listing_text decl.now.declaration code.now.paths) }
+{
+    let mut out = String::new(alloc);
+    let mut number = 0;
+    for path in code.paths() {
+        push_path(&mut out, decl, number, path)?;
+        number += 1;
+    }
+    Ok(out)
+}

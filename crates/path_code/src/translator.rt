@@ -1,0 +1,113 @@
+//! From a declaration to prologues and epilogues.
+
+ghost use Rattle.std.specs.Prelude.{◌≡◌, ◌+◌, ◌-◌, ◌*◌, ◌<◌, ◌≤◌, ◌∷◌, ◌^◌, replicate, IfOk};
+ghost use Rattle.path_model.specs.Trees.{shape, WellFormed};
+ghost use Rattle.path_model.specs.Machine.{semicolons, braces};
+ghost use Rattle.path_model.specs.Flat.{semaphores_in};
+ghost use Rattle.path_code.specs.PathCodes.{IsPathCode, numbered_values, numbers_from};
+ghost use Rattle.path_code.specs.Walks.{parts};
+
+use crate::code::{Code, PathCode};
+use crate::copies::copied;
+use crate::substitution::{Numbers, add_starts, counted, set_ends};
+use crate::terms::{Epilogue, Prologue};
+use path_decl::{Decl, counts, path_resource, tree_of};
+use path_model::{Expr, OutOfMemory, PathId, ResId};
+use std::alloc::Allocator;
+
+/// A path's own semaphore, which has the number `own` and opens at 1, and those of its `;`, which have the numbers from there up to
+/// `end` and open at 0. There is room for so many more.
+fn first_semaphores<A: Allocator + Copy>(
+    alloc: A,
+    own: u32,
+    end: u32,
+    more: u32,
+) -> Result<Vec<(u32, u32), A>, OutOfMemory>
+    requires { own < end }
+    ensures { IfOk result (λ v. v.items ≡ (own, 1) ∷ numbered_values (own + 1) (replicate (end - (own + 1)) 0)) }
+{
+    let places = (end - own) as usize + more as usize;
+    let mut semaphores = Vec::with_capacity(alloc, places)?;
+    semaphores.push((own, 1))?;
+    for number in own + 1..end {
+        semaphores.push((number, 0))?;
+    }
+    Ok(semaphores)
+}
+
+/// The numbers from `first` up to `end`.
+fn numbers<A: Allocator + Copy>(alloc: A, first: u32, end: u32) -> Result<Vec<u32, A>, OutOfMemory>
+    requires { first ≤ end }
+    ensures { IfOk result (λ v. v.items ≡ numbers_from first (end - first)) }
+{
+    let mut numbers = Vec::with_capacity(alloc, (end - first) as usize)?;
+    for number in first..end {
+        numbers.push(number)?;
+    }
+    Ok(numbers)
+}
+
+/// What a path is compiled to, where its own semaphore has the number `own` and its first pair of braces the number `brace`. The
+/// cost is four walks over its tree.
+fn path_code<A: Allocator + Copy, B: Allocator + Copy>(
+    alloc: B,
+    resource: ResId,
+    tree: &Expr<A>,
+    own: u32,
+    brace: u32,
+) -> Result<PathCode<B>, OutOfMemory>
+    requires formed { WellFormed (shape tree.now) }
+    requires few { 2 * parts (shape tree.now) + 2 * own + brace + 2 < 2 ^ 32 }
+    ensures code { IfOk result (IsPathCode (record { tree = shape tree.now; own = own; first = brace })) }
+    ensures resource { IfOk result (λ code. code.resource ≡ resource) }
+{
+    let count = counted(tree);
+    let next = Numbers {
+        place: 0,
+        semicolon: own + 1,
+        brace,
+        bound: own + 1 + count.semicolon,
+    };
+    let mut semaphores = first_semaphores(alloc, own, next.bound, count.bound)?;
+    let mut ops = Vec::with_capacity(alloc, count.place as usize)?;
+    let start = Prologue::P(own);
+    let end = add_starts(&mut ops, &mut semaphores, tree, next, start)?;
+    set_ends(&mut ops, tree, end, Epilogue::V(own));
+    Ok(PathCode {
+        resource,
+        tree: copied(alloc, tree)?,
+        semaphores,
+        braces: numbers(alloc, brace, end.brace)?,
+        ops,
+    })
+}
+
+/// What the paths of a declaration are compiled to: from the root of each tree downwards, `L S ; T R` becomes `L S V(t)` and
+/// `P(t) T R` with a semaphore `t` that opens at 0, `L S , T R` becomes `L S R` and `L T R`, and `L { S } R` becomes
+/// `PP(c,m,L) S VV(c,m,R)`; with a bound, `P(u)` stands before it and `V(u)` after it, where `u` opens at the bound. The root has
+/// `P(s)` and `V(s)`, where `s` opens at 1 (Campbell and Habermann, 1974). The numbers of semaphores and of pairs of braces count
+/// from 0 through the file.
+///
+/// The only error is want of memory; nothing is kept then. The cost is a few walks over each tree, and a place for each of its
+/// parts.
+pub fn translate<A: Allocator + Copy, B: Allocator + Copy>(
+    alloc: B,
+    decl: &Decl<A>,
+) -> Result<Code<B>, OutOfMemory>
+    ensures { IfOk result (λ code. code.paths ≡ decl.now.declaration.paths) }
+{
+    let total = counts(decl).paths;
+    let mut paths = Vec::with_capacity(alloc, total as usize)?;
+    let mut semaphore = 0;
+    let mut brace = 0;
+    for number in 0..total {
+        let path = PathId(number);
+        let resource = path_resource(decl, path).unwrap();
+        let tree = tree_of(decl, path).unwrap();
+        let code = path_code(alloc, resource, tree, semaphore, brace)?;
+        semaphore += code.semaphores.len() as u32;
+        brace += code.braces.len() as u32;
+        paths.push(code)?;
+    }
+    Ok(Code { paths })
+}

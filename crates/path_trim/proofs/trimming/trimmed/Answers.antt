@@ -1,0 +1,46 @@
+-- Each path is compared with those before it, and all of them are the trimmed table.
+use Rattle.std.proofs.Common.{◌≡◌, ◌≤◌, length, take, subst, sym, ap, ◌∙◌, arith}
+use Rattle.std.proofs.lemmas.List.{take_all}
+use Rattle.path_code.specs.Known.{KnownCode}
+use Rattle.path_code.specs.PathCodes.{sites}
+use Rattle.path_trim.specs.Trees.{trees_in}
+use Rattle.path_trim.specs.LawfulTrees.{LawfulTrees}
+use Rattle.path_trim.specs.Compared.{compared}
+use Rattle.path_trim.specs.LeanTable.{lean_table}
+use Rattle.path_trim.specs.RemovedList.{removed_list}
+use Rattle.path_trim.specs.Rows.{fates_of}
+use Rattle.path_trim.proofs.Lawful.{lawful_trees}
+use Rattle.path_trim.proofs.Walk.{Made, codes_length, here, same_step, kept_step}
+use Rattle.path_trim.proofs.trimming.trimmed.Goals as goal
+use Rattle.path_trim.proofs.trimming.trimmed.Goals.{in-Some+in_ok-remove-in-Some, in-None+in_ok-keep-in-None}
+
+pub keep-requires : goal.keep-requires
+keep-requires g c = (_, here (trees_in c.args.code.now) c.paths-paths.result.now c.paths-paths.ensures.table c.loop-number.number c.loop-number-test.true c.index-paths-number.result c.index-paths-number.is)
+
+pub loop-number-preserved : goal.loop-number-preserved
+loop-number-preserved g c =
+    let ss = trees_in c.args.code.now in
+    elim c.match-first_equal.branch [
+      | in-Some+in_ok-remove-in-Some w ↦
+          rw w.parts-is (same_step ss c.paths-paths.result.now c.paths-paths.ensures.table c.loop-number.number c.loop-number-test.true c.index-paths-number.result c.index-paths-number.is
+          c.loop-number.parts w.remove.new.self w.in-Some.first w.in-Some.ensures c.loop-number.invariant w.in_ok-remove-in-Some.ensures)
+      | in-None+in_ok-keep-in-None w ↦
+          rw w.parts-is (kept_step ss c.paths-paths.result.now c.paths-paths.ensures.table c.loop-number.number c.loop-number-test.true c.index-paths-number.result c.index-paths-number.is
+          c.loop-number.parts w.keep.new.self w.in-None.ensures c.loop-number.invariant w.in_ok-keep-in-None.ensures)
+    ]
+
+pub invariant_of-result : goal.invariant_of-result
+invariant_of-result g c = (subst (λ (v : KnownCode). LawfulTrees (trees_in v)) (sym c.of.ensures) (lawful_trees c.args.code.now.paths c.args.code.now.lawful), tt)
+
+pub invariant_of-result-2 : goal.invariant_of-result-2
+invariant_of-result-2 g c =
+    let xs = sites c.args.code.now.paths in
+    let all : length xs ≤ c.loop-number.number = let n = codes_length xs c.paths-paths.result.now c.paths-paths.ensures.table in omega (arith, c.loop-number-test.false) in
+    let whole : take c.loop-number.number xs ≡ xs = take_all c.loop-number.number xs all in
+    let made : Made c.loop-number.parts xs = subst (Made c.loop-number.parts) whole c.loop-number.invariant in
+    let is : c.args.code.now ≡ c.of.result.value = sym c.of.ensures in
+    record {
+      table = made.table ∙ ap (λ (v : KnownCode). lean_table (trees_in v)) is;
+      removed = made.removed ∙ ap (λ (v : KnownCode). removed_list (trees_in v)) is;
+      fates = made.fates ∙ ap (λ (v : KnownCode). fates_of (compared (trees_in v))) is;
+    }

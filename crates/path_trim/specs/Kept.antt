@@ -1,0 +1,22 @@
+-- What trimmed paths show, and what they keep beside that.
+use Rattle.std.specs.Prelude.{◌≡◌, List, map}
+use Rattle.path_model.specs.Trees.{Tree}
+use Rattle.path_trim.specs.declared.lean.Lean.TheInside.{Inside}
+use Rattle.path_trim.specs.Known.{KnownTrees}
+use Rattle.path_trim.specs.Trees.{trees_in}
+use Rattle.path_trim.specs.Compared.{compared}
+use Rattle.path_trim.specs.LeanTable.{lean_table}
+use Rattle.path_trim.specs.RemovedList.{removed_list}
+use Rattle.path_trim.specs.Rows.{row_of, fates_of}
+
+abbrev pub trees_shown : {Y : Type 0} → Inside Y → List Tree
+trees_shown l = trees_in l.code.value
+
+abbrev pub shown : {Y : Type 0} → Inside Y → KnownTrees
+shown l = record { trees = trees_shown l; lawful = l.lawful }
+
+-- they are the trimmed table of these trees, and beside it stand what was removed and what became of each path
+pub record IsKept {Y : Type 0} (l : Inside Y) : Type 0 where
+  pub table : map row_of l.kept.items ≡ lean_table (trees_shown l)
+  pub removed : l.removed.items ≡ removed_list (trees_shown l)
+  pub fates : l.fates.items ≡ fates_of (compared (trees_shown l))

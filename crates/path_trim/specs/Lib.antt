@@ -1,0 +1,13 @@
+pub mod Trees
+pub mod LawfulTrees
+pub mod Known
+pub mod Compared
+pub mod LeanTable
+pub mod RemovedList
+pub mod LeanListing
+pub mod Totals
+pub mod FirstEqual
+pub mod Steps
+pub mod Rows
+pub mod Parts
+pub mod Kept

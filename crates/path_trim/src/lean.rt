@@ -1,0 +1,59 @@
+//! Trimmed paths, and what they answer.
+
+ghost use Rattle.std.specs.Prelude.{◌≡◌, map};
+ghost use Rattle.path_trim.specs.Trees.{trees_in};
+ghost use Rattle.path_trim.specs.LawfulTrees.{LawfulTrees, LawfulTrees-prop};
+ghost use Rattle.path_trim.specs.LeanTable.{lean_table};
+ghost use Rattle.path_trim.specs.RemovedList.{removed_list};
+ghost use Rattle.path_trim.specs.Rows.{row_of};
+
+use crate::table::{Fate, LeanPath, Removed};
+use path_code::Code;
+use std::alloc::{Allocator, Global};
+use std::marker::Model;
+use std::snapshot::Snapshot;
+
+/// What is left of the paths of a file. Contracts see the trees of all its paths, the removed ones too, as its `trees`, and beside
+/// them what always holds of them, `lawful`.
+#[derive(Drop)]
+pub struct Lean<A: Allocator + Copy = Global> {
+    /// What was trimmed, which only contracts read: it takes no memory.
+    pub(crate) code: Snapshot<Code<A>>,
+    /// The paths that are kept.
+    pub(crate) kept: Vec<LeanPath<A>, A>,
+    /// What was removed, path after path.
+    pub(crate) removed: Vec<Removed, A>,
+    /// What became of each path.
+    pub(crate) fates: Vec<Fate, A>,
+    ghost lawful: { LawfulTrees (trees_in code.value) } by { LawfulTrees-prop _ },
+}
+
+impl<A: Allocator + Copy> Model for Lean<A> {
+    ghost use Rattle.path_trim.specs.Known.{KnownTrees, known_trees};
+
+    ghost Value = { KnownTrees };
+
+    ghost coded = { known_trees };
+
+    ghost use Rattle.path_trim.specs.Kept.{shown, IsKept};
+
+    ghost view = { shown };
+
+    ghost invariant = { IsKept };
+}
+
+/// The trimmed table: what is left of each path whose tree no earlier path has, in the order of the file. The cost is the same for
+/// any table.
+pub fn kept<A: Allocator + Copy>(lean: &Lean<A>) -> &[LeanPath<A>]
+    ensures { map row_of result.now ≡ lean_table lean.now.trees }
+{
+    lean.kept.as_slice()
+}
+
+/// What was removed, path after path: of a path whose tree an earlier path has only that it is the same as the first such path; of
+/// any other its semaphore, its counter, and then its mutexes, ascending. The cost is the same for any list.
+pub fn removed<A: Allocator + Copy>(lean: &Lean<A>) -> &[Removed]
+    ensures { result.now ≡ removed_list lean.now.trees }
+{
+    lean.removed.as_slice()
+}

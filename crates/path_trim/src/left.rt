@@ -1,0 +1,157 @@
+//! What is left of one path, and what of it is removed.
+
+ghost use Rattle.std.specs.Prelude.{◌≡◌, ◌++◌, ◌∷◌, [], true, length, map, drop, if◌then◌else◌, IfOk, OnOk};
+ghost use Rattle.path_model.specs.Trees.{shape};
+ghost use Rattle.path_model.specs.Flat.{Sited};
+ghost use Rattle.path_model.specs.Trimmed as trimmed;
+ghost use Rattle.path_code.specs.PathCodes.{IsPathCode};
+ghost use Rattle.path_trim.specs.declared.table.Removed.TheVariants.{Semaphore, Counter, Mutex};
+ghost use Rattle.path_trim.specs.LeanTable.{lean_row};
+ghost use Rattle.path_trim.specs.RemovedList.{values_removed};
+ghost use Rattle.path_trim.specs.Rows.{row_of};
+ghost use Rattle.path_trim.specs.Steps.{prologue_kept, epilogue_kept, op_kept};
+
+use crate::table::{LeanOp, LeanPath, Removed};
+use path_code::{Epilogue, OpCode, PathCode, Prologue};
+use path_model::{Expr, OutOfMemory, PathId};
+use std::alloc::Allocator;
+
+/// Whether the whole tree is one pair of braces.
+fn is_burst<A: Allocator + Copy>(tree: &Expr<A>) -> bool
+    ensures { result ≡ trimmed.is_burst (shape tree.now) }
+{
+    match tree {
+        Expr::Op(_) | Expr::Seq(_, _) | Expr::Alt(_, _) => false,
+        Expr::Burst(_) | Expr::Counted(_, _) => true,
+    }
+}
+
+/// What is left of a prologue, where braces are the whole path or not.
+fn lean_prologue(whole: bool, prologue: Prologue) -> Option<Prologue>
+    ensures { result ≡ prologue_kept whole prologue }
+{
+    match prologue {
+        Prologue::PP(_, _) if whole => None,
+        Prologue::PPN(_, _, bound) if whole => Some(Prologue::P(bound)),
+        _ => Some(prologue),
+    }
+}
+
+/// What is left of an epilogue, where braces are the whole path or not.
+fn lean_epilogue(whole: bool, epilogue: Epilogue) -> Option<Epilogue>
+    ensures { result ≡ epilogue_kept whole epilogue }
+{
+    match epilogue {
+        Epilogue::VV(_, _) if whole => None,
+        Epilogue::VVN(_, _, bound) if whole => Some(Epilogue::V(bound)),
+        _ => Some(epilogue),
+    }
+}
+
+/// What is left of the operations of a path.
+fn lean_ops<A: Allocator + Copy>(
+    alloc: A,
+    whole: bool,
+    ops: &[OpCode],
+) -> Result<Vec<LeanOp, A>, OutOfMemory>
+    ensures { IfOk result (λ v. v.items ≡ map (op_kept whole) ops.now) }
+{
+    let mut lean = Vec::with_capacity(alloc, ops.len())?;
+    for op in ops {
+        lean.push(LeanOp {
+            op: op.op,
+            prologue: lean_prologue(whole, op.prologue),
+            epilogue: lean_epilogue(whole, op.epilogue),
+        })?;
+    }
+    Ok(lean)
+}
+
+/// The semaphores that are left: where braces are the whole path, all but the first.
+fn lean_semaphores<A: Allocator + Copy>(
+    alloc: A,
+    whole: bool,
+    semaphores: &[(u32, u32)],
+) -> Result<Vec<(u32, u32), A>, OutOfMemory>
+    ensures { let left = if whole then drop 1 semaphores.now else semaphores.now in IfOk result (λ v. v.items ≡ left) }
+{
+    let removed = usize::from(whole);
+    Ok(semaphores.iter().copied().skip(removed).collect(alloc)?)
+}
+
+/// The counters that are left: where braces are the whole path, none.
+fn lean_counters<A: Allocator + Copy>(
+    alloc: A,
+    whole: bool,
+    braces: &[u32],
+) -> Result<Vec<u32, A>, OutOfMemory>
+    ensures { let left = if whole then [] else braces.now in IfOk result (λ v. v.items ≡ left) }
+{
+    if whole {
+        return Ok(Vec::new(alloc));
+    }
+    Ok(braces.iter().copied().collect(alloc)?)
+}
+
+/// What is left of a path that is kept. One pass over its code.
+pub(crate) fn lean_path<A: Allocator + Copy>(
+    alloc: A,
+    path: PathId,
+    code: &PathCode<A>,
+) -> Result<LeanPath<A>, OutOfMemory>
+    ensures { IfOk result (λ lean. (x : Sited) → IsPathCode x code.now → row_of lean ≡ lean_row (path.0, x)) }
+{
+    let whole = is_burst(&code.tree);
+    Ok(LeanPath {
+        path,
+        semaphores: lean_semaphores(alloc, whole, &code.semaphores)?,
+        counters: lean_counters(alloc, whole, &code.braces)?,
+        ops: lean_ops(alloc, whole, &code.ops)?,
+    })
+}
+
+/// Notes that the own semaphore and the counter of a path are removed that is one pair of braces.
+fn note_whole<A: Allocator + Copy>(
+    removed: &mut Vec<Removed, A>,
+    code: &PathCode<A>,
+) -> Result<(), OutOfMemory>
+    requires code { (x : Sited) × IsPathCode x code.now }
+    requires whole { trimmed.is_burst (shape code.now.tree) ≡ true }
+    ensures { (x : Sited) → IsPathCode x code.now →
+        OnOk result (removed.new.items ≡ removed.old.items ++ Semaphore x.own ∷ Counter x.first ∷ []) }
+{
+    let (own, _) = code.semaphores[0];
+    removed.push(Removed::Semaphore(own))?;
+    removed.push(Removed::Counter(code.braces[0]))?;
+    Ok(())
+}
+
+/// Notes that the mutexes of these pairs of braces are removed.
+fn note_mutexes<A: Allocator + Copy>(
+    removed: &mut Vec<Removed, A>,
+    braces: &[u32],
+) -> Result<(), OutOfMemory>
+    ensures { OnOk result (removed.new.items ≡ removed.old.items ++ map (λ m. Mutex m) braces.now) }
+{
+    for pair in braces {
+        removed.push(Removed::Mutex(*pair))?;
+    }
+    Ok(())
+}
+
+/// Notes what of a path that is kept is removed, and answers how many things these are. One pass over its braces.
+pub(crate) fn note_removed<A: Allocator + Copy>(
+    removed: &mut Vec<Removed, A>,
+    code: &PathCode<A>,
+) -> Result<usize, OutOfMemory>
+    requires { (x : Sited) × IsPathCode x code.now }
+    ensures noted { (x : Sited) → IsPathCode x code.now → OnOk result (removed.new.items ≡ removed.old.items ++ values_removed x) }
+    ensures counted { (x : Sited) → IsPathCode x code.now → IfOk result (λ n. n ≡ length (values_removed x)) }
+{
+    let before = removed.len();
+    if is_burst(&code.tree) {
+        note_whole(removed, code)?;
+    }
+    note_mutexes(removed, &code.braces)?;
+    Ok(removed.len() - before)
+}

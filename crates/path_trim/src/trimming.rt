@@ -1,0 +1,92 @@
+//! Trims compiled paths.
+
+ghost use Rattle.std.specs.Prelude.{◌≡◌, ◌++◌, ◌∷◌, [], length, map, IfOk, IfErr, OnOk};
+ghost use Rattle.path_model.specs.Flat.{Sited};
+ghost use Rattle.path_code.specs.PathCodes.{IsPathCode};
+ghost use Rattle.path_trim.specs.Trees.{trees_in};
+ghost use Rattle.path_trim.specs.LeanTable.{lean_row};
+ghost use Rattle.path_trim.specs.RemovedList.{values_removed};
+ghost use Rattle.path_trim.specs.Parts.{Adds};
+ghost use Rattle.path_trim.specs.declared.table.Removed.TheVariants.{SamePath};
+ghost use Rattle.path_trim.specs.declared.table.Fate.TheVariants.{SameAs, Stays};
+
+use crate::equal::first_equal;
+use crate::lean::Lean;
+use crate::left::{lean_path, note_removed};
+use crate::table::{Fate, LeanPath, Removed};
+use path_code::{Code, PathCode};
+use path_model::{OutOfMemory, PathId};
+use std::alloc::Allocator;
+use std::snapshot::Snapshot;
+
+/// What was made of the paths so far.
+#[derive(Drop)]
+struct Parts<A: Allocator + Copy> {
+    kept: Vec<LeanPath<A>, A>,
+    removed: Vec<Removed, A>,
+    fates: Vec<Fate, A>,
+}
+
+impl<A: Allocator + Copy> Parts<A> {
+    /// Removes a path whose tree is first that of an earlier one.
+    fn remove(&mut self, path: PathId, first: PathId) -> Result<(), OutOfMemory>
+        ensures { OnOk result (Adds self.old self.new [] (SamePath path first ∷ []) (SameAs first)) }
+    {
+        self.removed.push(Removed::SamePath(path, first))?;
+        self.fates.push(Fate::SameAs(first))?;
+        Ok(())
+    }
+
+    /// Keeps a path.
+    fn keep(&mut self, alloc: A, path: PathId, code: &PathCode<A>) -> Result<(), OutOfMemory>
+        requires { (x : Sited) × IsPathCode x code.now }
+        ensures { OnOk result ((x : Sited) → IsPathCode x code.now →
+            Adds self.old self.new (lean_row (path.0, x) ∷ []) (values_removed x) (Stays (length (values_removed x)))) }
+    {
+        self.kept.push(lean_path(alloc, path, code)?)?;
+        let count = note_removed(&mut self.removed, code)?;
+        self.fates.push(Fate::Stays(count))?;
+        Ok(())
+    }
+}
+
+/// The trimmed paths of a code.
+fn trimmed<A: Allocator + Copy>(alloc: A, code: &Code<A>) -> Result<Lean<A>, OutOfMemory>
+    ensures { IfOk result (λ lean. lean.trees ≡ trees_in code.now) }
+{
+    let paths = code.paths();
+    let mut parts = Parts {
+        kept: Vec::new(alloc),
+        removed: Vec::new(alloc),
+        fates: Vec::new(alloc),
+    };
+    for (number, path) in paths.iter().enumerate() {
+        let id = PathId(number as u32);
+        match first_equal(&paths[..number], &path.tree) {
+            Some(first) => parts.remove(id, PathId(first as u32))?,
+            None => parts.keep(alloc, id, path)?,
+        }
+    }
+    Ok(Lean {
+        code: Snapshot::of(code),
+        kept: parts.kept,
+        removed: parts.removed,
+        fates: parts.fates,
+    })
+}
+
+/// Trims compiled paths: removes each mutex; the own semaphore of a path that is one pair of braces, counted or not, and the counter of
+/// those; and each path whose tree, with its bounds, an earlier path has. All else is kept, with its number.
+///
+/// The only error is want of memory; the code then comes back as it was. Each path is compared with each earlier one until one has its
+/// tree: at most 256 paths of at most 64 names, so at most 32,640 comparisons, each of which ends where the trees first differ.
+/// Else the cost is one pass over the code.
+pub fn trim<A: Allocator + Copy>(alloc: A, code: Code<A>) -> Result<Lean<A>, (Code<A>, OutOfMemory)>
+    ensures trimmed { IfOk result (λ lean. lean.trees ≡ trees_in code) }
+    ensures back { IfErr result (λ refusal. refusal.0 ≡ code) }
+{
+    match trimmed(alloc, &code) {
+        Ok(lean) => Ok(lean),
+        Err(error) => Err((code, error)),
+    }
+}
