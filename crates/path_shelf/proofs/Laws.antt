@@ -1,5 +1,5 @@
 -- What a verb, and another device of the same law, leave of a shelf: its laws, how many devices there are, and all others.
-use Rattle.std.proofs.Common.{◌≡◌, ◌≢◌, ℕ, ◌<◌, List, length, get_or, sym, ap, ◌∙◌, Result, Err, arith}
+use Rattle.std.proofs.Common.{◌≡◌, ◌≢◌, ℕ, ◌<◌, List, length, get_or, refl, sym, ap, ◌∙◌, Result, Err, arith}
 use Rattle.std.proofs.Math.ListN.{set}
 use Rattle.std.proofs.Math.Seq.{map-set_same}
 use Rattle.std.specs.Prelude.{map}
@@ -7,8 +7,9 @@ use Rattle.std.proofs.lemmas.List.{get_or-map, get_or-set_other, length-map, len
 use Rattle.path_model.specs.declared.resource.Law.TheVariants.{Cell}
 use Rattle.path_model.specs.declared.journal.Verb.{Verb}
 use Rattle.path_model.specs.Declarations.{Declaration, law_of}
+use Rattle.path_model.specs.Devices.{Outcome, serves, refuses}
 use Rattle.path_shelf.specs.declared.device.ActFault.{ActFault}
-use Rattle.path_shelf.specs.States.{State, ActsAt, state_at, laws_of}
+use Rattle.path_shelf.specs.States.{State, WouldServe, ActsAt, state_at, laws_of}
 use Rattle.path_shelf.specs.Shelves.{declared_laws}
 use Rattle.path_shelf.proofs.Shelved.{nothing, law_declared}
 
@@ -41,3 +42,8 @@ law_at states d r same within =
     let e : length (laws_of states) ≡ length states = length-map states (λ (s : State). s.law) in
     let here : r < length states = omega (arith, e, ap length same, length-map d.resources (λ (r : _). r.law)) in
     sym (get_or-map (λ (s : State). s.law) states r nothing Cell here) ∙ ap (λ ls. get_or ls r Cell) same ∙ law_declared d r Cell within
+
+-- a law that would serve serves with some number and some contents
+pub would_serve : (o : Outcome) → WouldServe o → (x : ℕ) × (rest : List ℕ) × (o ≡ serves x rest)
+would_serve (serves x rest) would = (x, rest, refl)
+would_serve (refuses r) would = absurd would

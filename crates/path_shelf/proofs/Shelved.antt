@@ -48,4 +48,4 @@ laws_more f xs d i a h k before same =
     let e2 = length-map (map f xs) (λ (s : State). s.law) in
     let e3 = length-map d.resources (λ (r : Resource). r.law) in
     take_more_same (laws_of (map f xs)) (declared_laws d) i Cell (omega (arith, e, e2)) (omega (arith, k, e3)) before
-        (law_at-map f xs i a Cell h ∙ same ∙ sym (law_declared d i Cell k))
+    (law_at-map f xs i a Cell h ∙ same ∙ sym (law_declared d i Cell k))

@@ -1,4 +1,4 @@
--- What contracts see of devices, and how a verb changes it.
+-- What contracts see of devices, and how a verb changes them.
 use Rattle.std.specs.Prelude.{◌≡◌, ◌⊎◌, ◌+◌, ◌^◌, ℕ, List, [], map, slice_index_or, slice_set, Result, IfOk, IfErr, OnErr}
 use Rattle.path_model.specs.declared.resource.Law.{Law}
 use Rattle.path_model.specs.declared.resource.Law.TheVariants.{Cell}

@@ -54,7 +54,8 @@ impl<D: Device, A: Allocator + Copy> Shelf<D, A> {
         }
     }
 
-    /// The device of the resource, which is declared, answers the verb as its law says. All other devices stay.
+    /// The device of the resource, which is declared, answers the verb as its law says. All other devices stay. The cost is
+    /// that of the device's own call, as for the next three.
     pub fn act(&mut self, resource: ResId, verb: Verb) -> Result<u64, ActFault>
         requires { resource.0 < length self.old }
         ensures { ActsAt self.old resource.0 verb result self.new }
@@ -89,7 +90,8 @@ impl<D: Device, A: Allocator + Copy> Shelf<D, A> {
 
     /// Puts this device in the place of the resource's own, which is dropped. The resource is declared.
     ///
-    /// A device of another law is handed back, and all devices stay. Otherwise all others do.
+    /// A device of another law is handed back, and all devices stay. Otherwise all others do. The cost is that of asking both
+    /// for their laws, and of the drop.
     pub fn replace(&mut self, resource: ResId, device: D) -> Result<(), D>
         requires { resource.0 < length self.old }
         ensures same_law { IsOk result ↔ ((D.state device).law ≡ (state_at self.old resource.0).law) }
