@@ -1,0 +1,4 @@
+pub mod HeadLemmas
+pub mod ReplyLemmas
+pub mod RecordLemmas
+pub mod JournalLemmas
