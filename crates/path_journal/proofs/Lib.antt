@@ -1,3 +1,4 @@
+pub mod CallerLemmas
 pub mod HeadLemmas
 pub mod ReplyLemmas
 pub mod RecordLemmas

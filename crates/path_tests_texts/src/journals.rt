@@ -3,7 +3,9 @@
 use path_decl::{Decl, read};
 use path_journal::{read_journal, write_head};
 use path_lines::{TextFault, write_line};
-use path_model::{ActId, Attempt, JournalText, Line, OpId, OutOfMemory, PathId, Reply, Verb};
+use path_model::{
+    ActId, Attempt, JournalText, Line, MOST_LINES, OpId, OutOfMemory, PathId, Reply, Verb,
+};
 use refusing::Refusing;
 use std::alloc::Allocator;
 use std::test::Fail;
@@ -119,6 +121,7 @@ fn reads_lines_of_both_versions(rt: HostRuntime) {
         ),
     ];
     for (text, room, count) in rows {
+        assert!(rt; count <= 2);
         let Ok(journal) = read_journal(rt.alloc(), &decl, text.as_bytes()) else {
             panic!(rt; "refused: {text}");
         };
@@ -294,6 +297,7 @@ fn each_head_is_read_again(rt: HostRuntime) -> Result<(), Fail> {
         (1_048_576, "journal 2 room 1048576"),
     ];
     for (room, want) in rows {
+        assert!(rt; 1 <= room && room <= MOST_LINES);
         let text = write_head(rt.alloc(), room)?;
         assert_eq!(rt; text.as_str(), want);
         let journal = read_journal(rt.alloc(), &decl, want.as_bytes())?;
