@@ -1,5 +1,6 @@
 -- What a trace is: each attempt with a reply that was owed to it.
 use Rattle.std.specs.Prelude.{◌≡◌, ◌≢◌, ◌<◌, ℕ, List, [], ◌∷◌, ◌++◌, ◌⊎◌, length, codes}
+use Rattle.path_model.specs.declared.journal.TheConstants.{MOST_LINES}
 use Rattle.path_model.specs.declared.journal.Attempt.{Attempt}
 use Rattle.path_model.specs.declared.journal.Reply.{Reply}
 use Rattle.path_model.specs.declared.journal.Reply.TheVariants.{DeviceFailed}
@@ -11,7 +12,6 @@ use Rattle.path_decl.specs.Text.{IsDeclarationText}
 use Rattle.path_lines.specs.declared.texts.TheConstants.{LIMIT}
 use Rattle.path_lines.specs.LineTexts.{journal_line_text, reply_text}
 use Rattle.path_lines.specs.AttemptTexts.{Entry, IsAttemptsText}
-use Rattle.path_system.specs.declared.system.TheConstants.{MOST_LINES}
 use Rattle.path_system.specs.Accounts.{Account, opening_contents}
 use Rattle.path_commands.specs.declared.status.Status.{Status}
 use Rattle.path_commands.specs.declared.status.Status.TheVariants.{CommandRefused, TextRefused, NoMemory}

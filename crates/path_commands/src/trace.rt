@@ -13,8 +13,8 @@ use crate::put::put_text;
 use crate::status::Status;
 use path_decl::{Decl, read};
 use path_lines::{LIMIT, TextFault, fault_at, first_entry, push_reply, read_attempts};
-use path_model::Attempt;
-use path_system::{MOST_LINES, OpenFault, System};
+use path_model::{Attempt, MOST_LINES};
+use path_system::{OpenFault, System};
 use std::alloc::Allocator;
 use std::io::Write;
 

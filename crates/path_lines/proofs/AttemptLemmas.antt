@@ -1,5 +1,5 @@
 -- Lines of attempts are lines, how far a text of attempts was read, and that a faulty text is the text of none.
-use Rattle.std.proofs.Common.{◌≡◌, ◌≢◌, ◌↔◌, ℕ, ◌+◌, ◌<◌, ◌≤◌, ◌^◌, List, [], ◌∷◌, ◌++◌, length, drop, ◌⊎◌, inl, inr, false, rules, refl, sym, ap, ◌∙◌, subst, arith, decimal, codes, All, Contains}
+use Rattle.std.proofs.Common.{◌≡◌, ◌≢◌, ◌↔◌, ℕ, ◌+◌, ◌<◌, ◌^◌, List, [], ◌∷◌, ◌++◌, length, drop, ◌⊎◌, inl, inr, false, rules, refl, sym, ap, ◌∙◌, subst, arith, decimal, codes, All, Contains}
 use Rattle.std.proofs.lemmas.List.Elements.{All-contains}
 use Rattle.std.proofs.lemmas.Bool.{cases_lt}
 use Rattle.path_model.specs.declared.ids.OpId.{OpId}

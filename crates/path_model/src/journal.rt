@@ -1,6 +1,10 @@
 //! What workers attempt, what they are told, and the lines that record it.
 
 use crate::ids::{ActId, OpId, PathId};
+use std::alloc::{Allocator, Global};
+
+/// The most lines that a journal may have room for.
+pub const MOST_LINES: u32 = 1048576;
 
 /// What is asked of the device of a resource.
 #[derive(Clone, Copy, Debug, PartialEq, Eq)]
@@ -66,6 +70,15 @@ pub struct Line {
     pub attempt: Attempt,
     /// What the worker was told.
     pub reply: Reply,
+}
+
+/// What the text of a journal tells: its lines and, in version 2, how many lines the journal has room for.
+#[derive(Drop)]
+pub struct JournalText<A: Allocator + Copy = Global> {
+    /// The room that the text names, 1 to [`MOST_LINES`]; `None` in version 1, which names none.
+    pub room: Option<u32>,
+    /// The lines, in order.
+    pub lines: Vec<Line, A>,
 }
 
 /// An operation that a worker started and hasn't finished.

@@ -4,4 +4,4 @@
 mod parts;
 mod system;
 
-pub use system::{MOST_LINES, OpenFault, System};
+pub use system::{OpenFault, System};

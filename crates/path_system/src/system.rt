@@ -11,13 +11,10 @@ ghost use Rattle.path_model.specs.Honest.{IsHonest};
 
 use crate::parts::Parts;
 use path_decl::Decl;
-use path_model::{Attempt, Line, OutOfMemory, Reply, ResId};
+use path_model::{Attempt, Line, MOST_LINES, OutOfMemory, Reply, ResId};
 use std::alloc::{AllocError, Allocator, Global};
 use std::marker::Model;
 use thiserror::Error;
-
-/// The most lines that a journal may have room for.
-pub const MOST_LINES: u32 = 1048576;
 
 /// Why a system can't be opened.
 #[derive(Clone, Copy, Debug, PartialEq, Eq, Error)]

@@ -3,7 +3,7 @@
 use crate::writers::{Failing, Full, Interrupted, Unflushed};
 use path_commands::{ROOM, Status, trace_to};
 use path_decl::{DeclFault, read};
-use path_system::MOST_LINES;
+use path_model::MOST_LINES;
 use refusing::Refusing;
 use std::alloc::Allocator;
 use std::io::{ErrorKind, Write};

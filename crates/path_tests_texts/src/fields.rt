@@ -1,6 +1,6 @@
 //! Fields of texts.
 
-use path_fields::{cut, number, strip, until};
+use path_fields::{after_line, at_end, cut, last_number, number, strip, until};
 
 #[test]
 fn numbers(rt: HostRuntime) {
@@ -56,4 +56,23 @@ fn strips_a_front(rt: HostRuntime) {
     assert_eq!(rt; strip(b"put ", b"put "), Some(b"".as_slice()));
     assert_eq!(rt; strip(b"pu", b"put "), None);
     assert_eq!(rt; strip(b"add 7", b"put "), None);
+}
+
+#[test]
+fn ends_of_lines(rt: HostRuntime) {
+    assert_eq!(rt; at_end(b""), Some(b"".as_slice()));
+    assert_eq!(rt; at_end(b"\nx"), Some(b"\nx".as_slice()));
+    assert_eq!(rt; at_end(b"x"), None);
+    assert_eq!(rt; at_end(b"\r\n"), None);
+    assert_eq!(rt; last_number(b"7\n8"), Some((7, b"\n8".as_slice())));
+    assert_eq!(rt;
+        last_number(b"18446744073709551615"),
+        Some((u64::MAX, b"".as_slice()))
+    );
+    assert_eq!(rt; last_number(b"7 \n"), None);
+    assert_eq!(rt; last_number(b"07\n"), None);
+    assert_eq!(rt; last_number(b"\n"), None);
+    assert_eq!(rt; after_line(b"ab\ncd", 2), b"cd".as_slice());
+    assert_eq!(rt; after_line(b"ab\n", 2), b"".as_slice());
+    assert_eq!(rt; after_line(b"ab", 2), b"".as_slice());
 }

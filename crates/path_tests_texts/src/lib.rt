@@ -1,9 +1,11 @@
-//! Tests of the public calls on texts: fields, attempts and lines. The crate has no other code, so that no library is proved twice.
+//! Tests of the public calls on texts: fields, attempts, lines and journals. The crate has no other code, so that no library is proved twice.
 #![tactic(auto)]
 
 #[cfg(test)]
 mod attempts;
 #[cfg(test)]
 mod fields;
+#[cfg(test)]
+mod journals;
 #[cfg(test)]
 mod lines;

@@ -1,7 +1,7 @@
 //! The words of the command line.
 
 use clap::{Arg, Command, value_parser};
-use path_system::MOST_LINES;
+use path_model::MOST_LINES;
 use std::alloc::{AllocError, Global};
 
 /// What help says below the commands.

@@ -1,0 +1,16 @@
+-- What callers cite: the text that a line is written as tells that line.
+use Rattle.std.proofs.Common.{ℕ, List, [], ◌∷◌, ◌++◌, None, inr, sym, All, refl}
+use Rattle.std.proofs.lemmas.List.{append-nil}
+use Rattle.std.proofs.lemmas.List.Elements.{All-cons, All-nil}
+use Rattle.path_model.specs.declared.journal.Line.{Line}
+use Rattle.path_model.specs.Declarations.{Declaration}
+use Rattle.path_lines.specs.LineTexts.{journal_line_text}
+use Rattle.path_journal.specs.JournalTexts.{LineFits, journal_line, IsJournalText}
+
+-- a line that was written is a journal's text, of this line alone
+pub written_line : (d : Declaration) (l : Line) → LineFits l → IsJournalText d (journal_line_text d l) None (l ∷ [])
+written_line d l fits = record {
+  room_fits = tt;
+  fits = All-cons LineFits l [] fits (All-nil LineFits);
+  spelled = inr (sym (append-nil (journal_line d l)));
+}

@@ -1,0 +1,5 @@
+pub mod CallerLemmas
+pub mod HeadLemmas
+pub mod ReplyLemmas
+pub mod RecordLemmas
+pub mod JournalLemmas

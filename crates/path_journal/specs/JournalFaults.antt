@@ -1,0 +1,88 @@
+-- Where a text of a journal is at fault.
+use Rattle.std.specs.Prelude.{◌≡◌, ◌≢◌, ℕ, ◌+◌, ◌<◌, List, [], ◌++◌, length, codes, All, Option, Some, None}
+use Rattle.path_model.specs.declared.journal.Reply.{Reply}
+use Rattle.path_model.specs.declared.journal.Line.{Line}
+use Rattle.path_model.specs.Declarations.{Declaration}
+use Rattle.path_lines.specs.declared.texts.TheConstants.{LIMIT}
+use Rattle.path_lines.specs.declared.entry.LineFault.{LineFault}
+use Rattle.path_lines.specs.declared.entry.LineFault.TheVariants as line_faults
+use Rattle.path_lines.specs.declared.texts.TextFault.{TextFault}
+use Rattle.path_lines.specs.declared.texts.TextFault.TheVariants as faults
+use Rattle.path_lines.specs.LineTexts.{reply_text, journal_line_text}
+use Rattle.path_lines.specs.AttemptTexts.{IsUndeclaredLine, IsFirstLine}
+use Rattle.path_journal.specs.JournalTexts.{ReplyFits, LineFits, head_text, IsRoom, RoomFits, journal_text, lines_text}
+
+-- no line of a journal has this text
+abbrev pub IsNoLine : Declaration → List ℕ → Type 0
+IsNoLine d text = (l : Line) → LineFits l → text ≢ journal_line_text d l
+
+-- a line that is right but for the name that it starts
+pub record IsUndeclared (d : Declaration) (line : List ℕ) : Type 0 where
+  pub attempt : List ℕ
+  pub reply : Reply
+  pub undeclared : IsUndeclaredLine d attempt
+  pub fits : ReplyFits reply
+  pub spelled : line ≡ attempt ++ (codes ": " ++ reply_text reply)
+
+-- a line is at fault so
+abbrev pub IsRecordFault : Declaration → List ℕ → LineFault → Type 0
+IsRecordFault d line line_faults.Bad = IsUndeclared d line → ⊥
+IsRecordFault d line line_faults.Undeclared = IsUndeclared d line
+
+-- the first line of a text is none of a journal, and is at fault so
+abbrev pub IsFirstRecordFault : Declaration → List ℕ → LineFault → Type 0
+IsFirstRecordFault d text fault = (line : List ℕ) × IsFirstLine line text × IsNoLine d line × IsRecordFault d line fault
+
+-- how many lines stand before those of the journal
+abbrev pub lines_before : Option ℕ → ℕ
+lines_before None = 0
+lines_before (Some room) = 1
+
+-- behind these lines stands this line, which is none
+pub record AreFaultyLines (d : Declaration) (text : List ℕ) (before : List Line) (line : List ℕ) : Type 0 where
+  pub rest : List ℕ
+  pub fits : All LineFits before
+  pub parts : text ≡ lines_text d before ++ rest
+  pub more : rest ≢ []
+  pub first : IsFirstLine line rest
+  pub none : IsNoLine d line
+
+-- the first faulty one of the lines is line n, and it is at fault so
+pub record AreLinesAtFault (d : Declaration) (text : List ℕ) (n : ℕ) (kind : LineFault) : Type 0 where
+  pub before : List Line
+  pub line : List ℕ
+  pub count : length before ≡ n
+  pub faulty : AreFaultyLines d text before line
+  pub fault : IsRecordFault d line kind
+
+-- lines are refused so, which stand behind so many others
+abbrev pub IsLinesFault : Declaration → List ℕ → ℕ → TextFault → Type 0
+IsLinesFault d text before faults.TooLong = ⊥
+IsLinesFault d text before (faults.BadLine n) = (k : ℕ) × (n ≡ before + k) × AreLinesAtFault d text k line_faults.Bad
+IsLinesFault d text before (faults.Undeclared n) = (k : ℕ) × (n ≡ before + k) × AreLinesAtFault d text k line_faults.Undeclared
+IsLinesFault d text before faults.OutOfMemory = Unit {0}
+
+-- behind n lines that are right stands this line, which is none of a journal and, where it is the first, no head
+pub record IsFaultyLine (d : Declaration) (text : List ℕ) (n : ℕ) (line : List ℕ) : Type 0 where
+  pub room : Option ℕ
+  pub before : List Line
+  pub rest : List ℕ
+  pub count : lines_before room + length before ≡ n
+  pub room_fits : RoomFits room
+  pub fits : All LineFits before
+  pub parts : text ≡ journal_text d room before ++ rest
+  pub more : rest ≢ []
+  pub first : IsFirstLine line rest
+  pub none : IsNoLine d line
+  pub no_head : n ≡ 0 → (m : ℕ) → IsRoom m → line ≢ head_text m
+
+-- the first faulty line of a text is line n, and it is at fault so
+abbrev pub IsFaultAt : Declaration → List ℕ → ℕ → LineFault → Type 0
+IsFaultAt d text n fault = (line : List ℕ) × IsFaultyLine d text n line × IsRecordFault d line fault
+
+-- a text is refused so: it is too long, or its first faulty line is at fault so
+abbrev pub IsJournalFault : Declaration → List ℕ → TextFault → Type 0
+IsJournalFault d text faults.TooLong = LIMIT < length text
+IsJournalFault d text (faults.BadLine n) = IsFaultAt d text n line_faults.Bad
+IsJournalFault d text (faults.Undeclared n) = IsFaultAt d text n line_faults.Undeclared
+IsJournalFault d text faults.OutOfMemory = Unit {0}

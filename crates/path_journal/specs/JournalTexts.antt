@@ -1,0 +1,81 @@
+-- Texts of journals: the lines, one a line, and in version 2 a first line that names the room.
+use Rattle.std.specs.Prelude.{◌≡◌, ℕ, ◌<◌, ◌≤◌, ◌^◌, List, [], ◌∷◌, ◌++◌, codes, decimal, All, ◌⊎◌, Option, Some, None}
+use Rattle.std.specs.List.{flat_map}
+use Rattle.path_model.specs.declared.journal.TheConstants.{MOST_LINES}
+use Rattle.path_model.specs.declared.journal.Reply.{Reply}
+use Rattle.path_model.specs.declared.journal.Reply.TheVariants.{Started, Blocked, UnknownOperation, Used, NotOffered, Empty, Full}
+use Rattle.path_model.specs.declared.journal.Reply.TheVariants.{Overflow, DeviceFailed, Finished, Stale, NotYours, NoRoom}
+use Rattle.path_model.specs.declared.journal.Line.{Line}
+use Rattle.path_model.specs.Declarations.{Declaration}
+use Rattle.path_lines.specs.LineTexts.{AttemptFits, journal_line_text}
+
+-- the number of a path has at most 32 bits, each other at most 64
+abbrev pub ReplyFits : Reply → Type 0
+ReplyFits (Started n) = n.0 < 2 ^ 64
+ReplyFits (Blocked p) = p.0 < 2 ^ 32
+ReplyFits UnknownOperation = Unit {0}
+ReplyFits (Used x) = x < 2 ^ 64
+ReplyFits NotOffered = Unit {0}
+ReplyFits Empty = Unit {0}
+ReplyFits Full = Unit {0}
+ReplyFits Overflow = Unit {0}
+ReplyFits DeviceFailed = Unit {0}
+ReplyFits Finished = Unit {0}
+ReplyFits Stale = Unit {0}
+ReplyFits NotYours = Unit {0}
+ReplyFits NoRoom = Unit {0}
+
+-- a worker's number has at most 32 bits
+pub record LineFits (l : Line) : Type 0 where
+  pub worker : l.worker < 2 ^ 32
+  pub attempt : AttemptFits l.attempt
+  pub reply : ReplyFits l.reply
+
+-- a line and its line feed
+abbrev pub journal_line : Declaration → Line → List ℕ
+journal_line d l = journal_line_text d l ++ 10 ∷ []
+
+-- the lines of all of them, in order
+abbrev pub lines_text : Declaration → List Line → List ℕ
+lines_text d ls = flat_map (journal_line d) ls
+
+-- the first line of a text of version 2
+abbrev pub head_text : ℕ → List ℕ
+head_text room = codes "journal 2 room " ++ decimal room
+
+-- a journal may have room for so many lines
+abbrev pub IsRoom : ℕ → Type 0
+IsRoom room = (1 ≤ room) × (room ≤ MOST_LINES)
+
+-- a room that is named is one
+abbrev pub RoomFits : Option ℕ → Type 0
+RoomFits None = Unit {0}
+RoomFits (Some room) = IsRoom room
+
+-- what stands before the lines: in version 2 the head
+abbrev pub front_text : Option ℕ → List ℕ
+front_text None = []
+front_text (Some room) = head_text room ++ 10 ∷ []
+
+-- the text of a journal, with its last line feed: version 1 names no room
+abbrev pub journal_text : Declaration → Option ℕ → List Line → List ℕ
+journal_text d room ls = front_text room ++ lines_text d ls
+
+-- a text has these lines, one a line; the last line feed may be missing
+pub record AreLinesOf (d : Declaration) (text : List ℕ) (ls : List Line) : Type 0 where
+  pub fits : All LineFits ls
+  pub spelled : (text ≡ lines_text d ls) ⊎ (text ++ 10 ∷ [] ≡ lines_text d ls)
+
+-- the text is that of a journal with this room and these lines; the last line feed may be missing
+pub record IsJournalText (d : Declaration) (text : List ℕ) (room : Option ℕ) (ls : List Line) : Type 0 where
+  pub room_fits : RoomFits room
+  pub fits : All LineFits ls
+  pub spelled : (text ≡ journal_text d room ls) ⊎ (text ++ 10 ∷ [] ≡ journal_text d room ls)
+
+-- no lines have the text
+abbrev pub AreNoLines : Declaration → List ℕ → Type 0
+AreNoLines d text = (ls : List Line) → AreLinesOf d text ls → ⊥
+
+-- no journal has the text
+abbrev pub IsNoJournalText : Declaration → List ℕ → Type 0
+IsNoJournalText d text = (room : Option ℕ) (ls : List Line) → IsJournalText d text room ls → ⊥

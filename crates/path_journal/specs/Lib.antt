@@ -1,0 +1,3 @@
+pub mod Replies
+pub mod JournalTexts
+pub mod JournalFaults
