@@ -8,5 +8,3 @@ mod braces;
 mod decl;
 #[cfg(test)]
 mod model;
-#[cfg(test)]
-mod trim;
