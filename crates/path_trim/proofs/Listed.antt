@@ -2,7 +2,7 @@
 use Rattle.std.proofs.Common.{◌≡◌, ◌+◌, ◌<◌, ◌≤◌, ℕ, zero, suc, List, [], ◌∷◌, ◌++◌, length, map, take, drop, get_or, Option, Some, None, refl, sym, ap, ◌∙◌, append_assoc, arith}
 use Rattle.std.proofs.Math.Numerals.{add-one}
 use Rattle.std.proofs.Math.Seq.{drop-cons, take-append_seam, drop-append_seam}
-use Rattle.std.proofs.lemmas.List.{append-nil, take_more, length-append, length-map, get_or-map}
+use Rattle.std.proofs.lemmas.List.{append-nil, take_more, take_all, length-append, length-map, get_or-map}
 use Rattle.std.proofs.lemmas.Grind.{flat_map-append}
 use Rattle.path_model.specs.Trees.{Tree}
 use Rattle.path_model.specs.Legal.{numbered}
@@ -156,3 +156,7 @@ module _ {Y : Type 0} (d : Declaration) (xs : List Compared) (k : ℕ) (l : k < 
 -- as many as were compared
 pub compared_few : (ss : List Tree) (fates : List Fate) → fates ≡ fates_of (compared ss) → length (compared ss) ≡ length fates
 compared_few ss fates given = let n = ap length given in let m = length-map (compared ss) (λ (x : Compared). fate_by x.site x.same) in omega arith
+
+-- all paths
+pub listed_all : {Y : Type 0} (d : Declaration) (xs : List Compared) (k : ℕ) (out : List ℕ) (kept : List (LeanPath Y)) (removed : List Removed) → Listed d xs k out kept removed → length xs ≤ k → out ≡ all_lines d xs
+listed_all d xs k out kept removed so_far l = so_far.text ∙ ap (all_lines d) (take_all k xs l)

@@ -32,7 +32,8 @@ epilogue_text (Some (VVN c q u)) = codes "VV(c" ++ (decimal c ++ (codes "," ++ (
 
 -- the line of an operation
 abbrev pub op_line : Declaration → LeanOp → List ℕ
-op_line d o = operation_text d o.op.0 ++ (codes ": " ++ (prologue_text o.prologue ++ (codes " | " ++ (epilogue_text o.epilogue ++ 10 ∷ []))))
+op_line d o =
+    operation_text d o.op.0 ++ (codes ": " ++ (prologue_text o.prologue ++ (codes " | " ++ (epilogue_text o.epilogue ++ 10 ∷ []))))
 
 -- a removed value after a space; a path that is removed has a line of its own
 abbrev pub value_text : Removed → List ℕ

@@ -1,11 +1,9 @@
 -- Each path has its lines: by what became of it, and of what is left of the lists.
 use Rattle.std.proofs.Common.{◌≡◌, ◌≤◌, length, ap, ◌∙◌, arith}
-use Rattle.std.proofs.lemmas.List.{take_all}
 use Rattle.path_trim.specs.Known.{KnownTrees}
 use Rattle.path_trim.specs.Compared.{compared}
-use Rattle.path_trim.specs.LeanListing.{all_lines}
 use Rattle.path_trim.specs.Rows.{fates_of}
-use Rattle.path_trim.proofs.Listed.{inside, same_here, kept_here, few_fates, compared_few, same_some, same_listed, kept_enough, kept_some, kept_listed}
+use Rattle.path_trim.proofs.Listed.{inside, same_here, kept_here, few_fates, compared_few, same_some, same_listed, kept_enough, kept_some, kept_listed, listed_all}
 use Rattle.path_trim.proofs.listing.lean_listing.Goals as goal
 use Rattle.path_trim.proofs.listing.lean_listing.Goals.{in-SameAs+in_ok-put_same-in-SameAs, in-Stays+in_ok-put_kept-in-Stays}
 
@@ -65,4 +63,4 @@ returns g c =
     let ss = c.args.lean.now.trees in
     let fates : c.deref-fate-items.result.now ≡ fates_of (compared ss) = c.deref-fate-items.ensures.value ∙ c.lean.invariant.fates ∙ ap (λ (v : KnownTrees). fates_of (compared v.trees)) c.lean.view_is in
     let all : length (compared ss) ≤ c.loop-number.number = let n = compared_few ss _ fates in omega (arith, n, c.loop-number-test.false) in
-    c.loop-number.invariant.text ∙ ap (all_lines c.args.decl.now.declaration) (take_all c.loop-number.number (compared ss) all)
+    listed_all c.args.decl.now.declaration (compared ss) c.loop-number.number _ _ _ c.loop-number.invariant all
