@@ -183,9 +183,9 @@ fn fields_of_a_path(rt: HostRuntime) {
     assert_eq!(rt; code.paths().len(), 1);
     for path in code.paths() {
         assert_eq!(rt; path.resource, ResId(0));
-        assert_eq!(rt; path.semaphores.as_slice(), &[(0, 1)]);
-        assert_eq!(rt; path.braces.as_slice(), &[0]);
-        assert_eq!(rt; path.ops.as_slice(), &want);
+        assert_eq!(rt; path.semaphores.as_slice(), [(0, 1)].as_slice());
+        assert_eq!(rt; path.braces.as_slice(), [0].as_slice());
+        assert_eq!(rt; path.ops.as_slice(), want.as_slice());
     }
 }
 
