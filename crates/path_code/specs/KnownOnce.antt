@@ -2,7 +2,8 @@
 use Rattle.std.specs.Coded.{×_prop, Π_prop, Unit-prop, le_prop}
 use Rattle.std.specs.Prelude.{ℕ, List, [], ◌∷◌}
 use mathlib.Core.HLevel.{⊥_prop, ¬_prop}
-use Rattle.path_model.specs.Trees.{Tree, op, seq, alt, burst, any, most, Bound, Room, Apart, NoRepeats, NoBraces, NoNesting, FewAtOnce, WellFormed}
+use Rattle.path_model.specs.Trees.{Tree, op, seq, alt, burst, any, most, Bound, Room, Apart}
+use Rattle.path_model.specs.Trees.{NoRepeats, NoBraces, NoNesting, FewAtOnce, WellFormed}
 use Rattle.path_model.specs.Legal.{Every}
 use Rattle.path_model.specs.Declarations.{Path}
 use Rattle.path_code.specs.LawfulPaths.{LawfulPaths}

@@ -20,7 +20,7 @@ abbrev pub reach : Tree → Numbers → ℕ
 reach s n = parts s + n.place + n.semicolon + n.brace + n.bound
 
 -- so many parts have numbers below these
-pub record fits (s : Tree) (n : Numbers) : Type 0 where
+pub record FitsBelow (s : Tree) (n : Numbers) : Type 0 where
   pub place : names_count s ≤ n.place
   pub semicolon : semicolons s ≤ n.semicolon
   pub brace : braces s ≤ n.brace

@@ -6,7 +6,7 @@ ghost use Rattle.path_model.specs.Trees.{shape};
 ghost use Rattle.path_model.specs.Machine.{semicolons, braces};
 ghost use Rattle.path_model.specs.Flat.{counted_braces};
 ghost use Rattle.path_decl.specs.Lawful.{names_count};
-ghost use Rattle.path_code.specs.Walks.{parts, reach, fits, IsFlat, start_within, end_within, starts_in, bounds_from, ended};
+ghost use Rattle.path_code.specs.Walks.{parts, reach, FitsBelow, IsFlat, start_within, end_within, starts_in, bounds_from, ended};
 
 use crate::terms::{Epilogue, OpCode, Prologue};
 use path_model::{Expr, OutOfMemory};
@@ -47,7 +47,7 @@ impl Numbers {
 }
 
 /// How much stands in a tree. The cost is one walk over it.
-pub(crate) fn counted<A: Allocator + Copy>(tree: &Expr<A>) -> Numbers
+pub(crate) fn count_parts<A: Allocator + Copy>(tree: &Expr<A>) -> Numbers
     requires few { parts (shape tree.now) < 2 ^ 32 }
     ensures place { result.place ≡ names_count (shape tree.now) }
     ensures semicolon { result.semicolon ≡ semicolons (shape tree.now) }
@@ -62,22 +62,22 @@ pub(crate) fn counted<A: Allocator + Copy>(tree: &Expr<A>) -> Numbers
             bound: 0,
         },
         Expr::Seq(left, right) => {
-            let both = counted(left).and(counted(right));
+            let both = count_parts(left).and(count_parts(right));
             Numbers {
                 semicolon: both.semicolon + 1,
                 ..both
             }
         }
-        Expr::Alt(left, right) => counted(left).and(counted(right)),
+        Expr::Alt(left, right) => count_parts(left).and(count_parts(right)),
         Expr::Burst(inner) => {
-            let inside = counted(inner);
+            let inside = count_parts(inner);
             Numbers {
                 brace: inside.brace + 1,
                 ..inside
             }
         }
         Expr::Counted(inner, _) => {
-            let inside = counted(inner);
+            let inside = count_parts(inner);
             Numbers {
                 brace: inside.brace + 1,
                 bound: inside.bound + 1,
@@ -182,7 +182,7 @@ pub(crate) fn set_ends<A: Allocator + Copy>(
     epilogue: Epilogue,
 ) -> Numbers
     requires flat { IsFlat (shape tree.now) }
-    requires fits { fits (shape tree.now) end }
+    requires fits { FitsBelow (shape tree.now) end }
     requires within { end.place ≤ length ops.old }
     ensures place { result.place + names_count (shape tree.now) ≡ end.place }
     ensures semicolon { result.semicolon + semicolons (shape tree.now) ≡ end.semicolon }

@@ -9,7 +9,7 @@ ghost use Rattle.path_code.specs.Walks.{parts};
 
 use crate::code::{Code, PathCode};
 use crate::copies::copied;
-use crate::substitution::{Numbers, add_starts, counted, set_ends};
+use crate::substitution::{Numbers, add_starts, count_parts, set_ends};
 use crate::terms::{Epilogue, Prologue};
 use path_decl::{Decl, counts, path_resource, tree_of};
 use path_model::{Expr, OutOfMemory, PathId, ResId};
@@ -61,7 +61,7 @@ fn path_code<A: Allocator + Copy, B: Allocator + Copy>(
     ensures code { IfOk result (IsPathCode (record { tree = shape tree.now; own = own; first = brace })) }
     ensures resource { IfOk result (λ code. code.resource ≡ resource) }
 {
-    let count = counted(tree);
+    let count = count_parts(tree);
     let next = Numbers {
         place: 0,
         semicolon: own + 1,

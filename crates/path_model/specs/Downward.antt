@@ -10,7 +10,7 @@ within b m (Plain q) = through b m q
 within b m (Braced c q) = Braced c q
 within b m (Counted c q) = Counted c q
 
--- L S R, by the forms of S: what stands before and after each name of S; n and m are the numbers of its first semicolon and its first braces
+-- L S R, by the forms of S: what stands before and after each name of S; n and m number its first semicolon and its first braces
 abbrev pub substituted : Tree → ℕ → ℕ → Term → Term → List (OpId × Term × Term)
 substituted (op b) n m L R = (b, L, R) ∷ []
 substituted (seq s t) n m L R =
