@@ -1,5 +1,6 @@
 -- How the table of a gate is opened: value by value, and term by term.
-use Rattle.std.specs.Prelude.{◌==◌, ◌+◌, ◌-◌, ◌<◌, if◌then◌else◌, ℕ, List, [], ◌∷◌, ◌++◌, length, map, replicate, slice_set, slice_index_or, Vec}
+use Rattle.std.specs.Prelude.{◌==◌, ◌+◌, ◌-◌, ◌<◌, if◌then◌else◌, ℕ, List, []}
+use Rattle.std.specs.Prelude.{◌∷◌, ◌++◌, length, map, replicate, slice_set, slice_index_or, Vec}
 use Rattle.path_model.specs.declared.ids.OpId.{OpId}
 use Rattle.path_model.specs.declared.ids.PathId.{PathId}
 use Rattle.path_trim.specs.declared.table.LeanOp.{LeanOp}
