@@ -170,7 +170,8 @@ fn many_open_braces(rt: HostRuntime) -> Result<(), Fail> {
 
 #[test]
 fn reading_braces_wants_memory(rt: HostRuntime) {
-    let text = b"resource r cell operation a, b, c path { a ; b } , { c : 3 } end path { c } end end";
+    let text =
+        b"resource r cell operation a, b, c path { a ; b } , { c : 3 } end path { c } end end";
     refuse_in_turn(
         &rt,
         rt.alloc(),

@@ -58,7 +58,9 @@ fn check<'a>(alloc: Global) -> Result<Command<'a>, AllocError> {
 /// The command that compiles a declaration.
 fn compile<'a>(alloc: Global) -> Result<Command<'a>, AllocError> {
     Command::new(alloc, "compile")
-        .about("Prints the semaphores of a declaration, as they are translated and as they are trimmed")
+        .about(
+            "Prints the semaphores of a declaration, as they are translated and as they are trimmed",
+        )
         .after_help("docs/translation.md says how they are read.")
         .arg(file(alloc, "DECL", "the file of the declaration"))
 }
