@@ -10,6 +10,8 @@ use std::process::Abort;
 const OTHER_TREES: &str =
     "resource r cell operation a, b, c path a; b; c end path a; ( b; c ) end end\n";
 
+const POOL: &str = "resource r cell operation read, write path { read: 2 }, write end end\n";
+
 fn declared(rt: &impl Abort, heap: Global, text: &str) -> Decl {
     match read(heap, text.as_bytes()) {
         Ok(decl) => decl,
@@ -47,6 +49,14 @@ fn prints_the_tokens(rt: HostRuntime) {
             "resource r cell operation a end\nresource s cell operation b path b end end",
             "resource r cell operation a end resource s cell operation b path b end end\n",
         ),
+        (
+            "resource r cell operation read, write path { read : 2 } , write end end",
+            "resource r cell operation read, write path { read: 2 }, write end end\n",
+        ),
+        (
+            "resource r cell operation a, b, c path {(a;b)};c end path {(a,b):65535} end end",
+            "resource r cell operation a, b, c path { a; b }; c end path { a, b: 65535 } end end\n",
+        ),
     ];
     for (text, want) in rows {
         prints(&rt, rt.alloc(), text, want);
@@ -71,5 +81,10 @@ fn printing_wants_memory(rt: HostRuntime) {
     refuse_in_turn(&rt, rt.alloc(), OutOfMemory, |heap: &Refusing<Global>| {
         let text = print(heap, &decl)?;
         Ok(text.as_str() == OTHER_TREES)
+    });
+    let decl = declared(&rt, rt.alloc(), POOL);
+    refuse_in_turn(&rt, rt.alloc(), OutOfMemory, |heap: &Refusing<Global>| {
+        let text = print(heap, &decl)?;
+        Ok(text.as_str() == POOL)
     });
 }
