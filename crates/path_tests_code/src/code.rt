@@ -1,9 +1,10 @@
 //! What paths are compiled to, and the listings that show it.
 
+use crate::in_turn::refuse_in_turn;
 use path_code::{Code, Epilogue, OpCode, Prologue, listing, translate};
 use path_decl::{Decl, read};
 use path_model::{OpId, OutOfMemory, ResId};
-use refusing::{Refusing, refuse_in_turn};
+use refusing::Refusing;
 use std::alloc::Global;
 use std::process::Abort;
 

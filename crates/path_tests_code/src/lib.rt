@@ -4,4 +4,6 @@
 #[cfg(test)]
 mod code;
 #[cfg(test)]
+mod in_turn;
+#[cfg(test)]
 mod trim;

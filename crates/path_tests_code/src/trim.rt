@@ -1,10 +1,11 @@
 //! What compiled paths are trimmed to, and the listings that show it.
 
+use crate::in_turn::refuse_in_turn;
 use path_code::{Epilogue, Prologue, listing, translate};
 use path_decl::{Decl, read};
 use path_model::{OpId, OutOfMemory, PathId};
 use path_trim::{Lean, LeanOp, Removed, kept, lean_listing, removed, trim};
-use refusing::{Refusing, refuse_in_turn};
+use refusing::Refusing;
 use std::alloc::Global;
 use std::process::Abort;
 

@@ -1,8 +1,9 @@
 //! Braces, with a bound or without, and the faults that they bring.
 
 use crate::decl::{declared, drawn, expect_faults, expect_read};
+use crate::in_turn::refuse_in_turn;
 use path_decl::{DeclFault, counts, read};
-use refusing::{Refusing, refuse_in_turn};
+use refusing::Refusing;
 use std::alloc::{AllocError, Global};
 use std::test::Fail;
 

@@ -7,4 +7,6 @@ mod braces;
 #[cfg(test)]
 mod decl;
 #[cfg(test)]
+mod in_turn;
+#[cfg(test)]
 mod model;

@@ -1,9 +1,10 @@
 //! Declarations, and the texts that they are printed as.
 
+use crate::in_turn::refuse_in_turn;
 use path_decl::{Decl, read};
 use path_model::OutOfMemory;
 use path_print::print;
-use refusing::{Refusing, refuse_in_turn};
+use refusing::Refusing;
 use std::alloc::Global;
 use std::process::Abort;
 

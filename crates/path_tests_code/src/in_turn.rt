@@ -1,16 +1,16 @@
 //! Each request for memory refused in turn.
 
-use crate::Refusing;
+use refusing::Refusing;
 use std::alloc::Global;
 use std::fmt::Debug;
 use std::process::Abort;
 
-/// More requests than any call makes that is tested so.
+/// More requests than any call of these tests makes.
 const ENOUGH: u64 = 1_000;
 
 /// Refuses the first request of a call, then the second, and so on until the call passes. At least one request has to
 /// be refused, each refusal has to answer `wanting`, and where none is left to refuse the call has to answer `true`.
-pub fn refuse_in_turn<E, F>(rt: &impl Abort, heap: Global, wanting: E, call: F)
+pub(crate) fn refuse_in_turn<E, F>(rt: &impl Abort, heap: Global, wanting: E, call: F)
 where
     E: Copy + Debug + PartialEq,
     F: Fn(&Refusing<Global>) -> Result<bool, E> + Drop,
