@@ -9,17 +9,18 @@ use path_code::PathCode;
 use path_model::Expr;
 use std::alloc::Allocator;
 
-/// Whether the trees are equal, the bounds of braces too. One walk over what they share.
+/// Whether the trees are equal, the bounds of braces too. One walk over what they share; right operands come first, which are the
+/// shallow ones.
 fn is_same<A: Allocator + Copy>(left: &Expr<A>, right: &Expr<A>) -> bool
     ensures { result ≡ same_tree (shape left.now) (shape right.now) }
 {
     match (left, right) {
         (Expr::Op(left), Expr::Op(right)) => left.0 == right.0,
         (Expr::Seq(first, second), Expr::Seq(third, fourth)) => {
-            is_same(first, third) && is_same(second, fourth)
+            is_same(second, fourth) && is_same(first, third)
         }
         (Expr::Alt(first, second), Expr::Alt(third, fourth)) => {
-            is_same(first, third) && is_same(second, fourth)
+            is_same(second, fourth) && is_same(first, third)
         }
         (Expr::Burst(left), Expr::Burst(right)) => is_same(left, right),
         (Expr::Counted(left, most), Expr::Counted(right, bound)) => {
