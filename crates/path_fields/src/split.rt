@@ -1,6 +1,7 @@
 //! Cutting texts into fields.
 
-ghost use Rattle.std.specs.Prelude.{◌≡◌, ◌≢◌, ℕ, ◌+◌, ◌<◌, ◌≤◌, ◌∷◌, ◌++◌, length, slice_index, take, drop, IfSome, IfNone, MatchOption, List};
+ghost use Rattle.std.specs.Prelude.{◌≡◌, ◌≢◌, ℕ, ◌+◌, ◌<◌, ◌≤◌, ◌∷◌, ◌++◌, length, slice_index, take, drop};
+ghost use Rattle.std.specs.Prelude.{IfSome, IfNone, MatchOption, List};
 ghost use Rattle.path_fields.specs.Splits.{HasNone, EndsAt};
 
 /// The place of the first such byte.

@@ -24,7 +24,8 @@ impl<A: Allocator + Copy> Queue<A> {
     pub fn new(alloc: A, capacity: u32) -> Result<Queue<A>, OutOfMemory>
         requires at_least_one { 1 ≤ capacity }
         requires at_most_1024 { capacity ≤ 1024 }
-        ensures { IfOk result (λ queue. ⟦<Queue<A> as Device>⟧.state queue ≡ record { law = laws.Queue capacity; contents = []; failures = 0 }) }
+        ensures { IfOk result (λ queue.
+            ⟦<Queue<A> as Device>⟧.state queue ≡ record { law = laws.Queue capacity; contents = []; failures = 0 }) }
     {
         let numbers = VecDeque::with_capacity(alloc, capacity as usize)?;
         Ok(Queue { numbers, capacity })

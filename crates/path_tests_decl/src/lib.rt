@@ -1,5 +1,5 @@
-//! Tests of the public calls that read, print, compile and trim declarations, and of plain types. The crate has no other code, so that no library
-//! is proved twice.
+//! Tests of the public calls that read and print declarations, and of plain types. The crate has no other code, so that
+//! no library is proved twice.
 #![tactic(auto)]
 
 #[cfg(test)]
