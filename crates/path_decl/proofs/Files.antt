@@ -2,17 +2,32 @@
 use Rattle.std.proofs.Common.{◌≡◌, ℕ, ◌+◌, ◌<◌, ◌≤◌, List, [], ◌∷◌, ◌++◌, length, map, refl, sym, ap, ◌∙◌, subst, append_assoc, arith}
 use Rattle.std.specs.List.{AllByRecursion}
 use Rattle.std.proofs.lemmas.List.{append-nil, length-map, length-append, map_push, map-append}
+use Rattle.path_model.specs.declared.resource.Law.{Law}
+use Rattle.path_model.specs.declared.resource.Law.TheVariants.{Cell}
 use Rattle.path_model.specs.Declarations.{Resource, Operation, Path}
 use Rattle.path_decl.specs.Forms.{Form, ResourceForm, names_in, all_operations, all_paths}
-use Rattle.path_decl.specs.Parts.{an_operation, an_end, form_parts, body_parts, path_parts, resource_parts, file_parts}
-use Rattle.path_decl.specs.Declares.{resource_from, operations_from}
-use Rattle.path_decl.specs.Building.{Drafted, operation_names, AllAllowed, after_all}
+use Rattle.path_decl.specs.Parts.{an_operation, an_end, form_parts, body_parts, path_parts, inner_parts, resource_parts, file_parts}
+use Rattle.path_decl.specs.Declares.{operations_from}
+use Rattle.path_decl.specs.Building.{Drafted, operation_names, law_from, with_law, LawFits, AllAllowed, after_all}
 use Rattle.path_decl.proofs.FormRules.{BracesFit}
 use Rattle.path_decl.proofs.Taken.{after_all-append, allowed-append, allowed_front, allowed_back, Fresh, fresh-append, fresh_front, fresh_back, tree_in, FormFits, after_form, form_allowed, form_kept, braces_kept}
 
 -- a draft between two paths
 abbrev pub base : List Resource → List Operation → List Path → ℕ → Drafted
 base R O P r = record { resources = R; operations = O; paths = P; resource = r; open_trees = []; named = []; braces = 0 }
+
+-- the resource that a form makes
+abbrev pub resource_from : ResourceForm → Resource
+resource_from q = record { name = q.name; law = law_from q.law }
+
+with_law_last : (R : List Resource) (n : List ℕ) (k l : Law) → with_law l (R ++ record { name = n; law = k } ∷ []) ≡ R ++ record { name = n; law = l } ∷ []
+with_law_last [] n k l = refl
+with_law_last (r ∷ []) n k l = refl
+with_law_last (r ∷ s ∷ R) n k l = ap (λ x. r ∷ x) (with_law_last (s ∷ R) n k l)
+
+-- the resources with one more, when its law has come
+one_more : (q : ResourceForm) (R : List Resource) → with_law (law_from q.law) (R ++ record { name = q.name; law = Cell } ∷ []) ≡ R ++ resource_from q ∷ []
+one_more q R = with_law_last R q.name Cell (law_from q.law)
 
 -- the operations of a resource
 abbrev pub owned : ℕ → List (List ℕ) → List Operation
@@ -82,7 +97,8 @@ paths_kept (f ∷ fs) R O P r le a =
 after_resource : (q : ResourceForm) (R : List Resource) (O : List Operation) (P : List Path) (r : ℕ) → after_all (resource_parts q) (base R O P r)
     ≡ base (R ++ resource_from q ∷ []) (O ++ owned (length R) q.operations) (P ++ map (made_path (O ++ owned (length R) q.operations) (length R)) q.paths) (length R)
 after_resource q R O P r =
-    after_all-append (map an_operation q.operations) (path_parts q.paths) (base (R ++ resource_from q ∷ []) O P (length R))
+    ap (λ x. after_all (inner_parts (q.operations, q.paths)) (base x O P (length R))) (one_more q R)
+    ∙ after_all-append (map an_operation q.operations) (path_parts q.paths) (base (R ++ resource_from q ∷ []) O P (length R))
     ∙ ap (after_all (path_parts q.paths)) (after_operations q.operations (R ++ resource_from q ∷ []) O P (length R))
     ∙ after_paths q.paths (R ++ resource_from q ∷ []) (O ++ owned (length R) q.operations) P (length R)
 
@@ -132,12 +148,13 @@ one_resource_more R q = map_push (λ r. r.name) R (resource_from q)
 
 pub record Keeps (R : List Resource) (O : List Operation) (P : List Path) (qs : List ResourceForm) : Type 0 where
   pub resources : Fresh 64 (map (λ r. r.name) R) (map (λ q. q.name) qs)
+  pub laws : AllByRecursion (λ q. LawFits q.law) qs
   pub operations : Fresh 256 (operation_names O) (all_operations qs)
   pub paths : FileFits O (length R) qs
   pub room : length P + length (all_paths qs) ≤ 256
 
 pub file_kept : (qs : List ResourceForm) (R : List Resource) (O : List Operation) (P : List Path) (r : ℕ) → length P ≤ 256 → AllAllowed (file_parts qs) (base R O P r) → Keeps R O P qs
-file_kept [] R O P r le a = record { resources = tt; operations = tt; paths = tt; room = omega arith }
+file_kept [] R O P r le a = record { resources = tt; laws = tt; operations = tt; paths = tt; room = omega arith }
 file_kept (q ∷ qs) R O P r le a =
     let k : ℕ = length R in
     let Rq : List Resource = R ++ resource_from q ∷ [] in
@@ -145,13 +162,15 @@ file_kept (q ∷ qs) R O P r le a =
     let Pq : List Path = P ++ map (made_path Oq k) q.paths in
     let here = allowed_front (resource_parts q) (file_parts qs) (base R O P r) a in
     let rest = subst (AllAllowed (file_parts qs)) (after_resource q R O P r) (allowed_back (resource_parts q) (file_parts qs) (base R O P r) a) in
-    let os = operations_kept q.operations Rq O P k (allowed_front (map an_operation q.operations) (path_parts q.paths) (base Rq O P k) here.1) in
-    let ps = paths_kept q.paths Rq Oq P k le (subst (AllAllowed (path_parts q.paths)) (after_operations q.operations Rq O P k) (allowed_back (map an_operation q.operations) (path_parts q.paths) (base Rq O P k) here.1)) in
+    let inner = subst (λ x. AllAllowed (inner_parts (q.operations, q.paths)) (base x O P k)) (one_more q R) here.1.1 in
+    let os = operations_kept q.operations Rq O P k (allowed_front (map an_operation q.operations) (path_parts q.paths) (base Rq O P k) inner) in
+    let ps = paths_kept q.paths Rq Oq P k le (subst (AllAllowed (path_parts q.paths)) (after_operations q.operations Rq O P k) (allowed_back (map an_operation q.operations) (path_parts q.paths) (base Rq O P k) inner)) in
     let long : length Pq ≡ length P + length q.paths = simp (length-append, length-map) in
     let m = file_kept qs Rq Oq Pq k (omega (arith, ps.1)) rest in
     let room : length (map (λ x. x.name) R) < 64 = simp length-map here.0.1 in
     record {
       resources = (here.0.0, room, subst (λ z. Fresh 64 z (map (λ x. x.name) qs)) (one_resource_more R q) m.resources);
+      laws = (here.1.0, m.laws);
       operations = fresh-append 256 (operation_names O) q.operations (all_operations qs) os (subst (λ z. Fresh 256 z (all_operations qs)) (names_with O k q.operations) m.operations);
       paths = (ps.0, subst (λ n. FileFits Oq n qs) (longer R (resource_from q)) m.paths);
       room = simp length-append (omega (arith, m.room));
@@ -172,8 +191,10 @@ file_allowed (q ∷ qs) R O P r m =
     let here = allowed-append (map an_operation q.operations) (path_parts q.paths) (base Rq O P k) os (subst (AllAllowed (path_parts q.paths)) (sym (after_operations q.operations Rq O P k)) ps) in
     let next : Keeps Rq Oq Pq qs = record {
       resources = subst (λ z. Fresh 64 z (map (λ x. x.name) qs)) (sym (one_resource_more R q)) m.resources.2;
+      laws = m.laws.1;
       operations = subst (λ z. Fresh 256 z (all_operations qs)) (sym (names_with O k q.operations)) (fresh_back 256 (operation_names O) q.operations (all_operations qs) m.operations);
       paths = subst (λ n. FileFits Oq n qs) (sym (longer R (resource_from q))) m.paths.1;
       room = omega (arith, all, long);
     } in
-    allowed-append (resource_parts q) (file_parts qs) (base R O P r) ((m.resources.0, few), here) (subst (AllAllowed (file_parts qs)) (sym (after_resource q R O P r)) (file_allowed qs Rq Oq Pq k next))
+    let lawful = subst (λ x. AllAllowed (inner_parts (q.operations, q.paths)) (base x O P k)) (sym (one_more q R)) here in
+    allowed-append (resource_parts q) (file_parts qs) (base R O P r) ((m.resources.0, few), (m.laws.0, lawful)) (subst (AllAllowed (file_parts qs)) (sym (after_resource q R O P r)) (file_allowed qs Rq Oq Pq k next))

@@ -2,7 +2,7 @@
 use Rattle.std.proofs.Common.{◌≡◌, ℕ, ◌+◌, ◌≤◌, List, length, map, Contains}
 use Rattle.std.specs.List.{AllByRecursion}
 use Rattle.path_decl.specs.Lawful.{IsDistinct}
-use Rattle.path_decl.specs.Building.{BoundFits}
+use Rattle.path_decl.specs.Building.{BoundFits, LawFits}
 use Rattle.path_decl.specs.Forms.{Form, once, sequence, selection, braced, names_in, ResourceForm, all_operations, all_paths}
 
 -- within so many open braces, no braces stand within braces, and each bound is a number from 1 to 65,535
@@ -25,6 +25,7 @@ PathsKeepRules rs = AllByRecursion (λ r. AllByRecursion (KeepsPathRules r.opera
 
 pub record KeepsRules (rs : List ResourceForm) : Type 0 where
   pub resources : IsDistinct (map (λ r. r.name) rs)
+  pub laws : AllByRecursion (λ r. LawFits r.law) rs
   pub operations : IsDistinct (all_operations rs)
   pub paths : PathsKeepRules rs
   pub few_resources : length rs ≤ 64

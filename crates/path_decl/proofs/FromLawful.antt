@@ -5,18 +5,20 @@ use Rattle.std.proofs.lemmas.List.{length-append, length-map}
 use Rattle.std.proofs.lemmas.List.Elements.{Contains-append_cases, Contains-get_or, recursion_from_All}
 use Rattle.std.proofs.lemmas.Option.{slice_get-map, slice_get-get_or, same_Some}
 use Rattle.path_model.specs.declared.ids.OpId.{OpId}
+use Rattle.path_model.specs.declared.resource.Law.{Law}
+use Rattle.path_model.specs.declared.resource.Law.TheVariants.{Queue}
 use Rattle.path_model.specs.Trees.{Bound, any, most, Room, Tree, op, seq, alt, burst, Names, NoRepeats, NoBraces, NoNesting, FewAtOnce, WellFormed}
 use Rattle.path_model.specs.Legal.{numbered, Every}
-use Rattle.path_model.specs.Declarations.{Operation, Path, Declaration}
-use Rattle.path_decl.specs.Forms.{Form, once, sequence, selection, braced, ResourceForm, names_in, all_operations, all_paths}
-use Rattle.path_decl.specs.Lawful.{IsDistinct, names_count, NamesOwn, Lawful}
-use Rattle.path_decl.specs.Declares.{IsBound, Numbers, operations_from, paths_from, ArePathsOf, Declares}
-use Rattle.path_decl.specs.Building.{operation_names, BoundFits}
+use Rattle.path_model.specs.Declarations.{Resource, Operation, Path, Declaration}
+use Rattle.path_decl.specs.Forms.{Form, once, sequence, selection, braced, LawForm, a_cell, a_tally, a_queue, ResourceForm, names_in, all_operations, all_paths}
+use Rattle.path_decl.specs.Lawful.{IsDistinct, names_count, NamesOwn, CapacityFits, Lawful}
+use Rattle.path_decl.specs.Declares.{IsBound, IsLawOf, Numbers, AreResourcesOf, operations_from, paths_from, ArePathsOf, Declares}
+use Rattle.path_decl.specs.Building.{operation_names, LawFits, BoundFits}
 use Rattle.path_decl.proofs.FormRules.{BracesFit, KeepsPathRules, PathsKeepRules, KeepsRules}
 use Rattle.path_decl.proofs.Taken.{each-append}
 use Rattle.path_decl.proofs.Files.{owned}
 use Rattle.path_decl.proofs.Ruled.{get_either, each_get, Below, below_more, owned_has, distinct_tail, one_number, none_distinct}
-use Rattle.path_decl.proofs.Made.{operations_named, resources_named}
+use Rattle.path_decl.proofs.Made.{operations_named}
 
 distinct_cons : (x : List ℕ) (xs : List (List ℕ)) → IsDistinct xs → (Contains xs x → ⊥) → IsDistinct (x ∷ xs)
 distinct_cons x xs d new zero zero y lt le e = absurd (omega arith)
@@ -198,6 +200,24 @@ as_many ns [] (p ∷ ps) h = absurd h
 as_many ns (f ∷ fs) [] h = absurd h
 as_many ns (f ∷ fs) (p ∷ ps) h = let rest = as_many ns fs ps h.1 in omega arith
 
+-- the resources have the names of their forms
+pub resources_called : (fs : List ResourceForm) (rs : List Resource) → AreResourcesOf fs rs → map (λ r. r.name) rs ≡ map (λ f. f.name) fs
+resources_called [] [] h = refl
+resources_called [] (r ∷ rs) h = absurd h
+resources_called (f ∷ fs) [] h = absurd h
+resources_called (f ∷ fs) (r ∷ rs) h = ap (λ n. n ∷ map (λ q. q.name) rs) h.0.0 ∙ ap (λ ns. f.name ∷ ns) (resources_called fs rs h.1)
+
+-- a capacity that fits is denoted by digits that fit
+law_kept : (f : LawForm) (l : Law) → IsLawOf f l → CapacityFits l → LawFits f
+law_kept a_cell l h c = tt
+law_kept a_tally l h c = tt
+law_kept (a_queue ds) l h c = let fits : CapacityFits (Queue h.0) = subst CapacityFits h.2 c in record { number = h.0; denoted = h.1; positive = fits.0; within = fits.1 }
+
+laws_kept : (fs : List ResourceForm) (rs : List Resource) → AreResourcesOf fs rs → AllByRecursion (λ r. CapacityFits r.law) rs → AllByRecursion (λ f. LawFits f.law) fs
+laws_kept [] rs h c = tt
+laws_kept (f ∷ fs) [] h c = absurd h
+laws_kept (f ∷ fs) (r ∷ rs) h c = (law_kept f.law r.law h.0.1 c.0, laws_kept fs rs h.1 c.1)
+
 names_declared : (rs : List ResourceForm) (d : Declaration) → Declares rs d → operation_names d.operations ≡ all_operations rs
 names_declared rs d is = ap operation_names is.operations ∙ operations_named rs 0
 
@@ -208,11 +228,13 @@ pub forms_keep_rules : (rs : List ResourceForm) (d : Declaration) → Declares r
 forms_keep_rules rs d is law =
     let distinct = distinct_operations rs d is law in
     let keeps = keeps_all d 0 d.paths law.well_formed law.bounded (recursion_from_All (NamesOwn d) d.paths law.named) (recursion_from_All (λ p. names_count p.tree ≤ 64) d.paths law.few_names) in
-    let resources : length d.resources ≡ length rs = ap length is.resources ∙ simp length-map in
+    let called = resources_called rs d.resources is.resources in
+    let resources : length d.resources ≡ length rs = sym (length-map d.resources (λ r. r.name)) ∙ ap length called ∙ length-map rs (λ r. r.name) in
     let operations : length d.operations ≡ length (all_operations rs) = sym (length-map d.operations (λ o. o.name)) ∙ ap length (names_declared rs d is) in
     let paths : length (all_paths rs) ≡ length d.paths = sym (paths_count 0 rs) ∙ as_many (all_operations rs) (paths_from 0 rs) d.paths is.paths in
     record {
-      resources = subst IsDistinct (ap (map (λ r. r.name)) is.resources ∙ resources_named rs) law.resource_names.distinct;
+      resources = subst IsDistinct called law.resource_names.distinct;
+      laws = laws_kept rs d.resources is.resources (recursion_from_All (λ r. CapacityFits r.law) d.resources law.capacities);
       operations = distinct;
       paths = all_rules d (all_operations rs) distinct (names_declared rs d is) [] 0 rs is.operations tt d.paths is.paths keeps;
       few_resources = let few = law.few_resources in omega arith;

@@ -3,9 +3,9 @@ use Rattle.std.proofs.Common.{ℕ, List, ◌∷◌, Option}
 use Rattle.path_lex.specs.declared.token.Sign.TheVariants as signs
 use Rattle.path_lex.specs.declared.token.Reserved.TheVariants as words
 use Rattle.path_lex.specs.Spelling.{Piece, sign, reserved, name}
-use Rattle.path_decl.specs.Forms.{Form, ResourceForm}
+use Rattle.path_decl.specs.Forms.{Form, LawForm, ResourceForm}
 use Rattle.path_decl.specs.Grammar as plain
-use Rattle.path_decl.specs.Grammar.{IsClosing, IsUnit, IsAlt, MoreUnits, IsSeq, MoreAlts, IsPath, ArePaths, AreNames, IsResource, IsFile}
+use Rattle.path_decl.specs.Grammar.{IsClosing, IsUnit, IsAlt, MoreUnits, IsSeq, MoreAlts, IsPath, ArePaths, AreNames, IsLaw, IsResource, IsFile}
 use Rattle.path_decl.specs.Reading as greedy
 use Rattle.path_decl.specs.Reading.{Begins, ReadsUnit, ReadsAlt, ReadsUnits, ReadsSeq, ReadsAlts, ReadsPath, ReadsPaths, ReadsMore, ReadsNames, ReadsBody, ReadsResource, ReadsResources, ReadsFile}
 
@@ -117,14 +117,14 @@ are_names : {ts rest : List Piece} {ns : List (List ℕ)} → ReadsNames ts rest
 are_names (greedy.by_names m) = names_more m
 
 reads_resource : {ts rest : List Piece} {r : ResourceForm} → IsResource ts rest r → ReadsResource ts rest r
-reads_resource (plain.by_resource ns ps) = greedy.by_resource (greedy.by_body (reads_names ns (paths_start ps)) (reads_paths ps ending_path))
+reads_resource (plain.by_resource l ns ps) = greedy.by_resource l (greedy.by_body (reads_names ns (paths_start ps)) (reads_paths ps ending_path))
 
-resource_with : {n : List ℕ} {ts rest : List Piece} {os : List (List ℕ)} {ps : List Form} → ReadsBody ts (reserved words.End ∷ rest) os ps
-    → IsResource (reserved words.Resource ∷ name n ∷ reserved words.Cell ∷ reserved words.Operation ∷ ts) rest (record { name = n; operations = os; paths = ps })
-resource_with (greedy.by_body ns ps) = plain.by_resource (are_names ns) (are_paths ps)
+resource_with : {n : List ℕ} {ls ts rest : List Piece} {l : LawForm} {os : List (List ℕ)} {ps : List Form} → IsLaw ls (reserved words.Operation ∷ ts) l → ReadsBody ts (reserved words.End ∷ rest) os ps
+    → IsResource (reserved words.Resource ∷ name n ∷ ls) rest (record { name = n; law = l; operations = os; paths = ps })
+resource_with l (greedy.by_body ns ps) = plain.by_resource l (are_names ns) (are_paths ps)
 
 is_resource : {ts rest : List Piece} {r : ResourceForm} → ReadsResource ts rest r → IsResource ts rest r
-is_resource (greedy.by_resource b) = resource_with b
+is_resource (greedy.by_resource l b) = resource_with l b
 
 resources_from : {ts : List Piece} {rs : List ResourceForm} → ReadsFile ts rs → ReadsResources ts rs
 resources_from (greedy.by_file q m) = greedy.one_resource q m

@@ -1,8 +1,10 @@
 pub mod TableLemmas
+pub mod Numbered
 pub mod CallerLemmas
 pub mod Once
 pub mod Reached
 pub mod Unit
+pub mod Laws
 pub mod Lists
 pub mod Greedy
 pub mod NumeralLemmas

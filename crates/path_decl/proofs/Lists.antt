@@ -9,10 +9,12 @@ use Rattle.std.proofs.lemmas.Bool.Decides.{nat_tests}
 use Rattle.path_lex.specs.declared.token.Token.{Token}
 use Rattle.path_decl.specs.Reading.{told}
 use Rattle.path_lex.specs.Spelling.{Piece, sign, reserved, name}
-use Rattle.path_decl.specs.Forms.{Form, ResourceForm}
-use Rattle.path_decl.specs.Parts.{Saying, a_resource, an_operation, a_path, an_end, form_parts, body_parts, path_parts, inner_parts, resource_parts, file_parts}
+use Rattle.path_decl.specs.Forms.{Form, LawForm, ResourceForm}
+use Rattle.path_decl.specs.Grammar.{IsLaw}
+use Rattle.path_decl.specs.Parts.{Saying, a_resource, a_law, an_operation, a_path, an_end, form_parts, body_parts, path_parts, inner_parts, resource_parts, file_parts}
 use Rattle.path_decl.specs.Reading.{Begins, Adds, ReadsSeq, ReadsPath, by_path, ReadsPaths, no_path, one_path, ReadsMore, no_name, one_name, ReadsNames, by_names, ReadsBody, by_body, ReadsResource, by_resource, ReadsResources, no_resource, one_resource, ReadsFile, by_file}
 use Rattle.path_decl.proofs.Once.{Same, seq_once, same_tail}
+use Rattle.path_decl.proofs.Laws.{NoLaw, law_once}
 
 pub path_closed : (ts mid rest : List Piece) (old out new : List Saying) → Adds form_parts (ReadsSeq 32 ts mid) old out → mid ≡ reserved words.End ∷ rest → new ≡ out ++ an_end ∷ [] → Adds body_parts (ReadsPath ts rest) old new
 path_closed ts mid rest old out new a e n = (a.0, by_path (subst (λ x. ReadsSeq 32 ts x a.0) e a.1), n ∙ ap (λ x. x ++ an_end ∷ []) a.2 ∙ append_assoc old (form_parts a.0) (an_end ∷ []))
@@ -158,28 +160,29 @@ body_once (by_body q p) (by_body q' p') =
     let e = names_once q q' in
     let f = paths_once p (paths_at e.0 p') in (f.0, e.1, f.1)
 
--- a resource that has come so far
-abbrev pub IsOpened : List Piece → List ℕ → List Piece → Type 0
-IsOpened ts n inside = ts ≡ reserved words.Resource ∷ name n ∷ reserved words.Cell ∷ reserved words.Operation ∷ inside
+-- a resource whose name has come
+abbrev pub IsNamed : List Piece → List ℕ → List Piece → Type 0
+IsNamed ts n ls = ts ≡ reserved words.Resource ∷ name n ∷ ls
+
+-- a law was read, and its part was added
+abbrev pub AddsLaw : List Piece → List Piece → List Saying → List Saying → Type 0
+AddsLaw ls kind old new = Adds (λ l. a_law l ∷ []) (IsLaw ls kind) old new
 
 abbrev pub NoResource : List Piece → Type 0
 NoResource ts = (rest : List Piece) (r : ResourceForm) → ReadsResource ts rest r → ⊥
 
 word_first : {ts rest : List Piece} {r : ResourceForm} → ReadsResource ts rest r → Begins (reserved words.Resource) ts
-word_first (by_resource b) = (_, refl)
+word_first (by_resource l b) = (_, refl)
 
 name_second : {ts rest : List Piece} {r : ResourceForm} → ReadsResource (reserved words.Resource ∷ ts) rest r → (n : List ℕ) × Begins (name n) ts
-name_second (by_resource {n} b) = (n, (_, refl))
+name_second (by_resource {n} l b) = (n, (_, refl))
 
-law_third : {n : List ℕ} {ts rest : List Piece} {r : ResourceForm} → ReadsResource (reserved words.Resource ∷ name n ∷ ts) rest r → Begins (reserved words.Cell) ts
-law_third (by_resource b) = (_, refl)
+law_third : {n : List ℕ} {ls rest : List Piece} {r : ResourceForm} → ReadsResource (reserved words.Resource ∷ name n ∷ ls) rest r
+    → (ts : List Piece) × IsLaw ls (reserved words.Operation ∷ ts) r.law × ReadsBody ts (reserved words.End ∷ rest) r.operations r.paths
+law_third (by_resource {ts} l b) = (ts, l, b)
 
-word_fourth : {n : List ℕ} {ts rest : List Piece} {r : ResourceForm} → ReadsResource (reserved words.Resource ∷ name n ∷ reserved words.Cell ∷ ts) rest r → Begins (reserved words.Operation) ts
-word_fourth (by_resource b) = (_, refl)
-
-body_last : {n : List ℕ} {ts rest : List Piece} {r : ResourceForm} → ReadsResource (reserved words.Resource ∷ name n ∷ reserved words.Cell ∷ reserved words.Operation ∷ ts) rest r
-    → ReadsBody ts (reserved words.End ∷ rest) r.operations r.paths
-body_last (by_resource b) = b
+named_so : {ts ls rest : List Piece} {n : List ℕ} {r : ResourceForm} → IsNamed ts n ls → ReadsResource ts rest r → ReadsResource (reserved words.Resource ∷ name n ∷ ls) rest r
+named_so {rest} {r} e q = subst (λ x. ReadsResource x rest r) e q
 
 pub no_word : (ts : List Piece) → (Begins (reserved words.Resource) ts → ⊥) → NoResource ts
 no_word ts none rest r q = none (word_first q)
@@ -187,39 +190,48 @@ no_word ts none rest r q = none (word_first q)
 pub no_name_after : (ts t1 : List Piece) → ts ≡ reserved words.Resource ∷ t1 → ((n : List ℕ) → Begins (name n) t1 → ⊥) → NoResource ts
 no_name_after ts t1 e none rest r q = let b = name_second (subst (λ x. ReadsResource x rest r) e q) in none b.0 b.1
 
--- the first two, the first three, the first four
-pub two : (ts t1 t2 : List Piece) (n : List ℕ) → ts ≡ reserved words.Resource ∷ t1 → t1 ≡ name n ∷ t2 → ts ≡ reserved words.Resource ∷ name n ∷ t2
-two ts t1 t2 n e f = e ∙ ap (λ x. reserved words.Resource ∷ x) f
+pub named : (ts t1 ls : List Piece) (n : List ℕ) → ts ≡ reserved words.Resource ∷ t1 → t1 ≡ name n ∷ ls → IsNamed ts n ls
+named ts t1 ls n e f = e ∙ ap (λ x. reserved words.Resource ∷ x) f
 
-pub three : (ts t2 t3 : List Piece) (n : List ℕ) → ts ≡ reserved words.Resource ∷ name n ∷ t2 → t2 ≡ reserved words.Cell ∷ t3 → ts ≡ reserved words.Resource ∷ name n ∷ reserved words.Cell ∷ t3
-three ts t2 t3 n e f = e ∙ ap (λ x. reserved words.Resource ∷ name n ∷ x) f
+pub no_law : (ts ls : List Piece) (n : List ℕ) → IsNamed ts n ls → NoLaw ls → NoResource ts
+no_law ts ls n e none rest r q = none _ _ (law_third (named_so e q)).1
 
-pub four : (ts t3 t4 : List Piece) (n : List ℕ) → ts ≡ reserved words.Resource ∷ name n ∷ reserved words.Cell ∷ t3 → t3 ≡ reserved words.Operation ∷ t4 → IsOpened ts n t4
-four ts t3 t4 n e f = e ∙ ap (λ x. reserved words.Resource ∷ name n ∷ reserved words.Cell ∷ x) f
+pub no_operation : (ts ls kind : List Piece) (n : List ℕ) (old out : List Saying) → IsNamed ts n ls → AddsLaw ls kind old out → (Begins (reserved words.Operation) kind → ⊥) → NoResource ts
+no_operation ts ls kind n old out e a none rest r q = let p = law_third (named_so e q) in none (p.0, (law_once a.1 p.1).0)
 
-pub no_law : (ts t2 : List Piece) (n : List ℕ) → ts ≡ reserved words.Resource ∷ name n ∷ t2 → (Begins (reserved words.Cell) t2 → ⊥) → NoResource ts
-no_law ts t2 n e none rest r q = none (law_third (subst (λ x. ReadsResource x rest r) e q))
+body_from : {ts ts' rest : List Piece} {ns : List (List ℕ)} {ps : List Form} → ts ≡ ts' → ReadsBody ts' rest ns ps → ReadsBody ts rest ns ps
+body_from {rest} {ns} {ps} e b = subst (λ x. ReadsBody x rest ns ps) (sym e) b
 
-pub no_operation : (ts t3 : List Piece) (n : List ℕ) → ts ≡ reserved words.Resource ∷ name n ∷ reserved words.Cell ∷ t3 → (Begins (reserved words.Operation) t3 → ⊥) → NoResource ts
-no_operation ts t3 n e none rest r q = none (word_fourth (subst (λ x. ReadsResource x rest r) e q))
+body_last : (ts ls kind inside : List Piece) (n : List ℕ) (old out : List Saying) → IsNamed ts n ls → AddsLaw ls kind old out → kind ≡ reserved words.Operation ∷ inside
+    → (rest : List Piece) (r : ResourceForm) → ReadsResource ts rest r → ReadsBody inside (reserved words.End ∷ rest) r.operations r.paths
+body_last ts ls kind inside n old out e a f rest r q = let p = law_third (named_so e q) in body_from (same_tail (sym f ∙ (law_once a.1 p.1).0)) p.2
 
-pub no_body : (ts inside : List Piece) (n : List ℕ) → IsOpened ts n inside → ((rest : List Piece) (ns : List (List ℕ)) (fs : List Form) → ReadsBody inside rest ns fs → ⊥) → NoResource ts
-no_body ts inside n e none rest r q = none _ _ _ (body_last (subst (λ x. ReadsResource x rest r) e q))
+pub no_body : (ts ls kind inside : List Piece) (n : List ℕ) (old out : List Saying) → IsNamed ts n ls → AddsLaw ls kind old out → kind ≡ reserved words.Operation ∷ inside
+    → ((rest : List Piece) (ns : List (List ℕ)) (fs : List Form) → ReadsBody inside rest ns fs → ⊥) → NoResource ts
+no_body ts ls kind inside n old out e a f none rest r q = none _ _ _ (body_last ts ls kind inside n old out e a f rest r q)
 
-pub no_end : (ts inside last : List Piece) (n : List ℕ) (old out : List Saying) → IsOpened ts n inside → Adds inner_parts (λ b. ReadsBody inside last b.0 b.1) old out → (Begins (reserved words.End) last → ⊥) → NoResource ts
-no_end ts inside last n old out e a none rest r q = none (rest, (body_once a.1 (body_last (subst (λ x. ReadsResource x rest r) e q))).0)
+pub no_end : (ts ls kind inside last : List Piece) (n : List ℕ) (old out new : List Saying) → IsNamed ts n ls → AddsLaw ls kind old out → kind ≡ reserved words.Operation ∷ inside
+    → Adds inner_parts (λ b. ReadsBody inside last b.0 b.1) out new → (Begins (reserved words.End) last → ⊥) → NoResource ts
+no_end ts ls kind inside last n old out new e a f b none rest r q = none (rest, (body_once b.1 (body_last ts ls kind inside n old out e a f rest r q)).0)
 
-pub is_resource : (ts inside last rest : List Piece) (n : List ℕ) (old begun out : List Saying) → IsOpened ts n inside → begun ≡ old ++ a_resource n ∷ [] → Adds inner_parts (λ b. ReadsBody inside last b.0 b.1) begun out → last ≡ reserved words.End ∷ rest
-    → Adds resource_parts (ReadsResource ts rest) old out
-is_resource ts inside last rest n old begun out e b a f =
-    let r : ResourceForm = record { name = n; operations = a.0.0; paths = a.0.1 } in
-    (r, subst (λ x. ReadsResource x rest r) (sym e) (by_resource (subst (λ x. ReadsBody inside x a.0.0 a.0.1) f a.1)), a.2 ∙ ap (λ x. x ++ inner_parts a.0) b ∙ append_assoc old (a_resource n ∷ []) (inner_parts a.0))
+pub is_resource : (ts ls kind inside last rest : List Piece) (n : List ℕ) (old begun out new : List Saying) → IsNamed ts n ls → begun ≡ old ++ a_resource n ∷ [] → AddsLaw ls kind begun out → kind ≡ reserved words.Operation ∷ inside
+    → Adds inner_parts (λ b. ReadsBody inside last b.0 b.1) out new → last ≡ reserved words.End ∷ rest → Adds resource_parts (ReadsResource ts rest) old new
+is_resource ts ls kind inside last rest n old begun out new e s a f b g =
+    let r : ResourceForm = record { name = n; law = a.0; operations = b.0.0; paths = b.0.1 } in
+    let whole : ReadsResource (reserved words.Resource ∷ name n ∷ ls) rest r = by_resource (subst (λ x. IsLaw ls x a.0) f a.1) (subst (λ x. ReadsBody inside x b.0.0 b.0.1) g b.1) in (
+      r,
+      subst (λ x. ReadsResource x rest r) (sym e) whole,
+      b.2 ∙ ap (λ x. x ++ inner_parts b.0) (a.2 ∙ ap (λ x. x ++ a_law a.0 ∷ []) s) ∙ append_assoc (old ++ a_resource n ∷ []) (a_law a.0 ∷ []) (inner_parts b.0) ∙ append_assoc old (a_resource n ∷ []) (a_law a.0 ∷ inner_parts b.0),
+    )
 
-body_at : {ns ns' : List (List ℕ)} {n : List ℕ} {ps ps' : List Form} → ns ≡ ns' → ps ≡ ps' → ◌≡◌ {A = ResourceForm} (record { name = n; operations = ns; paths = ps }) (record { name = n; operations = ns'; paths = ps' })
-body_at e f = cc
+same_form : {l l' : LawForm} {ns ns' : List (List ℕ)} {n : List ℕ} {ps ps' : List Form} → l ≡ l' → ns ≡ ns' → ps ≡ ps'
+    → ◌≡◌ {A = ResourceForm} (record { name = n; law = l; operations = ns; paths = ps }) (record { name = n; law = l'; operations = ns'; paths = ps' })
+same_form d e f = cc
 
 pub resource_once : {ts r r' : List Piece} {x x' : ResourceForm} → ReadsResource ts r x → ReadsResource ts r' x' → Same r r' x x'
-resource_once (by_resource b) (by_resource b') = let e = body_once b b' in (same_tail e.0, body_at e.1 e.2)
+resource_once (by_resource l b) (by_resource l' b') =
+    let d = law_once l l' in
+    let e = body_once b (body_from (same_tail d.0) b') in (same_tail e.0, same_form d.1 e.1 e.2)
 
 resources_at : {ts ts' : List Piece} {rs : List ResourceForm} → ts ≡ ts' → ReadsResources ts' rs → ReadsResources ts rs
 resources_at {rs} e q = subst (λ x. ReadsResources x rs) (sym e) q

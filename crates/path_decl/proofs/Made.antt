@@ -5,7 +5,6 @@ use Rattle.std.proofs.lemmas.List.{length-map, length-append, map-append, get_or
 use Rattle.std.proofs.lemmas.List.Elements.{All-from_recursion}
 use Rattle.std.proofs.lemmas.Option.{slice_get_within, get_or_from_slice_get, same_Some}
 use Rattle.path_model.specs.declared.ids.OpId.{OpId}
-use Rattle.path_model.specs.declared.resource.Law.TheVariants.{Cell}
 use Rattle.path_model.specs.Trees.{Tree, Names, NoRepeats, Room, NoBraces, NoNesting, FewAtOnce, burst, WellFormed}
 use Rattle.path_model.specs.Legal.{numbered, Every}
 use Rattle.path_model.specs.Declarations.{Resource, Operation, Path, Declaration}
@@ -13,16 +12,16 @@ use Rattle.path_lex.specs.declared.token.Reserved.{Reserved}
 use Rattle.path_lex.specs.Bytes.{is_word_byte}
 use Rattle.path_lex.specs.Names.{reserved_of, IsWordText, IsName}
 use Rattle.path_lex.specs.Spelling.{Piece, sign, reserved, name, number, Placed, pieces, word_or, Spells, by_end, by_space, by_mark, by_word, by_number, IsWithinPiece, AreWithin, AreTokensOf}
-use Rattle.path_decl.specs.Forms.{Form, once, sequence, selection, braced, ResourceForm, names_in, all_operations, all_paths}
-use Rattle.path_decl.specs.Grammar.{IsClosing, by_brace, by_bound, IsUnit, by_name, by_group, by_braces, IsAlt, by_units, MoreUnits, no_unit, one_unit, IsSeq, by_alts, MoreAlts, no_alt, one_alt, by_path, ArePaths, no_path, one_path, AreNames, last_name, one_name, IsResource, by_resource, IsFile, last_resource, one_resource}
+use Rattle.path_decl.specs.Forms.{Form, once, sequence, selection, braced, LawForm, a_cell, a_tally, a_queue, ResourceForm, names_in, all_operations, all_paths}
+use Rattle.path_decl.specs.Grammar.{IsClosing, by_brace, by_bound, IsUnit, by_name, by_group, by_braces, IsAlt, by_units, MoreUnits, no_unit, one_unit, IsSeq, by_alts, MoreAlts, no_alt, one_alt, by_path, ArePaths, no_path, one_path, AreNames, last_name, one_name, IsLaw, by_cell, by_tally, by_queue, IsResource, by_resource, IsFile, last_resource, one_resource}
 use Rattle.path_decl.specs.Lawful.{IsDistinct}
 use Rattle.path_decl.proofs.FormRules.{BracesFit, KeepsRules}
-use Rattle.path_decl.specs.Declares.{resource_from, operations_from}
-use Rattle.path_decl.specs.Building.{operation_names, bound_of, BoundFits}
-use Rattle.path_decl.specs.Lawful.{names_count, NamesOwn, AreDistinctNames, Lawful}
+use Rattle.path_decl.specs.Declares.{operations_from}
+use Rattle.path_decl.specs.Building.{operation_names, law_from, LawFits, bound_of, BoundFits}
+use Rattle.path_decl.specs.Lawful.{names_count, NamesOwn, AreDistinctNames, CapacityFits, Lawful}
 use Rattle.path_decl.proofs.NumeralLemmas.{value_of}
 use Rattle.path_decl.proofs.Taken.{each-append, each_front, each_back, each_then, tree_in, IsOwn, fresh_distinct}
-use Rattle.path_decl.proofs.Files.{owned, made_path, made_paths, PathFits, PathsFit, FileFits, names_owned}
+use Rattle.path_decl.proofs.Files.{resource_from, owned, made_path, made_paths, PathFits, PathsFit, FileFits, names_owned}
 use Rattle.path_decl.proofs.Ruled.{distinct_front, distinct_tail}
 
 -- a piece that is a name is a good one
@@ -87,9 +86,15 @@ names_good : {ts rest : List Piece} {ns : List (List ℕ)} → AreNames ts rest 
 names_good last_name g = ((g.0, tt), g.1)
 names_good (one_name m) g = let r = names_good m g.1.1 in ((g.0, r.0), r.1)
 
+law_rest : {ts rest : List Piece} {l : LawForm} → IsLaw ts rest l → Good ts → Good rest
+law_rest by_cell g = g.1
+law_rest by_tally g = g.1
+law_rest by_queue g = g.1.1
+
 resource_good : {ts rest : List Piece} {r : ResourceForm} → IsResource ts rest r → Good ts → IsName r.name × AllByRecursion IsName r.operations × Good rest
-resource_good (by_resource ns ps) g =
-    let n = names_good ns g.1.1.1.1 in
+resource_good (by_resource l ns ps) g =
+    let w = law_rest l g.1.1 in
+    let n = names_good ns w.1 in
     let r = paths_rest ps n.1 in
     (g.1.0, n.0, r.1)
 
@@ -238,9 +243,16 @@ pub resources_named : (qs : List ResourceForm) → map (λ r. r.name) (map resou
 resources_named [] = refl
 resources_named (q ∷ qs) = ap (λ x. q.name ∷ x) (resources_named qs)
 
-all_cells : (qs : List ResourceForm) → AllByRecursion (λ r. r.law ≡ Cell) (map resource_from qs)
-all_cells [] = tt
-all_cells (q ∷ qs) = (refl, all_cells qs)
+law_fits : (l : LawForm) → LawFits l → CapacityFits (law_from l)
+law_fits a_cell h = tt
+law_fits a_tally h = tt
+law_fits (a_queue ds) h =
+    let e = value_of ds h.number h.denoted (omega (arith, h.within)) in
+    (omega (arith, e, h.positive), omega (arith, e, h.within))
+
+laws_fit : (qs : List ResourceForm) → AllByRecursion (λ q. LawFits q.law) qs → AllByRecursion (λ r. CapacityFits r.law) (map resource_from qs)
+laws_fit [] h = tt
+laws_fit (q ∷ qs) h = (law_fits q.law h.0, laws_fit qs h.1)
 
 made_length : (qs : List ResourceForm) (O : List Operation) (k : ℕ) → length (made_paths O k qs) ≡ length (all_paths qs)
 made_length [] O k = refl
@@ -279,7 +291,7 @@ made_lawful qs r h rn on =
       named = All-from_recursion (NamesOwn (made qs)) ps (each_then (PathFacts all n) (NamesOwn (made qs)) (names_own qs) ps facts);
       operations = subst (λ m. All (λ o. o.resource < m) all) (sym len) (All-from_recursion (λ o. o.resource < n) all (operations_within n qs 0 (omega arith)));
       paths = subst (λ m. All (λ p. p.resource < m) ps) (sym len) (All-from_recursion (λ p. p.resource < n) ps (each_then (PathFacts all n) (λ p. p.resource < n) (λ p f. f.within) ps facts));
-      cells = All-from_recursion (λ x. x.law ≡ Cell) rs (all_cells qs);
+      capacities = All-from_recursion (λ x. CapacityFits x.law) rs (laws_fit qs r.laws);
       few_resources = few_r;
       few_operations = omega (arith, r.few_operations);
       few_paths = subst (λ m. m ≤ 256) (sym (made_length qs [] 0)) r.few_paths;

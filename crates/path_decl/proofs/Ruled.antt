@@ -7,16 +7,17 @@ use Rattle.std.proofs.lemmas.Slice.Eq.{bytes_eq-Decides}
 use Rattle.std.proofs.lemmas.List.{length-map, length-append, get_or_append_left}
 use Rattle.std.proofs.lemmas.Option.{slice_get-map, slice_get-get_or, slice_get_within, get_or_from_slice_get, same_Some}
 use Rattle.path_model.specs.declared.ids.OpId.{OpId}
+use Rattle.path_model.specs.declared.resource.Law.TheVariants.{Queue}
 use Rattle.path_model.specs.Declarations.{Operation, Path}
-use Rattle.path_decl.specs.Forms.{Form, once, sequence, selection, braced, ResourceForm, names_in, all_operations}
+use Rattle.path_decl.specs.Forms.{Form, once, sequence, selection, braced, LawForm, a_cell, a_tally, a_queue, ResourceForm, names_in, all_operations}
 use Rattle.path_decl.specs.Parts.{file_parts}
 use Rattle.path_decl.specs.Lawful.{IsDistinct}
 use Rattle.path_decl.proofs.FormRules.{BracesFit, KeepsPathRules, PathsKeepRules, KeepsRules}
-use Rattle.path_decl.specs.Declares.{IsBound, Numbers, paths_from, ArePathsOf, Declares}
-use Rattle.path_decl.specs.Building.{Drafted, nothing, declared_by, operation_names, number_of, place_of, bound_of, BoundFits, AllAllowed, after_all}
+use Rattle.path_decl.specs.Declares.{IsBound, IsLawOf, Numbers, AreResourcesOf, paths_from, ArePathsOf, Declares}
+use Rattle.path_decl.specs.Building.{Drafted, nothing, declared_by, operation_names, number_of, place_of, law_from, bound_of, LawFits, BoundFits, AllAllowed, after_all}
 use Rattle.path_decl.proofs.NumeralLemmas.{value_of}
 use Rattle.path_decl.proofs.Taken.{each-append, each_front, each_back, each_then, fresh_distinct, distinct_fresh, tree_in, IsOwn}
-use Rattle.path_decl.proofs.Files.{owned, made_path, made_paths, PathFits, PathsFit, FileFits, names_owned, names_with, after_file, file_kept, file_allowed}
+use Rattle.path_decl.proofs.Files.{resource_from, owned, made_path, made_paths, PathFits, PathsFit, FileFits, names_owned, names_with, after_file, file_kept, file_allowed}
 
 get_front : {X : Type 0} (xs ys : List X) (i : ℕ) (x : X) → slice_get xs i ≡ Some x → slice_get (xs ++ ys) i ≡ Some x
 get_front [] ys i x e = absurd (cc)
@@ -137,7 +138,7 @@ rules_kept qs a =
     let r = fresh_distinct 64 [] (map (λ q. q.name) qs) none_distinct (omega arith) k.resources in
     let o = fresh_distinct 256 [] (all_operations qs) none_distinct (omega arith) k.operations in
     let few : length qs ≤ 64 = simp length-map at r.1 in
-    record { resources = r.0; operations = o.0; paths = paths_rules qs [] 0 tt k.paths; few_resources = few; few_operations = o.1; few_paths = omega (arith, k.room) }
+    record { resources = r.0; laws = k.laws; operations = o.0; paths = paths_rules qs [] 0 tt k.paths; few_resources = few; few_operations = o.1; few_paths = omega (arith, k.room) }
 
 -- what keeps the rules is allowed
 pub rules_allow : (qs : List ResourceForm) → KeepsRules qs → AllAllowed (file_parts qs) nothing
@@ -145,6 +146,7 @@ rules_allow qs h =
     let few : length (map (λ q. q.name) qs) ≤ 64 = simp length-map h.few_resources in
     file_allowed qs [] [] [] 0 (record {
       resources = distinct_fresh 64 [] (map (λ q. q.name) qs) h.resources few;
+      laws = h.laws;
       operations = distinct_fresh 256 [] (all_operations qs) h.operations h.few_operations;
       paths = paths_fit qs [] 0 h.operations h.paths;
       room = omega (arith, h.few_paths);
@@ -154,6 +156,16 @@ rules_allow qs h =
 pub number_denoted : (b : Option (List ℕ)) → BoundFits b → IsBound b (bound_of b)
 number_denoted None h = tt
 number_denoted (Some ds) h = subst (λ n. ds ≡ decimal n) (sym (value_of ds h.number h.denoted (omega (arith, h.within)))) h.denoted
+
+-- the law that is made is the one that stands there
+law_denoted : (l : LawForm) → LawFits l → IsLawOf l (law_from l)
+law_denoted a_cell h = refl
+law_denoted a_tally h = refl
+law_denoted (a_queue ds) h = (h.number, h.denoted, ap Queue (value_of ds h.number h.denoted (omega (arith, h.within))))
+
+resources_made : (qs : List ResourceForm) → AllByRecursion (λ q. LawFits q.law) qs → AreResourcesOf qs (map resource_from qs)
+resources_made [] h = tt
+resources_made (q ∷ qs) h = ((refl, law_denoted q.law h.0), resources_made qs h.1)
 
 -- the names of a form stand at their numbers
 numbers_in : (N : List (List ℕ)) (O : List Operation) (k : ℕ) (more : List (List ℕ)) → N ≡ operation_names O ++ more → (f : Form) → AllByRecursion (IsOwn O k) (names_in f) → (b : ℕ) → BracesFit b f → Numbers N f (tree_in O f)
@@ -187,7 +199,7 @@ made_declares qs d a e =
     let m = after_file qs [] [] [] 0 in
     let k = file_kept qs [] [] [] 0 (omega arith) a in
     record {
-      resources = ap (λ x. x.resources) e ∙ m.resources;
+      resources = subst (AreResourcesOf qs) (sym (ap (λ x. x.resources) e ∙ m.resources)) (resources_made qs k.laws);
       operations = ap (λ x. x.operations) e ∙ m.operations;
       paths = subst (λ ps. ArePathsOf (all_operations qs) (paths_from 0 qs) ps) (sym (ap (λ x. x.paths) e ∙ m.paths)) (paths_made (all_operations qs) qs [] 0 refl k.paths);
     }

@@ -15,7 +15,8 @@ use Rattle.std.proofs.lemmas.Option.{slice_get-map, same_Some, cond_some, slice_
 use Rattle.path_model.specs.declared.ids.ResId.{ResId}
 use Rattle.path_model.specs.declared.resource.Law.{Law}
 use Rattle.path_model.specs.Trees.{Tree}
-use Rattle.path_decl.specs.Building.{place_of, number_of}
+use Rattle.indexmap.specs.IndexMap.{set_value_at}
+use Rattle.path_decl.specs.Building.{with_law, place_of, number_of}
 use Rattle.path_decl.specs.Table.{names_of, operation_shown, operations_of, resource_shown, resources_of}
 
 -- whether a key has these bytes
@@ -116,6 +117,14 @@ pushed_operation es fs k v bs e h = ap operations_of h ∙ map_push operation_sh
 
 pub pushed_resource : {Y : Type 0} (es fs : List (String Y × Law)) (k : String Y) (v : Law) (bs : List ℕ) → string_bytes k ≡ bs → fs ≡ es ++ (k, v) ∷ [] → resources_of fs ≡ resources_of es ++ record { name = bs; law = v } ∷ []
 pushed_resource es fs k v bs e h = ap resources_of h ∙ map_push resource_shown es (k, v) ∙ ap (λ (x : List ℕ). resources_of es ++ record { name = x; law = v } ∷ []) e
+
+-- the last resource with another law
+pub last_with : {Y : Type 0} (es : List (String Y × Law)) (i : ℕ) (l : Law) → suc i ≡ length es → resources_of (set_value_at es i l) ≡ with_law l (resources_of es)
+last_with [] i l e = absurd (omega (arith, e))
+last_with (e ∷ []) zero l h = refl
+last_with (e ∷ []) (suc i) l h = absurd (omega (arith, h))
+last_with (e ∷ f ∷ es) zero l h = absurd (omega (arith, h))
+last_with (e ∷ f ∷ es) (suc i) l h = ap (λ x. resource_shown e ∷ x) (last_with (f ∷ es) i l (omega (arith, h)))
 
 -- whether a name is among others
 abbrev is_same : List ℕ → Bor (List ℕ) → Bool

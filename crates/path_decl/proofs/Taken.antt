@@ -8,7 +8,7 @@ use Rattle.path_model.specs.Trees.{Tree, op, seq, alt, burst}
 use Rattle.path_model.specs.Declarations.{Operation}
 use Rattle.path_decl.specs.Forms.{Form, once, sequence, selection, braced, names_in}
 use Rattle.path_decl.specs.declared.part.PlacedPart.{PlacedPart}
-use Rattle.path_decl.specs.Parts.{Saying, saying, sayings, a_resource, an_operation, a_path, a_name, a_sequence, a_selection, an_opening, a_closing, an_end, form_parts}
+use Rattle.path_decl.specs.Parts.{Saying, saying, sayings, a_resource, a_law, an_operation, a_path, a_name, a_sequence, a_selection, an_opening, a_closing, an_end, form_parts}
 use Rattle.path_decl.specs.Lawful.{IsDistinct}
 use Rattle.path_decl.specs.Building.{Drafted, number_of, bound_of, BoundFits, Allowed, after, AllAllowed, after_all}
 use Rattle.path_decl.proofs.FormRules.{BracesFit}
@@ -186,6 +186,7 @@ braces_kept (braced c s) d a =
 -- no more than 256 operations
 still_few : (s : Saying) (d : Drafted) → Allowed s d → length d.operations ≤ 256 → length (after s d).operations ≤ 256
 still_few (a_resource n) d a le = le
+still_few (a_law l) d a le = le
 still_few (an_operation n) d a le = simp length-append (omega (arith, a.1))
 still_few a_path d a le = le
 still_few (a_name n) d a le = le

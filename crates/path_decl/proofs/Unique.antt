@@ -1,13 +1,17 @@
 -- A text declares one thing at most.
-use Rattle.std.proofs.Common.{◌≡◌, ℕ, ◌+◌, List, [], ◌∷◌, map, Option, Some, None, refl, sym, ap, ◌∙◌, subst}
+use Rattle.std.proofs.Common.{◌≡◌, ℕ, ◌+◌, List, [], ◌∷◌, map, Option, Some, None, refl, sym, ap, ◌∙◌, subst, arith}
+use Rattle.std.specs.List.{AllByRecursion}
+use Rattle.std.proofs.lemmas.List.Elements.{recursion_from_All}
+use Rattle.path_model.specs.declared.resource.Law.{Law}
+use Rattle.path_model.specs.declared.resource.Law.TheVariants.{Queue}
 use Rattle.path_model.specs.Trees.{Bound, any, most, Tree, op, seq, alt, burst, FewAtOnce}
 use Rattle.path_model.specs.Legal.{numbered, Every}
-use Rattle.path_model.specs.Declarations.{Path, Declaration}
+use Rattle.path_model.specs.Declarations.{Resource, Path, Declaration}
 use Rattle.path_lex.specs.Spelling.{Placed, pieces, Spells, by_end, by_space, by_mark, by_word, by_number}
-use Rattle.path_decl.specs.Forms.{Form, once, sequence, selection, braced, ResourceForm, all_operations}
+use Rattle.path_decl.specs.Forms.{Form, once, sequence, selection, braced, LawForm, a_cell, a_tally, a_queue, ResourceForm, all_operations}
 use Rattle.path_decl.specs.Grammar.{IsFile}
-use Rattle.path_decl.specs.Lawful.{IsDistinct}
-use Rattle.path_decl.specs.Declares.{IsBound, Numbers, paths_from, ArePathsOf, Declares}
+use Rattle.path_decl.specs.Lawful.{IsDistinct, CapacityFits}
+use Rattle.path_decl.specs.Declares.{IsBound, IsLawOf, Numbers, AreResourcesOf, paths_from, ArePathsOf, Declares}
 use Rattle.path_decl.specs.Text.{IsDeclarationText}
 use Rattle.path_lex.proofs.CallerLemmas.{end_only, space_only, mark_only, word_only, number_only}
 use Rattle.path_decl.proofs.Lists.{file_once}
@@ -93,8 +97,34 @@ same_paths ns d n (f ∷ fs) (p ∷ ps) (q ∷ qs) x y h k =
     let b = same_paths ns d (n + 1) fs ps qs x.1 y.1 h.1 k.1 in
     ap (λ z. z ∷ ps) a ∙ ap (λ z. q ∷ z) b
 
-same_declared : (rs : List ResourceForm) (d e : Declaration) → IsDistinct (all_operations rs) → Declares rs d → Declares rs e → Few 0 d.paths → Few 0 e.paths → d ≡ e
-same_declared rs d e h x y few more = same_lists _ _ _ _ _ _ (x.resources ∙ sym y.resources) (x.operations ∙ sym y.operations) (same_paths (all_operations rs) h 0 (paths_from 0 rs) d.paths e.paths x.paths y.paths few more)
+-- digits denote one law
+same_law : (f : LawForm) (k l : Law) → IsLawOf f k → IsLawOf f l → CapacityFits k → CapacityFits l → k ≡ l
+same_law a_cell k l x y h i = x ∙ sym y
+same_law a_tally k l x y h i = x ∙ sym y
+same_law (a_queue ds) k l x y h i =
+    let a : CapacityFits (Queue x.0) = subst CapacityFits x.2 h in
+    let b : CapacityFits (Queue y.0) = subst CapacityFits y.2 i in
+    x.2 ∙ ap Queue (denotes_once ds x.0 y.0 (omega (arith, a.1)) (omega (arith, b.1)) x.1 y.1) ∙ sym y.2
+
+one_resource : (p q : Resource) → p.name ≡ q.name → p.law ≡ q.law → p ≡ q
+one_resource p q e f = ap (λ (n : List ℕ). record p { name = n }) e ∙ ap (λ (l : Law). record q { law = l }) f
+
+-- the capacities of all queues fit
+abbrev Fit : List Resource → Type 0
+Fit rs = AllByRecursion (λ r. CapacityFits r.law) rs
+
+same_resources : (fs : List ResourceForm) (ps qs : List Resource) → AreResourcesOf fs ps → AreResourcesOf fs qs → Fit ps → Fit qs → ps ≡ qs
+same_resources [] [] [] x y h i = refl
+same_resources [] [] (q ∷ qs) x y h i = absurd y
+same_resources [] (p ∷ ps) qs x y h i = absurd x
+same_resources (f ∷ fs) [] qs x y h i = absurd x
+same_resources (f ∷ fs) (p ∷ ps) [] x y h i = absurd y
+same_resources (f ∷ fs) (p ∷ ps) (q ∷ qs) x y h i =
+    let a = one_resource p q (x.0.0 ∙ sym y.0.0) (same_law f.law p.law q.law x.0.1 y.0.1 h.0 i.0) in
+    ap (λ z. z ∷ ps) a ∙ ap (λ z. q ∷ z) (same_resources fs ps qs x.1 y.1 h.1 i.1)
+
+same_declared : (rs : List ResourceForm) (d e : Declaration) → IsDistinct (all_operations rs) → Declares rs d → Declares rs e → Fit d.resources → Fit e.resources → Few 0 d.paths → Few 0 e.paths → d ≡ e
+same_declared rs d e h x y fit fits few more = same_lists _ _ _ _ _ _ (same_resources rs d.resources e.resources x.resources y.resources fit fits) (x.operations ∙ sym y.operations) (same_paths (all_operations rs) h 0 (paths_from 0 rs) d.paths e.paths x.paths y.paths few more)
 
 pub declares_once : (text : List ℕ) (d e : Declaration) → IsDeclarationText text d → IsDeclarationText text e → d ≡ e
 declares_once text d e x y =
@@ -102,4 +132,6 @@ declares_once text d e x y =
     let f : IsFile (pieces y.tokens) x.forms = subst (λ z. IsFile (pieces z) x.forms) ts x.file in
     let same : x.forms ≡ y.forms = file_once (reads_file f) (reads_file y.file) in
     let names : IsDistinct (all_operations y.forms) = distinct_operations y.forms e y.declares y.lawful in
-    same_declared y.forms d e names (subst (λ z. Declares z d) same x.declares) y.declares x.lawful.bounded y.lawful.bounded
+    let fit = recursion_from_All (λ r. CapacityFits r.law) d.resources x.lawful.capacities in
+    let fits = recursion_from_All (λ r. CapacityFits r.law) e.resources y.lawful.capacities in
+    same_declared y.forms d e names (subst (λ z. Declares z d) same x.declares) y.declares fit fits x.lawful.bounded y.lawful.bounded

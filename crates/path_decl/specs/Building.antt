@@ -3,13 +3,15 @@ use Rattle.std.specs.Prelude.{◌≡◌, ℕ, ◌+◌, ◌-◌, ◌<◌, if◌th
 use Rattle.std.specs.Prelude.{Option, Some, None, slice_get, Contains}
 use Rattle.std.specs.Str.{bytes_eq}
 use Rattle.std.specs.Str.Parse.{digits_value}
-use Rattle.path_model.specs.declared.resource.Law.TheVariants.{Cell}
+use Rattle.path_model.specs.declared.resource.Law.{Law}
+use Rattle.path_model.specs.declared.resource.Law.TheVariants.{Cell, Tally, Queue}
 use Rattle.path_model.specs.Trees.{Bound, any, most, Tree, op, seq, alt, burst, shape}
 use Rattle.path_model.specs.Declarations.{Resource, Operation, Path, Declaration}
 use Rattle.path_decl.specs.declared.draft.Draft.{Draft}
+use Rattle.path_decl.specs.Forms.{LawForm, a_cell, a_tally, a_queue}
 use Rattle.path_decl.specs.Numerals.{IsUpTo}
-use Rattle.path_decl.specs.Parts.{Saying, a_resource, an_operation, a_path, a_name, a_sequence, a_selection, an_opening, a_closing, an_end}
-use Rattle.path_decl.specs.Table.{resources_of, operations_of, path_of}
+use Rattle.path_decl.specs.Parts.{Saying, a_resource, a_law, an_operation, a_path, a_name, a_sequence, a_selection, an_opening, a_closing, an_end}
+use Rattle.path_decl.specs.Table.{names_of, name_at, resources_of, operations_of, path_of}
 
 -- what was declared so far, the last resource, and of the path so far the trees, the last first, the names, and how many braces
 -- are open
@@ -29,7 +31,7 @@ drafted d = record {
   paths = map path_of d.paths.items;
   resource = d.resource.0;
   open_trees = reverse (map shape d.open_trees.items);
-  named = map (λ n. n.now) d.named.items;
+  named = map (name_at (names_of d.operations.entries)) d.named.items;
   braces = if d.in_braces then 1 else 0;
 }
 
@@ -68,6 +70,18 @@ abbrev pub HasOne : List Tree → Type 0
 HasOne [] = ⊥
 HasOne (t ∷ ts) = Unit {0}
 
+-- the law, with the value of the digits as a queue's capacity
+abbrev pub law_from : LawForm → Law
+law_from a_cell = Cell
+law_from a_tally = Tally
+law_from (a_queue ds) = Queue (digits_value 10 ds)
+
+-- the resources, of which the last has this law
+abbrev pub with_law : Law → List Resource → List Resource
+with_law l [] = []
+with_law l (r ∷ []) = record { name = r.name; law = l } ∷ []
+with_law l (r ∷ s ∷ rs) = r ∷ with_law l (s ∷ rs)
+
 -- the bound that braces have
 abbrev pub bound_of : Option (List ℕ) → Bound
 bound_of None = any
@@ -83,9 +97,10 @@ abbrev pub closed : ℕ → List Tree → List Path
 closed r [] = []
 closed r (t ∷ ts) = record { resource = r; tree = t } ∷ []
 
--- the draft after a part
+-- the draft after a part; a resource is a cell until its law comes
 abbrev pub after : Saying → Drafted → Drafted
 after (a_resource n) d = record d { resources = d.resources ++ record { name = n; law = Cell } ∷ []; resource = length d.resources }
+after (a_law l) d = record d { resources = with_law (law_from l) d.resources }
 after (an_operation n) d = record d { operations = d.operations ++ record { name = n; resource = d.resource } ∷ [] }
 after a_path d = d
 after (a_name n) d = record d { open_trees = op (record { 0 = number_of d.operations n }) ∷ d.open_trees; named = d.named ++ n ∷ [] }
@@ -106,9 +121,16 @@ abbrev pub BoundFits : Option (List ℕ) → Type 0
 BoundFits None = Unit {0}
 BoundFits (Some ds) = IsUpTo 65535 ds
 
+-- a capacity is a number from 1 to 1,024
+abbrev pub LawFits : LawForm → Type 0
+LawFits a_cell = Unit {0}
+LawFits a_tally = Unit {0}
+LawFits (a_queue ds) = IsUpTo 1024 ds
+
 -- what a part asks of the draft
 abbrev pub Allowed : Saying → Drafted → Type 0
 Allowed (a_resource n) d = (Contains (resource_names d) n → ⊥) × (length d.resources < 64)
+Allowed (a_law l) d = LawFits l
 Allowed (an_operation n) d = (Contains (operation_names d.operations) n → ⊥) × (length d.operations < 256)
 Allowed a_path d = length d.paths < 256
 Allowed (a_name n) d = IsUsable d n

@@ -1,10 +1,11 @@
 -- The declaration that forms are: numbers in the order of the text in place of names.
 use Rattle.std.specs.Prelude.{◌≡◌, ℕ, ◌+◌, List, [], ◌∷◌, ◌++◌, map, Option, Some, None, slice_get}
-use Rattle.path_model.specs.declared.resource.Law.TheVariants.{Cell}
+use Rattle.path_model.specs.declared.resource.Law.{Law}
+use Rattle.path_model.specs.declared.resource.Law.TheVariants.{Cell, Tally, Queue}
 use Rattle.path_model.specs.Trees.{Bound, any, most, Tree, op, seq, alt, burst}
 use Rattle.path_model.specs.Declarations.{Resource, Operation, Path, Declaration}
 use Rattle.path_decl.specs.Numerals.{Denotes}
-use Rattle.path_decl.specs.Forms.{Form, once, sequence, selection, braced, ResourceForm, all_operations}
+use Rattle.path_decl.specs.Forms.{Form, once, sequence, selection, braced, LawForm, a_cell, a_tally, a_queue, ResourceForm, all_operations}
 
 -- the bound is the number that the digits denote, or braces without a bound have none
 abbrev pub IsBound : Option (List ℕ) → Bound → Type 0
@@ -32,8 +33,21 @@ Numbers ns (braced c f) (op a) = ⊥
 Numbers ns (braced c f) (seq s t) = ⊥
 Numbers ns (braced c f) (alt s t) = ⊥
 
-abbrev pub resource_from : ResourceForm → Resource
-resource_from r = record { name = r.name; law = Cell }
+-- the law that stands there; the capacity of a queue is the number that its digits denote
+abbrev pub IsLawOf : LawForm → Law → Type 0
+IsLawOf a_cell l = l ≡ Cell
+IsLawOf a_tally l = l ≡ Tally
+IsLawOf (a_queue ds) l = (n : ℕ) × Denotes ds n × (l ≡ Queue n)
+
+-- a resource of that name and that law
+abbrev pub IsResourceOf : ResourceForm → Resource → Type 0
+IsResourceOf f r = (r.name ≡ f.name) × IsLawOf f.law r.law
+
+abbrev pub AreResourcesOf : List ResourceForm → List Resource → Type 0
+AreResourcesOf [] [] = Unit {0}
+AreResourcesOf [] (r ∷ rs) = ⊥
+AreResourcesOf (f ∷ fs) [] = ⊥
+AreResourcesOf (f ∷ fs) (r ∷ rs) = IsResourceOf f r × AreResourcesOf fs rs
 
 -- the operations, each with the number of its resource, of which the first is k
 abbrev pub operations_from : ℕ → List ResourceForm → List Operation
@@ -56,6 +70,6 @@ ArePathsOf ns (f ∷ fs) [] = ⊥
 ArePathsOf ns (f ∷ fs) (p ∷ ps) = IsPathOf ns f p × ArePathsOf ns fs ps
 
 pub record Declares (rs : List ResourceForm) (d : Declaration) : Type 0 where
-  pub resources : d.resources ≡ map resource_from rs
+  pub resources : AreResourcesOf rs d.resources
   pub operations : d.operations ≡ operations_from 0 rs
   pub paths : ArePathsOf (all_operations rs) (paths_from 0 rs) d.paths

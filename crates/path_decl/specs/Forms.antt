@@ -8,9 +8,16 @@ pub data Form : Type 0 where
   selection : Form → Form → Form
   braced : Option (List ℕ) → Form → Form
 
--- a resource with its operations and its paths
+-- a law, with the digits of a queue's capacity
+pub data LawForm : Type 0 where
+  a_cell : LawForm
+  a_tally : LawForm
+  a_queue : List ℕ → LawForm
+
+-- a resource with its law, its operations and its paths
 pub record ResourceForm : Type 0 where
   pub name : List ℕ
+  pub law : LawForm
   pub operations : List (List ℕ)
   pub paths : List Form
 

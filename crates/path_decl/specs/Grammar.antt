@@ -3,7 +3,7 @@ use Rattle.std.specs.Prelude.{ℕ, suc, List, [], ◌∷◌, Option, Some, None}
 use Rattle.path_lex.specs.declared.token.Sign.TheVariants as signs
 use Rattle.path_lex.specs.declared.token.Reserved.TheVariants as words
 use Rattle.path_lex.specs.Spelling.{Piece, sign, reserved, name, number}
-use Rattle.path_decl.specs.Forms.{Form, once, sequence, selection, braced, ResourceForm}
+use Rattle.path_decl.specs.Forms.{Form, once, sequence, selection, braced, LawForm, a_cell, a_tally, a_queue, ResourceForm}
 
 -- [":" NUMBER] "}", with the digits of the number
 pub data IsClosing : List Piece → List Piece → Option (List ℕ) → Type 0 where
@@ -53,12 +53,17 @@ pub data AreNames : List Piece → List Piece → List (List ℕ) → Type 0 whe
   one_name : {n : List ℕ} {ts rest : List Piece} {ns : List (List ℕ)} → AreNames ts rest ns
       → AreNames (name n ∷ sign signs.Comma ∷ ts) rest (n ∷ ns)
 
--- resource = "resource" NAME "cell" "operation" NAME {"," NAME} {path} "end"
+-- law = "cell" | "tally" | "queue" NUMBER, with the digits of the number
+pub data IsLaw : List Piece → List Piece → LawForm → Type 0 where
+  by_cell : {rest : List Piece} → IsLaw (reserved words.Cell ∷ rest) rest a_cell
+  by_tally : {rest : List Piece} → IsLaw (reserved words.Tally ∷ rest) rest a_tally
+  by_queue : {n : List ℕ} {rest : List Piece} → IsLaw (reserved words.Queue ∷ number n ∷ rest) rest (a_queue n)
+
+-- resource = "resource" NAME law "operation" NAME {"," NAME} {path} "end"
 pub data IsResource : List Piece → List Piece → ResourceForm → Type 0 where
-  by_resource : {n : List ℕ} {ts mid rest : List Piece} {os : List (List ℕ)} {ps : List Form} → AreNames ts mid os
-      → ArePaths mid (reserved words.End ∷ rest) ps
-      → IsResource (reserved words.Resource ∷ name n ∷ reserved words.Cell ∷ reserved words.Operation ∷ ts) rest
-      (record { name = n; operations = os; paths = ps })
+  by_resource : {n : List ℕ} {ls ts mid rest : List Piece} {l : LawForm} {os : List (List ℕ)} {ps : List Form}
+      → IsLaw ls (reserved words.Operation ∷ ts) l → AreNames ts mid os → ArePaths mid (reserved words.End ∷ rest) ps
+      → IsResource (reserved words.Resource ∷ name n ∷ ls) rest (record { name = n; law = l; operations = os; paths = ps })
 
 -- file = resource {resource}
 pub data IsFile : List Piece → List ResourceForm → Type 0 where

@@ -1,7 +1,8 @@
 -- The rules and limits that a declaration keeps, and what always holds of one.
 use Rattle.std.specs.Prelude.{◌≡◌, ◌≢◌, ℕ, ◌+◌, ◌<◌, ◌≤◌, List, length, map, All, AllPairs}
 use Rattle.path_model.specs.declared.ids.OpId.{OpId}
-use Rattle.path_model.specs.declared.resource.Law.TheVariants.{Cell}
+use Rattle.path_model.specs.declared.resource.Law.{Law}
+use Rattle.path_model.specs.declared.resource.Law.TheVariants.{Cell, Tally, Queue}
 use Rattle.path_model.specs.Trees.{Tree, op, seq, alt, burst, Names, WellFormed, FewAtOnce}
 use Rattle.path_model.specs.Legal.{Every}
 use Rattle.path_model.specs.Declarations.{Path, Declaration, paths_of, resource_of}
@@ -27,9 +28,15 @@ pub record AreDistinctNames (ns : List (List ℕ)) : Type 0 where
   pub each : All IsName ns
   pub distinct : IsDistinct ns
 
+-- the capacity of a queue is 1 to 1,024
+abbrev pub CapacityFits : Law → Type 0
+CapacityFits Cell = Unit {0}
+CapacityFits Tally = Unit {0}
+CapacityFits (Queue n) = (1 ≤ n) × (n ≤ 1024)
+
 -- Resources and operations have names, each its own. A path names, each once, at most 64 operations of its own resource. There
 -- are at most 64 resources, 256 operations and 256 paths. No braces stand within braces, and the bound of braces is 1 to 65,535.
--- The numbers of resources are those of resources that were declared, and each resource is a cell.
+-- The capacity of a queue is 1 to 1,024. The numbers of resources are those of resources that were declared.
 pub record Lawful (d : Declaration) : Type 0 where
   pub resource_names : AreDistinctNames (map (λ r. r.name) d.resources)
   pub operation_names : AreDistinctNames (map (λ o. o.name) d.operations)
@@ -41,5 +48,5 @@ pub record Lawful (d : Declaration) : Type 0 where
   pub few_paths : length d.paths ≤ 256
   pub operations : All (λ o. o.resource < length d.resources) d.operations
   pub paths : All (λ p. p.resource < length d.resources) d.paths
-  pub cells : All (λ r. r.law ≡ Cell) d.resources
+  pub capacities : All (λ r. CapacityFits r.law) d.resources
   pub bounded : Every FewAtOnce (paths_of d)

@@ -4,6 +4,8 @@ use Rattle.std.specs.List.{AllByRecursion-prop}
 use Rattle.std.specs.Prelude.{◌≡◌, ℕ, List, [], ◌∷◌, true, All, slice_index_or}
 use mathlib.Core.HLevel.{⊥_prop, ¬_prop}
 use mathlib.Core.Bool.{Bool-set}
+use Rattle.path_model.specs.declared.resource.Law.{Law}
+use Rattle.path_model.specs.declared.resource.Law.TheVariants.{Cell, Tally, Queue}
 use Rattle.path_model.specs.Trees.{Tree, op, seq, alt, burst, any, most, Bound, Room}
 use Rattle.path_model.specs.Trees.{Apart, NoRepeats, NoBraces, NoNesting, FewAtOnce, WellFormed}
 use Rattle.path_model.specs.Legal.{Every}
@@ -12,8 +14,7 @@ use Rattle.path_lex.specs.contracts.token.Class as class
 use Rattle.path_lex.specs.contracts.token.Reserved as reserved
 use Rattle.path_lex.specs.Bytes.{is_word_byte}
 use Rattle.path_lex.specs.Names.{IsWordText, IsName}
-use Rattle.path_decl.specs.Stored.{law_code}
-use Rattle.path_decl.specs.Lawful.{NamesOwn, AreDistinctNames, Lawful}
+use Rattle.path_decl.specs.Lawful.{NamesOwn, IsDistinct, AreDistinctNames, CapacityFits, Lawful}
 
 Apart-prop : (s t : Tree) → IsProp (Apart s t)
 Apart-prop s t = Π_prop (λ a. Π_prop (λ x. ¬_prop))
@@ -72,14 +73,22 @@ IsName-prop w x y i = record {
   free = Coded-set (coded_option reserved.the_row.coded) _ _ x.free y.free i;
 }
 
+pub IsDistinct-prop : (ns : List (List ℕ)) → IsProp (IsDistinct ns)
+IsDistinct-prop ns x y i = λ j k d lt le e. ⊥_prop (x j k d lt le e) (y j k d lt le e) i
+
 AreDistinctNames-prop : (ns : List (List ℕ)) → IsProp (AreDistinctNames ns)
 AreDistinctNames-prop ns x y i = record {
   each = All-prop IsName IsName-prop ns x.each y.each i;
-  distinct = λ j k d lt le e. ⊥_prop (x.distinct j k d lt le e) (y.distinct j k d lt le e) i;
+  distinct = IsDistinct-prop ns x.distinct y.distinct i;
 }
 
 NamesOwn-prop : (d : Declaration) (p : Path) → IsProp (NamesOwn d p)
 NamesOwn-prop d p = Π_prop (λ a. Π_prop (λ n. ×_prop le_prop (Coded-set coded_ℕ _ _)))
+
+CapacityFits-prop : (l : Law) → IsProp (CapacityFits l)
+CapacityFits-prop Cell = Unit-prop
+CapacityFits-prop Tally = Unit-prop
+CapacityFits-prop (Queue n) = ×_prop le_prop le_prop
 
 pub Lawful-prop : (d : Declaration) → IsProp (Lawful d)
 Lawful-prop d x y i = record {
@@ -93,6 +102,6 @@ Lawful-prop d x y i = record {
   few_paths = le_prop x.few_paths y.few_paths i;
   operations = λ k o lt. le_prop (x.operations k o lt) (y.operations k o lt) i;
   paths = λ k p lt. le_prop (x.paths k p lt) (y.paths k p lt) i;
-  cells = λ k r lt. Coded-set law_code _ _ (x.cells k r lt) (y.cells k r lt) i;
+  capacities = All-prop (λ r. CapacityFits r.law) (λ r. CapacityFits-prop r.law) d.resources x.capacities y.capacities i;
   bounded = Every-prop FewAtOnce FewAtOnce-prop _ x.bounded y.bounded i;
 }

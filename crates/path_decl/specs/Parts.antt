@@ -3,11 +3,14 @@ use Rattle.std.specs.Prelude.{ℕ, List, [], ◌∷◌, ◌++◌, map, Option, S
 use Rattle.path_decl.specs.declared.part.Part.{Part}
 use Rattle.path_decl.specs.declared.part.Part.TheVariants as parts
 use Rattle.path_decl.specs.declared.part.PlacedPart.{PlacedPart}
-use Rattle.path_decl.specs.Forms.{Form, once, sequence, selection, braced, ResourceForm}
+use Rattle.path_decl.specs.declared.part.LawText.{LawText}
+use Rattle.path_decl.specs.declared.part.LawText.TheVariants as laws
+use Rattle.path_decl.specs.Forms.{Form, once, sequence, selection, braced, LawForm, a_cell, a_tally, a_queue, ResourceForm}
 
 -- a part without where its bytes lie in memory
 pub data Saying : Type 0 where
   a_resource : List ℕ → Saying
+  a_law : LawForm → Saying
   an_operation : List ℕ → Saying
   a_path : Saying
   a_name : List ℕ → Saying
@@ -17,8 +20,15 @@ pub data Saying : Type 0 where
   a_closing : Option (List ℕ) → Saying
   an_end : Saying
 
+-- a law without where its digits lie in memory
+abbrev pub law_said : LawText → LawForm
+law_said laws.Cell = a_cell
+law_said laws.Tally = a_tally
+law_said (laws.Queue n) = a_queue n.now
+
 abbrev pub saying : Part → Saying
 saying (parts.Resource n) = a_resource n.now
+saying (parts.Law l) = a_law (law_said l)
 saying (parts.Operation n) = an_operation n.now
 saying parts.Path = a_path
 saying (parts.Name n) = a_name n.now
@@ -52,7 +62,7 @@ abbrev pub inner_parts : List (List ℕ) × List Form → List Saying
 inner_parts b = map an_operation b.0 ++ path_parts b.1
 
 abbrev pub resource_parts : ResourceForm → List Saying
-resource_parts r = a_resource r.name ∷ inner_parts (r.operations, r.paths)
+resource_parts r = a_resource r.name ∷ a_law r.law ∷ inner_parts (r.operations, r.paths)
 
 abbrev pub file_parts : List ResourceForm → List Saying
 file_parts [] = []

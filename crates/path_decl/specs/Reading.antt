@@ -6,8 +6,8 @@ use Rattle.path_lex.specs.declared.token.Token.{Token}
 use Rattle.path_lex.specs.declared.fault.DeclFault.{DeclFault}
 use Rattle.path_lex.specs.declared.fault.DeclFault.TheVariants as faults
 use Rattle.path_lex.specs.Spelling.{Piece, sign, reserved, name, views, pieces}
-use Rattle.path_decl.specs.Forms.{Form, once, sequence, selection, braced, ResourceForm}
-use Rattle.path_decl.specs.Grammar.{IsClosing}
+use Rattle.path_decl.specs.Forms.{Form, once, sequence, selection, braced, LawForm, ResourceForm}
+use Rattle.path_decl.specs.Grammar.{IsClosing, IsLaw}
 use Rattle.path_decl.specs.Parts.{Saying}
 
 -- the tokens without their places
@@ -83,9 +83,9 @@ pub data ReadsBody : List Piece → List Piece → List (List ℕ) → List Form
       → ReadsBody ts rest os ps
 
 pub data ReadsResource : List Piece → List Piece → ResourceForm → Type 0 where
-  by_resource : {n : List ℕ} {ts rest : List Piece} {os : List (List ℕ)} {ps : List Form} → ReadsBody ts (reserved words.End ∷ rest) os ps
-      → ReadsResource (reserved words.Resource ∷ name n ∷ reserved words.Cell ∷ reserved words.Operation ∷ ts) rest
-      (record { name = n; operations = os; paths = ps })
+  by_resource : {n : List ℕ} {ls ts rest : List Piece} {l : LawForm} {os : List (List ℕ)} {ps : List Form}
+      → IsLaw ls (reserved words.Operation ∷ ts) l → ReadsBody ts (reserved words.End ∷ rest) os ps
+      → ReadsResource (reserved words.Resource ∷ name n ∷ ls) rest (record { name = n; law = l; operations = os; paths = ps })
 
 -- further resources up to the end
 pub data ReadsResources : List Piece → List ResourceForm → Type 0 where

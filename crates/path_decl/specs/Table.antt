@@ -1,5 +1,5 @@
 -- What the parts of a declaration show.
-use Rattle.std.specs.Prelude.{◌==◌, ◌+◌, ℕ, if◌then◌else◌, List, map, filter, slice_get, option_map, Option, Vec}
+use Rattle.std.specs.Prelude.{◌==◌, ◌+◌, ℕ, if◌then◌else◌, List, [], map, filter, slice_get, slice_index_or, option_map, Option, Vec}
 use Rattle.std.specs.String.{string_bytes}
 use Rattle.std.specs.declared.string.String.{String}
 use Rattle.path_model.specs.declared.ids.OpId.{OpId}
@@ -14,6 +14,10 @@ use Rattle.path_decl.specs.declared.decl.PathEntry.{PathEntry}
 -- the names of a table, in order
 abbrev pub names_of : {Y V : Type 0} → List (String Y × V) → List (List ℕ)
 names_of es = map (λ e. string_bytes e.0) es
+
+-- the name at a number
+abbrev pub name_at : List (List ℕ) → OpId → List ℕ
+name_at ns a = slice_index_or ns a.0 []
 
 abbrev pub resource_shown : {Y : Type 0} → String Y × Law → Resource
 resource_shown e = record { name = string_bytes e.0; law = e.1 }

@@ -1,9 +1,13 @@
 //! The next tokens.
 
 ghost use Rattle.std.specs.Prelude.{◌≡◌, ℕ, ◌<◌, List, ◌∷◌, length, IfOk, IfErr, IfSome, IfNone};
-ghost use Rattle.path_lex.specs.Spelling.{sign as a_sign, reserved as a_word, name as a_name, number as a_number};
+ghost use Rattle.path_lex.specs.Spelling.{Piece, sign as a_sign, reserved as a_word, name as a_name, number as a_number};
+ghost use Rattle.path_decl.specs.Forms.{LawForm};
+ghost use Rattle.path_decl.specs.Grammar.{IsLaw};
+ghost use Rattle.path_decl.specs.Parts.{law_said};
 ghost use Rattle.path_decl.specs.Reading.{told, Begins, Fails};
 
+use crate::part::LawText;
 use path_lex::{DeclFault, Kind, Reserved, Sign, Token};
 
 /// Where the next token stands, or the text ends.
@@ -124,4 +128,24 @@ pub(crate) fn expect_number<'t, 'a>(
         Some(found) => Ok(found),
         None => Err(DeclFault::Unexpected(place(tokens, end))),
     }
+}
+
+/// The law that has to come first, its place and the tokens after it. The place of a queue is that of its capacity.
+pub(crate) fn expect_law<'t, 'a>(
+    tokens: &'t [Token<'a>],
+    end: u32,
+) -> Result<(LawText<'a>, u32, &'t [Token<'a>]), DeclFault>
+    ensures ok { IfOk result (λ p. IsLaw (told tokens.now) (told p.2.now) (law_said p.0)) }
+    ensures shorter { IfOk result (λ p. length p.2.now < length tokens.now) }
+    ensures err { IfErr result (λ e. Fails e ((rest : List Piece) (l : LawForm) → IsLaw (told tokens.now) rest l → ⊥)) }
+{
+    if let Some((at, rest)) = after_word(tokens, Reserved::Cell) {
+        return Ok((LawText::Cell, at, rest));
+    }
+    if let Some((at, rest)) = after_word(tokens, Reserved::Tally) {
+        return Ok((LawText::Tally, at, rest));
+    }
+    let sized = expect_word(tokens, Reserved::Queue, end)?;
+    let (digits, at, rest) = expect_number(sized, end)?;
+    Ok((LawText::Queue(digits), at, rest))
 }

@@ -1,16 +1,18 @@
 //! Declarations on the way.
 
-ghost use Rattle.std.specs.Prelude.{◌≡◌, ◌<◌, ◌≤◌, ◌++◌, [], ◌∷◌, ◌↔◌, length, map, Contains, Some, None, IsTrue, IfOk, OnOk, IfErr};
+ghost use Rattle.std.specs.Prelude.{◌≡◌, ◌<◌, ◌≤◌, ◌∷◌, ◌↔◌, All, length, Contains, Some, None, IsTrue, IfOk, OnOk, IfErr};
 ghost use Rattle.path_model.specs.Trees.{shape};
+ghost use Rattle.path_decl.specs.Lawful.{IsDistinct};
+ghost use Rattle.path_decl.specs.LawfulOnce.{IsDistinct-prop};
 ghost use Rattle.path_decl.specs.Table.{names_of};
-ghost use Rattle.path_decl.specs.Parts.{saying, sayings, a_resource, an_operation, a_path, a_name, a_sequence, a_selection};
+ghost use Rattle.path_decl.specs.Parts.{law_said, saying, sayings, a_resource, a_law, an_operation, a_path, a_name, a_sequence, a_selection};
 ghost use Rattle.path_decl.specs.Parts.{an_opening, a_closing, an_end};
-ghost use Rattle.path_decl.specs.Building.{drafted, nothing, HasTwo, Allowed, after, AllAllowed, after_all};
 ghost use Rattle.path_decl.specs.Reading.{Fails};
 
 use crate::decl::{Names, PathEntry};
+use crate::law::law_at;
 use crate::numeral::number_up_to;
-use crate::part::{Part, PlacedPart};
+use crate::part::{LawText, Part, PlacedPart};
 use indexmap::IndexMap;
 use path_lex::DeclFault;
 use path_model::{Expr, Law, OpId, ResId};
@@ -33,7 +35,7 @@ const MOST_AT_ONCE: u32 = 65_535;
 
 /// What was declared so far, and what was read so far of a path.
 #[derive(Drop)]
-pub(crate) struct Draft<'a, A: Allocator + Copy> {
+pub(crate) struct Draft<A: Allocator + Copy> {
     pub(crate) resources: Names<Law, A>,
     pub(crate) operations: Names<ResId, A>,
     pub(crate) paths: Vec<PathEntry<A>, A>,
@@ -41,17 +43,14 @@ pub(crate) struct Draft<'a, A: Allocator + Copy> {
     pub(crate) resource: ResId,
     /// The trees of the path that no operator has joined yet.
     pub(crate) open_trees: Vec<Expr<A>, A>,
-    /// The names of the path.
-    pub(crate) named: Vec<&'a str, A>,
+    /// The operations that the path names.
+    pub(crate) named: Vec<OpId, A>,
     /// Whether braces of the path are open.
     pub(crate) in_braces: bool,
-}
-
-/// Whether the name is one of these.
-fn is_among(names: &[&str], name: &str) -> bool
-    ensures { IsTrue result ↔ Contains (map (λ n. n.now) names.now) name.now }
-{
-    names.contains(&name)
+    // No two operations have one name.
+    ghost distinct: { IsDistinct (names_of operations.entries) } by { IsDistinct-prop _ },
+    // What the path names was declared.
+    ghost known: { All (λ a. a.0 < length operations.entries) named.items },
 }
 
 /// Whether the table has the name.
@@ -61,9 +60,11 @@ fn has_name<V, A: Allocator + Copy>(names: &Names<V, A>, name: &str) -> bool
     names.contains_key(name)
 }
 
-impl<'a, A: Allocator + Copy> Draft<'a, A> {
+impl<A: Allocator + Copy> Draft<A> {
+    ghost use Rattle.path_decl.specs.Building.{drafted, nothing, HasTwo, Allowed, after, AllAllowed, after_all};
+
     /// Nothing is declared.
-    pub(crate) fn new(alloc: A) -> Draft<'a, A>
+    fn new(alloc: A) -> Draft<A>
         ensures { drafted result ≡ nothing }
     {
         Draft {
@@ -77,7 +78,7 @@ impl<'a, A: Allocator + Copy> Draft<'a, A> {
         }
     }
 
-    /// A resource has this name.
+    /// A resource has this name. It is a cell until its law comes.
     fn resource(&mut self, alloc: A, name: &str, at: u32) -> Result<(), DeclFault>
         ensures ok { OnOk result (Allowed (a_resource name.now) (drafted self.old)
             × (drafted self.new ≡ after (a_resource name.now) (drafted self.old))) }
@@ -92,6 +93,19 @@ impl<'a, A: Allocator + Copy> Draft<'a, A> {
         self.resource = ResId(self.resources.len() as u32);
         let key = String::from_str(alloc, name)?;
         self.resources.insert(key, Law::Cell)?;
+        Ok(())
+    }
+
+    /// The last resource has this law.
+    fn law(&mut self, text: LawText<'_>, at: u32) -> Result<(), DeclFault>
+        ensures ok { OnOk result (Allowed (a_law (law_said text.entry)) (drafted self.old)
+            × (drafted self.new ≡ after (a_law (law_said text.entry)) (drafted self.old))) }
+        ensures err { IfErr result (λ e. Fails e (Allowed (a_law (law_said text.entry)) (drafted self.old) → ⊥)) }
+    {
+        let law = law_at(text, at)?;
+        if let Some(last) = self.resources.last_mut() {
+            *last = law;
+        }
         Ok(())
     }
 
@@ -124,7 +138,7 @@ impl<'a, A: Allocator + Copy> Draft<'a, A> {
     }
 
     /// An operation of the path has this name.
-    fn name(&mut self, name: &'a str, at: u32) -> Result<(), DeclFault>
+    fn name(&mut self, name: &str, at: u32) -> Result<(), DeclFault>
         requires { length self.old.operations.entries ≤ 256 }
         ensures ok { OnOk result (Allowed (a_name name.now) (drafted self.old)
             × (drafted self.new ≡ after (a_name name.now) (drafted self.old))) }
@@ -136,21 +150,26 @@ impl<'a, A: Allocator + Copy> Draft<'a, A> {
         if owner.0 != self.resource.0 {
             return Err(DeclFault::Undeclared(at));
         }
-        if is_among(&self.named, name) {
+        let number = OpId(place as u32);
+        if self.named.contains(&number) {
             return Err(DeclFault::RepeatedName(at));
         }
         if self.named.len() >= MOST_NAMES {
             return Err(DeclFault::TooMany(at));
         }
-        self.open_trees.push(Expr::Op(OpId(place as u32)))?;
-        self.named.push(name)?;
+        self.open_trees.push(Expr::Op(number))?;
+        self.named.push(number)?;
         Ok(())
     }
 
     /// Takes the last two trees of the path.
-    fn operands(&mut self, at: u32) -> Result<(Expr<A>, Expr<A>), DeclFault>
+    fn operands(
+        &mut self,
+        alloc: A,
+        at: u32,
+    ) -> Result<(Box<Expr<A>, A>, Box<Expr<A>, A>), DeclFault>
         ensures ok { IfOk result (λ p. drafted self.old
-            ≡ record (drafted self.new) { open_trees = shape p.1 ∷ shape p.0 ∷ (drafted self.new).open_trees }) }
+            ≡ record (drafted self.new) { open_trees = shape p.1.value ∷ shape p.0.value ∷ (drafted self.new).open_trees }) }
         ensures err { IfErr result (λ e. Fails e (HasTwo (drafted self.old).open_trees → ⊥)) }
     {
         let Some(right) = self.open_trees.pop() else {
@@ -159,6 +178,8 @@ impl<'a, A: Allocator + Copy> Draft<'a, A> {
         let Some(left) = self.open_trees.pop() else {
             return Err(DeclFault::Unexpected(at));
         };
+        let left = Box::new(alloc, left)?;
+        let right = Box::new(alloc, right)?;
         Ok((left, right))
     }
 
@@ -167,9 +188,7 @@ impl<'a, A: Allocator + Copy> Draft<'a, A> {
         ensures ok { OnOk result (Allowed a_sequence (drafted self.old) × (drafted self.new ≡ after a_sequence (drafted self.old))) }
         ensures err { IfErr result (λ e. Fails e (Allowed a_sequence (drafted self.old) → ⊥)) }
     {
-        let (left, right) = self.operands(at)?;
-        let left = Box::new(alloc, left)?;
-        let right = Box::new(alloc, right)?;
+        let (left, right) = self.operands(alloc, at)?;
         self.open_trees.push(Expr::Seq(left, right))?;
         Ok(())
     }
@@ -179,9 +198,7 @@ impl<'a, A: Allocator + Copy> Draft<'a, A> {
         ensures ok { OnOk result (Allowed a_selection (drafted self.old) × (drafted self.new ≡ after a_selection (drafted self.old))) }
         ensures err { IfErr result (λ e. Fails e (Allowed a_selection (drafted self.old) → ⊥)) }
     {
-        let (left, right) = self.operands(at)?;
-        let left = Box::new(alloc, left)?;
-        let right = Box::new(alloc, right)?;
+        let (left, right) = self.operands(alloc, at)?;
         self.open_trees.push(Expr::Alt(left, right))?;
         Ok(())
     }
@@ -249,7 +266,7 @@ impl<'a, A: Allocator + Copy> Draft<'a, A> {
     }
 
     /// Takes a part.
-    pub(crate) fn take(&mut self, alloc: A, part: PlacedPart<'a>) -> Result<(), DeclFault>
+    fn take(&mut self, alloc: A, part: PlacedPart<'_>) -> Result<(), DeclFault>
         requires { length self.old.operations.entries ≤ 256 }
         ensures ok { OnOk result (Allowed (saying part.entry.part) (drafted self.old)
             × (drafted self.new ≡ after (saying part.entry.part) (drafted self.old))) }
@@ -257,6 +274,7 @@ impl<'a, A: Allocator + Copy> Draft<'a, A> {
     {
         match part.part {
             Part::Resource(name) => self.resource(alloc, name, part.at),
+            Part::Law(text) => self.law(text, part.at),
             Part::Operation(name) => self.operation(alloc, name, part.at),
             Part::Path => self.path(part.at),
             Part::Name(name) => self.name(name, part.at),
@@ -268,19 +286,16 @@ impl<'a, A: Allocator + Copy> Draft<'a, A> {
             Part::End => self.end(part.at),
         }
     }
-}
 
-/// Takes the parts of a file, one after the other. The first part that breaks a rule is named.
-pub(crate) fn build<'a, A: Allocator + Copy>(
-    alloc: A,
-    parts: &[PlacedPart<'a>],
-) -> Result<Draft<'a, A>, DeclFault>
-    ensures built { IfOk result (λ d. AllAllowed (sayings parts.now) nothing × (drafted d ≡ after_all (sayings parts.now) nothing)) }
-    ensures none { IfErr result (λ e. Fails e (AllAllowed (sayings parts.now) nothing → ⊥)) }
-{
-    let mut draft = Draft::new(alloc);
-    for part in parts {
-        draft.take(alloc, *part)?;
+    /// Takes the parts of a file, one after the other. The first part that breaks a rule is named.
+    pub(crate) fn build(alloc: A, parts: &[PlacedPart<'_>]) -> Result<Draft<A>, DeclFault>
+        ensures built { IfOk result (λ d. AllAllowed (sayings parts.now) nothing × (drafted d ≡ after_all (sayings parts.now) nothing)) }
+        ensures none { IfErr result (λ e. Fails e (AllAllowed (sayings parts.now) nothing → ⊥)) }
+    {
+        let mut draft = Draft::new(alloc);
+        for part in parts {
+            draft.take(alloc, *part)?;
+        }
+        Ok(draft)
     }
-    Ok(draft)
 }

@@ -8,6 +8,7 @@ mod ahead;
 mod decl;
 mod draft;
 mod grammar;
+mod law;
 mod naming;
 mod numeral;
 mod outline;

@@ -1,13 +1,13 @@
 //! Files: from tokens to parts, by the grammar.
 
-ghost use Rattle.std.specs.Prelude.{◌≡◌, ℕ, ◌<◌, List, length, map, IfOk, IfErr};
+ghost use Rattle.std.specs.Prelude.{◌≡◌, ℕ, ◌<◌, List, [], ◌∷◌, length, map, IfOk, IfErr};
 ghost use Rattle.path_lex.specs.Spelling.{Piece};
-ghost use Rattle.path_decl.specs.Forms.{Form, ResourceForm};
-ghost use Rattle.path_decl.specs.Grammar.{IsFile};
-ghost use Rattle.path_decl.specs.Parts.{an_operation, sayings, body_parts, inner_parts, resource_parts, file_parts};
+ghost use Rattle.path_decl.specs.Forms.{Form, LawForm, ResourceForm};
+ghost use Rattle.path_decl.specs.Grammar.{IsLaw, IsFile};
+ghost use Rattle.path_decl.specs.Parts.{a_law, an_operation, sayings, body_parts, inner_parts, resource_parts, file_parts};
 ghost use Rattle.path_decl.specs.Reading.{told, Fails, Adds, ReadsNames, ReadsPath, ReadsBody, ReadsResource};
 
-use crate::ahead::{after_sign, after_word, expect_name, expect_word, place};
+use crate::ahead::{after_sign, after_word, expect_law, expect_name, expect_word, place};
 use crate::grammar::seq;
 use crate::part::{Part, PlacedPart};
 use path_lex::{DeclFault, Reserved, Sign, Token};
@@ -88,6 +88,25 @@ fn body<'t, 'a, A: Allocator + Copy>(
     Ok(rest)
 }
 
+/// Reads a law, and adds its part. Answers the tokens after it.
+fn law<'t, 'a, A: Allocator + Copy>(
+    out: &mut Vec<PlacedPart<'a>, A>,
+    tokens: &'t [Token<'a>],
+    end: u32,
+) -> Result<&'t [Token<'a>], DeclFault>
+    ensures found { IfOk result (λ rest.
+        Adds (λ l. a_law l ∷ []) (IsLaw (told tokens.now) (told rest.now)) (sayings out.old.items) (sayings out.new.items)) }
+    ensures shorter { IfOk result (λ rest. length rest.now < length tokens.now) }
+    ensures none { IfErr result (λ e. Fails e ((rest : List Piece) (l : LawForm) → IsLaw (told tokens.now) rest l → ⊥)) }
+{
+    let (law, at, rest) = expect_law(tokens, end)?;
+    out.push(PlacedPart {
+        part: Part::Law(law),
+        at,
+    })?;
+    Ok(rest)
+}
+
 /// Reads a resource, and adds its parts. Answers the tokens after it.
 fn resource<'t, 'a, A: Allocator + Copy>(
     out: &mut Vec<PlacedPart<'a>, A>,
@@ -101,12 +120,12 @@ fn resource<'t, 'a, A: Allocator + Copy>(
 {
     let named = expect_word(tokens, Reserved::Resource, end)?;
     let (name, at, lawful) = expect_name(named, end)?;
-    let kind = expect_word(lawful, Reserved::Cell, end)?;
-    let inside = expect_word(kind, Reserved::Operation, end)?;
     out.push(PlacedPart {
         part: Part::Resource(name),
         at,
     })?;
+    let kind = law(out, lawful, end)?;
+    let inside = expect_word(kind, Reserved::Operation, end)?;
     let last = body(out, inside, end)?;
     expect_word(last, Reserved::End, end)
 }

@@ -1,10 +1,23 @@
 //! What a declaration text says, part by part.
 
+/// A law as a text has it.
+#[derive(Clone, Copy, Debug)]
+pub(crate) enum LawText<'a> {
+    /// A cell.
+    Cell,
+    /// A tally.
+    Tally,
+    /// A queue with the capacity of these digits.
+    Queue(&'a [u8]),
+}
+
 /// A part of what a text says. In a path operands come before their operator, and braces before and after what they hold.
 #[derive(Clone, Copy, Debug)]
 pub(crate) enum Part<'a> {
     /// A resource has this name.
     Resource(&'a str),
+    /// The resource has this law.
+    Law(LawText<'a>),
     /// The resource has an operation of this name.
     Operation(&'a str),
     /// A path of the resource begins.

@@ -8,7 +8,7 @@ ghost use Rattle.path_decl.specs.Building.{drafted, declared_by};
 ghost use Rattle.path_decl.specs.Refused.{Refuses};
 
 use crate::decl::Decl;
-use crate::draft::{Draft, build};
+use crate::draft::Draft;
 use crate::naming::naming_paths;
 use crate::outline::file;
 use path_lex::{DeclFault, tokens};
@@ -16,9 +16,9 @@ use path_model::OutOfMemory;
 use std::alloc::Allocator;
 
 /// The declaration that a draft has become.
-fn finish<A: Allocator + Copy>(alloc: A, draft: Draft<'_, A>) -> Result<Decl<A>, OutOfMemory>
+fn finish<A: Allocator + Copy>(alloc: A, draft: Draft<A>) -> Result<Decl<A>, OutOfMemory>
     requires { IsDeclared (declared_by (drafted draft)) }
-    ensures { IfOk result (λ d. d.declaration ≡ declared_by (drafted draft.entry)) }
+    ensures { IfOk result (λ d. d.declaration ≡ declared_by (drafted draft)) }
 {
     let Draft {
         resources,
@@ -43,8 +43,8 @@ fn finish<A: Allocator + Copy>(alloc: A, draft: Draft<'_, A>) -> Result<Decl<A>,
 /// The faults come in this order, of which the first is named: the text is too long; the first bad byte; the first word
 /// or number that is too long; over the whole text the first token that is unexpected, or a parenthesis or brace that is
 /// too deep; then the first token at which a rule is broken or a limit is passed: by a name that is declared twice,
-/// undeclared or repeated, by a brace inside open braces, by the bound of braces that begins with the digit 0 or is greater
-/// than 65,535, or by one too many. Want of memory may come at any point. Takes time in proportion to the text, and memory
+/// undeclared or repeated, by a brace inside open braces, by the capacity of a queue that begins with the digit 0 or is
+/// greater than 1,024, by the bound of braces that begins with the digit 0 or is greater than 65,535, or by one too many. Want of memory may come at any point. Takes time in proportion to the text, and memory
 /// in proportion to its tokens.
 pub fn read<A: Allocator + Copy>(alloc: A, text: &[u8]) -> Result<Decl<A>, DeclFault>
     // What is read is what the text declares.
@@ -66,7 +66,7 @@ pub fn read<A: Allocator + Copy>(alloc: A, text: &[u8]) -> Result<Decl<A>, DeclF
 {
     let tokens = tokens(alloc, text)?;
     let parts = file(alloc, &tokens, text.len() as u32)?;
-    let draft = build(alloc, &parts)?;
+    let draft = Draft::build(alloc, &parts)?;
     let decl = finish(alloc, draft)?;
     Ok(decl)
 }

@@ -5,10 +5,10 @@ use Rattle.path_lex.specs.declared.token.Reserved.TheVariants as words
 use Rattle.path_print.specs.declared.printer.Place.{Place}
 use Rattle.path_print.specs.declared.printer.Place.TheVariants.{InSeq, InAlt, InUnit}
 use Rattle.path_lex.specs.Spelling.{Piece, sign, reserved, name, number}
-use Rattle.path_decl.specs.Forms.{Form, once, sequence, selection, braced, ResourceForm}
-use Rattle.path_decl.specs.Grammar.{IsUnit, by_name, by_group, by_braces, by_brace, by_bound, IsAlt, by_units, MoreUnits, no_unit, one_unit, IsSeq, by_alts, MoreAlts, no_alt, one_alt, IsPath, by_path, ArePaths, no_path, one_path, AreNames, last_name, one_name, IsResource, by_resource, IsFile, last_resource, one_resource}
+use Rattle.path_decl.specs.Forms.{Form, once, sequence, selection, braced, LawForm, ResourceForm}
+use Rattle.path_decl.specs.Grammar.{IsUnit, by_name, by_group, by_braces, by_brace, by_bound, IsAlt, by_units, MoreUnits, no_unit, one_unit, IsSeq, by_alts, MoreAlts, no_alt, one_alt, IsPath, by_path, ArePaths, no_path, one_path, AreNames, last_name, one_name, IsLaw, by_cell, by_tally, by_queue, IsResource, by_resource, IsFile, last_resource, one_resource}
 use Rattle.path_print.specs.Printed.{wraps_seq, wraps_alt, names_pieces}
-use Rattle.path_print.proofs.PrintedForms.{digits_pieces, form_pieces, path_form, path_forms, resource_form, resource_forms}
+use Rattle.path_print.proofs.PrintedForms.{digits_pieces, form_pieces, path_form, path_forms, law_form, resource_form, resource_forms}
 
 -- one more is open inside parentheses
 abbrev deeper : Bool → ℕ → ℕ
@@ -111,12 +111,19 @@ names_again : {ts r : List Piece} {ns : List (List ℕ)} (rest : List Piece) →
 names_again rest (last_name {n}) = last_name
 names_again rest (one_name {n} {ns} h) = names_back n ns rest
 
+law_back : {ts r : List Piece} {l : LawForm} (rest : List Piece) → IsLaw ts r l → IsLaw (law_form l ++ rest) rest l
+law_back rest by_cell = by_cell
+law_back rest by_tally = by_tally
+law_back rest by_queue = by_queue
+
 resource_back : {ts r : List Piece} {f : ResourceForm} (rest : List Piece) → IsResource ts r f → IsResource (resource_form f ++ rest) rest f
-resource_back rest (by_resource {n} {os} {ps} names paths) =
-    let e : (names_pieces os ++ (path_forms ps ++ reserved words.End ∷ [])) ++ rest ≡ names_pieces os ++ (path_forms ps ++ reserved words.End ∷ rest) = simp append_assoc refl in
-    let h : IsResource (reserved words.Resource ∷ name n ∷ reserved words.Cell ∷ reserved words.Operation ∷ (names_pieces os ++ (path_forms ps ++ reserved words.End ∷ rest))) rest (record { name = n; operations = os; paths = ps }) =
-    by_resource (names_again (path_forms ps ++ reserved words.End ∷ rest) names) (paths_back (reserved words.End ∷ rest) paths) in
-    subst (λ x. IsResource (reserved words.Resource ∷ name n ∷ reserved words.Cell ∷ reserved words.Operation ∷ x) rest (record { name = n; operations = os; paths = ps })) (sym e) h
+resource_back rest (by_resource {n} {l} {os} {ps} law names paths) =
+    let body : List Piece = names_pieces os ++ (path_forms ps ++ reserved words.End ∷ rest) in
+    let f : ResourceForm = record { name = n; law = l; operations = os; paths = ps } in
+    let e : ((law_form l ++ reserved words.Operation ∷ []) ++ (names_pieces os ++ (path_forms ps ++ reserved words.End ∷ []))) ++ rest ≡ law_form l ++ (reserved words.Operation ∷ body) = simp append_assoc refl in
+    let h : IsResource (reserved words.Resource ∷ name n ∷ (law_form l ++ (reserved words.Operation ∷ body))) rest f =
+    by_resource (law_back (reserved words.Operation ∷ body) law) (names_again (path_forms ps ++ reserved words.End ∷ rest) names) (paths_back (reserved words.End ∷ rest) paths) in
+    subst (λ x. IsResource (reserved words.Resource ∷ name n ∷ x) rest f) (sym e) h
 
 pub file_again : {ts : List Piece} {fs : List ResourceForm} → IsFile ts fs → IsFile (resource_forms fs) fs
 file_again (last_resource {r} h) = last_resource (resource_back [] h)

@@ -1,6 +1,7 @@
 -- How forms are printed, and that a tree with the numbers of their names is printed so.
 use Rattle.std.proofs.Common.{◌≡◌, ℕ, List, [], ◌∷◌, ◌++◌, map, slice_get, Option, Some, None, option_map, unwrap_or, refl, sym, ap, ◌∙◌}
 use Rattle.std.proofs.lemmas.Option.{slice_get-map}
+use Rattle.path_model.specs.declared.resource.Law.{Law}
 use Rattle.path_model.specs.Trees.{Bound, any, most, Tree, op, seq, alt, burst}
 use Rattle.path_model.specs.Declarations.{Operation}
 use Rattle.path_lex.specs.declared.token.Sign.TheVariants as signs
@@ -8,9 +9,9 @@ use Rattle.path_lex.specs.declared.token.Reserved.TheVariants as words
 use Rattle.path_print.specs.declared.printer.Place.{Place}
 use Rattle.path_print.specs.declared.printer.Place.TheVariants.{InSeq, InAlt, InUnit}
 use Rattle.path_lex.specs.Spelling.{Piece, sign, reserved, name, number}
-use Rattle.path_decl.specs.Forms.{Form, once, sequence, selection, braced, ResourceForm}
-use Rattle.path_decl.specs.Declares.{IsBound, Numbers}
-use Rattle.path_print.specs.Printed.{wraps_seq, wraps_alt, wrapped, bound_pieces, tree_pieces, names_pieces}
+use Rattle.path_decl.specs.Forms.{Form, once, sequence, selection, braced, LawForm, a_cell, a_tally, a_queue, ResourceForm}
+use Rattle.path_decl.specs.Declares.{IsBound, IsLawOf, Numbers}
+use Rattle.path_print.specs.Printed.{wraps_seq, wraps_alt, wrapped, bound_pieces, tree_pieces, names_pieces, law_pieces}
 
 -- the tokens of a bound with these digits, or of none
 abbrev pub digits_pieces : Option (List ℕ) → List Piece
@@ -33,9 +34,19 @@ abbrev pub path_forms : List Form → List Piece
 path_forms [] = []
 path_forms (f ∷ fs) = path_form f ++ path_forms fs
 
+-- the tokens of a law with these digits
+abbrev pub law_form : LawForm → List Piece
+law_form a_cell = reserved words.Cell ∷ []
+law_form a_tally = reserved words.Tally ∷ []
+law_form (a_queue ds) = reserved words.Queue ∷ number ds ∷ []
+
+-- the tokens of a resource with this form before the names of its operations
+abbrev pub head_form : ResourceForm → List Piece
+head_form r = reserved words.Resource ∷ name r.name ∷ (law_form r.law ++ reserved words.Operation ∷ [])
+
 -- the tokens of a resource with this form
 abbrev pub resource_form : ResourceForm → List Piece
-resource_form r = reserved words.Resource ∷ name r.name ∷ reserved words.Cell ∷ reserved words.Operation ∷ (names_pieces r.operations ++ (path_forms r.paths ++ reserved words.End ∷ []))
+resource_form r = head_form r ++ (names_pieces r.operations ++ (path_forms r.paths ++ reserved words.End ∷ []))
 
 -- the tokens of resources, one after the other
 abbrev pub resource_forms : List ResourceForm → List Piece
@@ -50,6 +61,12 @@ bound_form None any h = refl
 bound_form None (most n) h = absurd h
 bound_form (Some ds) any h = absurd h
 bound_form (Some ds) (most n) h = ap (λ x. sign signs.Colon ∷ number x ∷ []) (sym h)
+
+-- a law is printed as it stands in its form
+pub printed_law : (f : LawForm) (l : Law) → IsLawOf f l → law_pieces l ≡ law_form f
+printed_law a_cell l h = ap law_pieces h
+printed_law a_tally l h = ap law_pieces h
+printed_law (a_queue ds) l h = ap law_pieces h.2 ∙ ap (λ x. reserved words.Queue ∷ number x ∷ []) (sym h.1)
 
 pub tree_form : (os : List Operation) (f : Form) (t : Tree) (place : Place) → Numbers (map (λ o. o.name) os) f t → tree_pieces os t place ≡ form_pieces f place
 tree_form os (once n) (op a) place h = ap (λ m. name m ∷ []) (name_at os a.0 n h)

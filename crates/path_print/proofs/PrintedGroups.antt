@@ -7,11 +7,11 @@ use Rattle.std.proofs.lemmas.Bool.Decides.{eqb_tells}
 use Rattle.path_print.specs.declared.printer.Place.TheVariants.{InSeq}
 use Rattle.path_model.specs.Declarations.{Resource, Operation, Path, Declaration}
 use Rattle.path_decl.specs.Forms.{Form, ResourceForm, all_operations}
-use Rattle.path_decl.specs.Declares.{operations_from, paths_from, ArePathsOf, Declares, resource_from}
-use Rattle.path_print.specs.Printed.{resources_pieces, names_at, trees_at, paths_pieces, declaration_pieces}
+use Rattle.path_decl.specs.Declares.{AreResourcesOf, operations_from, paths_from, ArePathsOf, Declares}
+use Rattle.path_print.specs.Printed.{resources_pieces, law_pieces, names_at, trees_at, paths_pieces, declaration_pieces}
 use Rattle.path_print.specs.PrintedSteps.{here, after, names_here, operations_after, trees_here, paths_after}
 use Rattle.path_print.proofs.PrintedWalk.{walked}
-use Rattle.path_print.proofs.PrintedForms.{tree_form, path_forms, resource_forms}
+use Rattle.path_print.proofs.PrintedForms.{tree_form, printed_law, path_forms, law_form, resource_forms}
 
 -- the numbers never fall, from k on
 abbrev pub Grouped : {X : Type 0} → (X → ℕ) → ℕ → List X → Type 0
@@ -122,16 +122,20 @@ map_same : {X : Type 0} (xs : List X) → map (λ x. x) xs ≡ xs
 map_same [] = refl
 map_same (x ∷ xs) = ap (λ l. x ∷ l) (map_same xs)
 
-pub walked-forms : (os : List Operation) (k : ℕ) (rs : List ResourceForm) (ps : List Path) → ArePathsOf (map (λ o. o.name) os) (paths_from k rs) ps → walked os k (map resource_from rs) (operations_from k rs) ps ≡ resource_forms rs
+pub walked-forms : (os : List Operation) (k : ℕ) (rs : List ResourceForm) (qs : List Resource) (ps : List Path) → AreResourcesOf rs qs → ArePathsOf (map (λ o. o.name) os) (paths_from k rs) ps → walked os k qs (operations_from k rs) ps ≡ resource_forms rs
 unfolding walked
-walked-forms os k [] ps a = refl
-walked-forms os k (r ∷ rs) ps a =
+walked-forms os k [] [] ps h a = refl
+walked-forms os k [] (q ∷ qs) ps h a = absurd h
+walked-forms os k (r ∷ rs) [] ps h a = absurd h
+walked-forms os k (r ∷ rs) (q ∷ qs) ps h a =
+    let name : q.name ≡ r.name = h.0.0 in
+    let law : law_pieces q.law ≡ law_form r.law = printed_law r.law q.law h.0.1 in
     let later = operations_grouped (k + 1) rs in
     let names : names_here k (operations_from k (r ∷ rs)) ≡ r.operations = here_front (λ o. o.resource) (λ o. o.name) (λ n. record { name = n; resource = k }) k r.operations (operations_from (k + 1) rs) (λ n. refl) later ∙ map_same r.operations in
     let left : operations_after k (operations_from k (r ∷ rs)) ≡ operations_from (k + 1) rs = after_front (λ o. o.resource) (λ n. record { name = n; resource = k }) k r.operations (operations_from (k + 1) rs) (λ n. refl) later in
     let front = paths_front os k r.paths (paths_from (k + 1) rs) ps (forms_grouped (k + 1) rs) a in
-    let rest = walked-forms os (k + 1) rs (paths_after k ps) front.1 in
-    rw (names, left, front.0, rest) refl
+    let rest = walked-forms os (k + 1) rs qs (paths_after k ps) h.1 front.1 in
+    rw (name, law, names, left, front.0, rest) refl
 
 map_back : (k : ℕ) (ns : List (List ℕ)) → map (λ o. o.name) (map (λ n. let o : Operation = record { name = n; resource = k } in o) ns) ≡ ns
 map_back k [] = refl
@@ -149,8 +153,8 @@ names_declared d rs is = ap (λ l. map (λ o. o.name) l) is.operations ∙ names
 -- the tokens of a declaration are those of its forms, however they are walked
 pub walked-declared : (d : Declaration) (rs : List ResourceForm) → Declares rs d → walked d.operations 0 d.resources d.operations d.paths ≡ resource_forms rs
 walked-declared d rs is =
-    ap (λ l. walked d.operations 0 l d.operations d.paths) is.resources ∙ ap (λ l. walked d.operations 0 (map resource_from rs) l d.paths) is.operations
-    ∙ walked-forms d.operations 0 rs d.paths (subst (λ ns. ArePathsOf ns (paths_from 0 rs) d.paths) (sym (names_declared d rs is)) is.paths)
+    ap (λ l. walked d.operations 0 d.resources l d.paths) is.operations
+    ∙ walked-forms d.operations 0 rs d.resources d.paths is.resources (subst (λ ns. ArePathsOf ns (paths_from 0 rs) d.paths) (sym (names_declared d rs is)) is.paths)
 
 pub declaration_pieces-walked : (d : Declaration) (rs : List ResourceForm) → Declares rs d → declaration_pieces d ≡ walked d.operations 0 d.resources d.operations d.paths
 declaration_pieces-walked d rs is =

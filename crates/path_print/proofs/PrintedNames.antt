@@ -1,5 +1,5 @@
 -- What is printed of a declaration that was read is made of names and reserved words.
-use Rattle.std.proofs.Common.{◌≡◌, ℕ, Bool, true, false, List, [], ◌∷◌, ◌++◌, ◌+◌, map, Option, Some, None, refl, sym, ap, ◌∙◌, subst}
+use Rattle.std.proofs.Common.{◌≡◌, ℕ, Bool, true, false, List, [], ◌∷◌, ◌++◌, ◌+◌, map, Option, Some, None, sym, subst, arith}
 use Rattle.std.specs.List.{AllByRecursion, Contains}
 use Rattle.std.proofs.lemmas.List.Elements.{All-from_recursion, recursion_from_All, All-contains}
 use Rattle.path_model.specs.Declarations.{Declaration}
@@ -9,14 +9,14 @@ use Rattle.path_print.specs.declared.printer.Place.{Place}
 use Rattle.path_print.specs.declared.printer.Place.TheVariants.{InSeq, InAlt, InUnit}
 use Rattle.path_lex.specs.Names.{IsName}
 use Rattle.path_lex.specs.Spelling.{Piece, sign, reserved}
-use Rattle.path_decl.specs.Forms.{Form, once, sequence, selection, braced, names_in, ResourceForm, all_operations}
-use Rattle.path_decl.specs.Building.{BoundFits}
+use Rattle.path_decl.specs.Forms.{Form, once, sequence, selection, braced, names_in, LawForm, a_cell, a_tally, a_queue, ResourceForm, all_operations}
+use Rattle.path_decl.specs.Building.{BoundFits, LawFits}
 use Rattle.path_decl.proofs.CallerLemmas.{BracesFit, KeepsPathRules, PathsKeepRules}
-use Rattle.path_decl.proofs.CallerLemmas.{forms_keep_rules}
-use Rattle.path_decl.specs.Declares.{Declares, resource_from}
+use Rattle.path_decl.proofs.CallerLemmas.{resources_called, forms_keep_rules}
+use Rattle.path_decl.specs.Declares.{Declares}
 use Rattle.path_decl.specs.Lawful.{Lawful}
 use Rattle.path_print.specs.Printed.{wrapped, wraps_seq, wraps_alt, names_pieces, more_names}
-use Rattle.path_print.proofs.PrintedForms.{digits_pieces, form_pieces, path_forms, resource_form, resource_forms}
+use Rattle.path_print.proofs.PrintedForms.{digits_pieces, form_pieces, path_forms, law_form, resource_form, resource_forms}
 use Rattle.path_print.proofs.PrintedGroups.{names_declared}
 use Rattle.path_print.proofs.PrintedLaid.{IsPiece}
 use Rattle.path_print.proofs.PrintedNumbers.{IsNumberText, number_text}
@@ -72,33 +72,31 @@ names_named : (ns : List (List ℕ)) → AllByRecursion IsName ns → AllByRecur
 names_named [] h = tt
 names_named (n ∷ ns) h = (h.0, more_named ns h.1)
 
-resource_named : (r : ResourceForm) → IsName r.name → AllByRecursion IsName r.operations → AllByRecursion (KeepsPathRules r.operations) r.paths → AllByRecursion IsPiece (resource_form r)
-resource_named r own names paths = (
+law_named : (l : LawForm) → LawFits l → AllByRecursion IsPiece (law_form l)
+law_named a_cell h = (tt, tt)
+law_named a_tally h = (tt, tt)
+law_named (a_queue ds) h = (tt, (subst IsNumberText (sym h.denoted) (number_text h.number (omega (arith, h.within))), tt))
+
+resource_named : (r : ResourceForm) → IsName r.name → LawFits r.law → AllByRecursion IsName r.operations → AllByRecursion (KeepsPathRules r.operations) r.paths → AllByRecursion IsPiece (resource_form r)
+resource_named r own law names paths = (
   tt,
   (
     own,
-    (
-      tt,
-      (
-        tt,
-        all_join IsPiece (names_pieces r.operations) (path_forms r.paths ++ reserved words.End ∷ []) (names_named r.operations names)
-            (all_join IsPiece (path_forms r.paths) (reserved words.End ∷ []) (paths_named r.operations r.paths names paths) (tt, tt)),
-      ),
-    ),
+    all_join IsPiece (law_form r.law ++ reserved words.Operation ∷ []) (names_pieces r.operations ++ (path_forms r.paths ++ reserved words.End ∷ []))
+        (all_join IsPiece (law_form r.law) (reserved words.Operation ∷ []) (law_named r.law law) (tt, tt))
+        (all_join IsPiece (names_pieces r.operations) (path_forms r.paths ++ reserved words.End ∷ []) (names_named r.operations names)
+        (all_join IsPiece (path_forms r.paths) (reserved words.End ∷ []) (paths_named r.operations r.paths names paths) (tt, tt))),
   ),
 )
 
-resources_named : (rs : List ResourceForm) → AllByRecursion IsName (map (λ r. r.name) rs) → AllByRecursion IsName (all_operations rs) → PathsKeepRules rs → AllByRecursion IsPiece (resource_forms rs)
-resources_named [] rn on ps = tt
-resources_named (r ∷ rs) rn on ps =
-    all_join IsPiece (resource_form r) (resource_forms rs) (resource_named r rn.0 (all_left IsName r.operations (all_operations rs) on) ps.0) (resources_named rs rn.1 (all_right IsName r.operations (all_operations rs) on) ps.1)
-
-names_of_resources : (rs : List ResourceForm) → map (λ r. r.name) (map resource_from rs) ≡ map (λ r. r.name) rs
-names_of_resources [] = refl
-names_of_resources (r ∷ rs) = ap (λ l. r.name ∷ l) (names_of_resources rs)
+resources_named : (rs : List ResourceForm) → AllByRecursion IsName (map (λ r. r.name) rs) → AllByRecursion (λ r. LawFits r.law) rs → AllByRecursion IsName (all_operations rs) → PathsKeepRules rs → AllByRecursion IsPiece (resource_forms rs)
+resources_named [] rn ls on ps = tt
+resources_named (r ∷ rs) rn ls on ps =
+    all_join IsPiece (resource_form r) (resource_forms rs) (resource_named r rn.0 ls.0 (all_left IsName r.operations (all_operations rs) on) ps.0) (resources_named rs rn.1 ls.1 (all_right IsName r.operations (all_operations rs) on) ps.1)
 
 pub declared_named : (d : Declaration) (rs : List ResourceForm) → Lawful d → Declares rs d → AllByRecursion IsPiece (resource_forms rs)
 declared_named d rs law is =
-    let rn = subst (λ ns. AllByRecursion IsName ns) (ap (λ l. map (λ r. r.name) l) is.resources ∙ names_of_resources rs) (recursion_from_All IsName (map (λ r. r.name) d.resources) law.resource_names.each) in
+    let rn = subst (λ ns. AllByRecursion IsName ns) (resources_called rs d.resources is.resources) (recursion_from_All IsName (map (λ r. r.name) d.resources) law.resource_names.each) in
     let on = subst (λ ns. AllByRecursion IsName ns) (names_declared d rs is) (recursion_from_All IsName (map (λ o. o.name) d.operations) law.operation_names.each) in
-    resources_named rs rn on (forms_keep_rules rs d is law).paths
+    let rules = forms_keep_rules rs d is law in
+    resources_named rs rn rules.laws on rules.paths

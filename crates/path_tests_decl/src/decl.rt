@@ -216,14 +216,6 @@ fn unexpected_tokens(rt: HostRuntime) {
     let rows = [
         ("resource resource", DeclFault::Unexpected(9)),
         (
-            "resource r tally operation a end",
-            DeclFault::Unexpected(11),
-        ),
-        (
-            "resource r queue 2 operation a end",
-            DeclFault::Unexpected(11),
-        ),
-        (
             "resource r cell operation a, end",
             DeclFault::Unexpected(29),
         ),
@@ -331,6 +323,7 @@ fn fault_texts(rt: HostRuntime) -> Result<(), Fail> {
         (DeclFault::Undeclared(65), "undeclared at 65"),
         (DeclFault::RepeatedName(46), "repeated name at 46"),
         (DeclFault::NestedBraces(42), "nested braces at 42"),
+        (DeclFault::BadCapacity(17), "bad capacity at 17"),
         (DeclFault::BadCount(39), "bad count at 39"),
         (DeclFault::TooMany(527), "too many at 527"),
         (DeclFault::OutOfMemory, "out of memory"),

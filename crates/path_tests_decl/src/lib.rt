@@ -9,4 +9,6 @@ mod decl;
 #[cfg(test)]
 mod in_turn;
 #[cfg(test)]
+mod laws;
+#[cfg(test)]
 mod model;

@@ -11,6 +11,9 @@ use std::process::Abort;
 const OTHER_TREES: &str =
     "resource r cell operation a, b, c path a; b; c end path a; ( b; c ) end end\n";
 
+const LAWS: &str =
+    "resource t tally operation a, b end resource q queue 1024 operation c path c end end\n";
+
 const POOL: &str = "resource r cell operation read, write path { read: 2 }, write end end\n";
 
 fn declared(rt: &impl Abort, heap: Global, text: &str) -> Decl {
@@ -51,6 +54,10 @@ fn prints_the_tokens(rt: HostRuntime) {
             "resource r cell operation a end resource s cell operation b path b end end\n",
         ),
         (
+            "resource t tally\noperation a , b end\nresource q queue\t1024operation c path c end end",
+            LAWS,
+        ),
+        (
             "resource r cell operation read, write path { read : 2 } , write end end",
             "resource r cell operation read, write path { read: 2 }, write end end\n",
         ),
@@ -87,5 +94,10 @@ fn printing_wants_memory(rt: HostRuntime) {
     refuse_in_turn(&rt, rt.alloc(), OutOfMemory, |heap: &Refusing<Global>| {
         let text = print(heap, &decl)?;
         Ok(text.as_str() == POOL)
+    });
+    let decl = declared(&rt, rt.alloc(), LAWS);
+    refuse_in_turn(&rt, rt.alloc(), OutOfMemory, |heap: &Refusing<Global>| {
+        let text = print(heap, &decl)?;
+        Ok(text.as_str() == LAWS)
     });
 }

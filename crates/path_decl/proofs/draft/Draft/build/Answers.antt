@@ -7,7 +7,7 @@ use Rattle.path_decl.specs.Building.{nothing, AllAllowed, after_all}
 use Rattle.path_lex.proofs.CallerLemmas.{parted}
 use Rattle.path_decl.proofs.Unit.{fails_then}
 use Rattle.path_decl.proofs.Taken.{more_taken, stuck_at, says_more}
-use Rattle.path_decl.proofs.draft.build.Goals as goal
+use Rattle.path_decl.proofs.draft.Draft.build.Goals as goal
 
 pub loop-part-init : goal.loop-part-init
 loop-part-init g c =

@@ -1,7 +1,7 @@
 use Rattle.std.proofs.Common.{◌≡◌, ◌≤◌, length, take}
 use Rattle.path_decl.specs.Parts.{sayings}
 use Rattle.path_decl.specs.Building.{drafted, nothing, AllAllowed, after_all}
-use Rattle.path_decl.proofs.draft.build.Given as goal
+use Rattle.path_decl.proofs.draft.Draft.build.Given as goal
 
 abbrev pub invariant-loop-part : goal.invariant-loop-part
 invariant-loop-part g l = record {
