@@ -3,7 +3,7 @@ use Rattle.std.proofs.Common.{◌≡◌, ◌≢◌, ℕ, List, ◌⊎◌, inl, i
 use Rattle.path_model.specs.Declarations.{Declaration}
 use Rattle.path_lex.specs.declared.fault.DeclFault.{DeclFault}
 use Rattle.path_lex.specs.declared.fault.DeclFault.TheVariants as declarations
-use Rattle.path_decl.specs.Refused.{Refuses}
+use Rattle.path_read.specs.Refused.{Refuses}
 use Rattle.path_lines.specs.declared.entry.LineFault.{LineFault}
 use Rattle.path_lines.specs.declared.entry.LineFault.TheVariants as line_faults
 use Rattle.path_lines.specs.AttemptTexts.{Entry, IsAttemptsText, fault_of}

@@ -5,7 +5,7 @@ ghost use Rattle.path_commands.specs.declared.fault.Fault.TheVariants as faults;
 ghost use Rattle.path_commands.specs.Statuses.{status_of};
 
 use crate::status::Status;
-use path_decl::DeclFault;
+use path_lex::DeclFault;
 use path_lines::TextFault;
 use path_model::OutOfMemory;
 use path_system::OpenFault;

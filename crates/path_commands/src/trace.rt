@@ -11,7 +11,8 @@ ghost use Rattle.path_commands.specs.Traces.{IsBadRoom, IsBadText, IsBadTextUnde
 use crate::fault::{Fault, tell};
 use crate::put::put_text;
 use crate::status::Status;
-use path_decl::{Decl, read};
+use path_decl::Decl;
+use path_read::read;
 use path_lines::{LIMIT, TextFault, fault_at, first_entry, push_reply, read_attempts};
 use path_model::{Attempt, MOST_LINES};
 use path_system::{OpenFault, System};

@@ -4,8 +4,7 @@ use Rattle.path_model.specs.Trees.{Tree, op, seq, alt, burst}
 use Rattle.path_model.specs.Machine.{semicolons}
 use Rattle.path_model.specs.Declarations.{Declaration}
 use Rattle.path_decl.specs.Lawful.{names_count, Lawful}
-pub use Rattle.path_decl.proofs.FormRules.{BracesFit, KeepsPathRules, PathsKeepRules}
-pub use Rattle.path_decl.proofs.FromLawful.{resources_called, forms_keep_rules}
+pub use Rattle.path_decl.proofs.TableLemmas.{is_named, has_name, lacks_name, later, is_place, names_of_operations, names_of_resources}
 
 -- semicolons stand between names
 semicolons_between : (t : Tree) → semicolons t + 1 ≤ names_count t

@@ -9,8 +9,3 @@ pub mod LawfulOnce
 pub mod Known
 pub mod Table
 pub mod Kept
-pub mod Refused
-pub mod Parts
-pub mod Reading
-pub mod Building
-pub mod Once

@@ -1,37 +1,40 @@
 //! Declarations, and what they answer.
 
-ghost use Rattle.std.specs.Prelude.{◌≡◌, ◌<◌, ◌↔◌, length, map, Contains, IsSome, IfSome, IfNone, Some, slice_get, option_map};
+ghost use Rattle.std.specs.Prelude.{◌≡◌, ◌<◌, ◌↔◌, length, map, Contains, IsSome, IfSome, IfNone, IfOk, Some, slice_get, option_map};
 ghost use Rattle.path_model.specs.Trees.{shape};
 ghost use Rattle.path_decl.specs.Lawful.{Lawful};
 ghost use Rattle.path_decl.specs.Text.{IsDeclared};
 ghost use Rattle.path_decl.specs.Table.{naming, declaration_of};
 ghost use Rattle.path_decl.specs.Known.{Lawful-prop};
 
+use crate::naming::naming_paths;
 use crate::totals::Counts;
 use indexmap::IndexMap;
-use path_model::{Expr, Law, OpId, PathId, ResId};
+use path_model::{Expr, Law, OpId, OutOfMemory, PathId, ResId};
 use std::alloc::{Allocator, Global};
 use std::hash::{BuildHasherDefault, FoldHasher};
 use std::marker::Model;
 
 /// Names in the order of the text, each with what was declared of it.
-pub(crate) type Names<V, A> = IndexMap<String<A>, V, BuildHasherDefault<FoldHasher>, A>;
+pub type Names<V, A> = IndexMap<String<A>, V, BuildHasherDefault<FoldHasher>, A>;
 
 /// A path and its resource.
 #[derive(Drop)]
-pub(crate) struct PathEntry<A: Allocator + Copy> {
-    pub(crate) resource: ResId,
-    pub(crate) tree: Expr<A>,
+pub struct PathEntry<A: Allocator + Copy> {
+    /// The resource over whose operations it is.
+    pub resource: ResId,
+    /// What stands between `path` and `end`.
+    pub tree: Expr<A>,
 }
 
 /// A declaration: resources, operations and paths, numbered in the order of the text. Contracts see these three lists as
 /// its `declaration`, and beside them what always holds of them, `lawful`.
 #[derive(Drop)]
 pub struct Decl<A: Allocator + Copy = Global> {
-    pub(crate) resources: Names<Law, A>,
-    pub(crate) operations: Names<ResId, A>,
-    pub(crate) paths: Vec<PathEntry<A>, A>,
-    pub(crate) naming: Vec<Vec<PathId, A>, A>,
+    resources: Names<Law, A>,
+    operations: Names<ResId, A>,
+    paths: Vec<PathEntry<A>, A>,
+    naming: Vec<Vec<PathId, A>, A>,
     ghost lawful: { Lawful (declaration_of resources.entries operations.entries paths.items) } by { Lawful-prop _ },
 }
 
@@ -47,6 +50,28 @@ impl<A: Allocator + Copy> Model for Decl<A> {
     ghost view = { shown };
 
     ghost invariant = { IsKept };
+}
+
+impl<A: Allocator + Copy> Decl<A> {
+    /// The declaration of these resources, operations and paths, which some text declares. The only error is want of memory.
+    /// The cost is a walk over the trees.
+    pub fn new(
+        alloc: A,
+        resources: Names<Law, A>,
+        operations: Names<ResId, A>,
+        paths: Vec<PathEntry<A>, A>,
+    ) -> Result<Decl<A>, OutOfMemory>
+        requires { IsDeclared (declaration_of resources.entries operations.entries paths.items) }
+        ensures { IfOk result (λ d. d.declaration ≡ declaration_of resources.entries operations.entries paths.items) }
+    {
+        let naming = naming_paths(alloc, &paths, operations.len())?;
+        Ok(Decl {
+            resources,
+            operations,
+            paths,
+            naming,
+        })
+    }
 }
 
 /// The operation with this name; `None` where none has it. A look-up in a hash table.

@@ -10,9 +10,9 @@ use Rattle.path_print.specs.declared.printer.Place.TheVariants.{InSeq, InAlt, In
 use Rattle.path_lex.specs.Names.{IsName}
 use Rattle.path_lex.specs.Spelling.{Piece, sign, reserved}
 use Rattle.path_decl.specs.Forms.{Form, once, sequence, selection, braced, names_in, LawForm, a_cell, a_tally, a_queue, ResourceForm, all_operations}
-use Rattle.path_decl.specs.Building.{BoundFits, LawFits}
-use Rattle.path_decl.proofs.CallerLemmas.{BracesFit, KeepsPathRules, PathsKeepRules}
-use Rattle.path_decl.proofs.CallerLemmas.{resources_called, forms_keep_rules}
+use Rattle.path_read.specs.Building.{BoundFits, LawFits}
+use Rattle.path_read.proofs.CallerLemmas.{BracesFit, KeepsPathRules, PathsKeepRules}
+use Rattle.path_read.proofs.CallerLemmas.{resources_called, forms_keep_rules}
 use Rattle.path_decl.specs.Declares.{Declares}
 use Rattle.path_decl.specs.Lawful.{Lawful}
 use Rattle.path_print.specs.Printed.{wrapped, wraps_seq, wraps_alt, names_pieces, more_names}

@@ -1,7 +1,7 @@
 //! Faults: their texts, and the statuses with their numbers.
 
 use path_commands::{Fault, Status, tell};
-use path_decl::DeclFault;
+use path_lex::DeclFault;
 use path_lines::TextFault;
 use path_system::OpenFault;
 

@@ -2,7 +2,8 @@
 
 use crate::writers::{Failing, Full, Interrupted, Unflushed};
 use path_commands::{ROOM, Status, trace_to};
-use path_decl::{DeclFault, read};
+use path_lex::DeclFault;
+use path_read::read;
 use path_model::MOST_LINES;
 use refusing::Refusing;
 use std::alloc::Allocator;

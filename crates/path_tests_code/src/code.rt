@@ -2,7 +2,8 @@
 
 use crate::in_turn::refuse_in_turn;
 use path_code::{Code, Epilogue, OpCode, Prologue, listing, translate};
-use path_decl::{Decl, read};
+use path_decl::Decl;
+use path_read::read;
 use path_model::{OpId, OutOfMemory, ResId};
 use refusing::Refusing;
 use std::alloc::Global;

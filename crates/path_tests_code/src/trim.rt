@@ -2,7 +2,8 @@
 
 use crate::in_turn::refuse_in_turn;
 use path_code::{Epilogue, Prologue, listing, translate};
-use path_decl::{Decl, read};
+use path_decl::Decl;
+use path_read::read;
 use path_model::{OpId, OutOfMemory, PathId};
 use path_trim::{Lean, LeanOp, Removed, kept, lean_listing, removed, trim};
 use refusing::Refusing;

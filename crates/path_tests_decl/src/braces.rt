@@ -2,7 +2,9 @@
 
 use crate::decl::{declared, drawn, expect_faults, expect_read};
 use crate::in_turn::refuse_in_turn;
-use path_decl::{DeclFault, counts, read};
+use path_decl::counts;
+use path_lex::DeclFault;
+use path_read::read;
 use refusing::Refusing;
 use std::alloc::{AllocError, Global};
 use std::test::Fail;

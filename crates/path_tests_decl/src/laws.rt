@@ -2,7 +2,9 @@
 
 use crate::decl::{declared, expect_faults, expect_read};
 use crate::in_turn::refuse_in_turn;
-use path_decl::{DeclFault, law_of, read};
+use path_decl::law_of;
+use path_lex::DeclFault;
+use path_read::read;
 use path_model::{Law, ResId};
 use refusing::Refusing;
 use std::alloc::{AllocError, Global};

@@ -4,7 +4,8 @@ ghost use Rattle.std.specs.Prelude.{◌≡◌, length};
 
 use crate::own::{Counted, FailingTally};
 use crate::remembering::Remembering;
-use path_decl::{Decl, read};
+use path_decl::Decl;
+use path_read::read;
 use path_model::{Law, ResId, Verb};
 use path_shelf::{ActFault, Cell, Device, Queue, Shelf, ShelfFault, Tally};
 use std::alloc::Global;

@@ -1,6 +1,8 @@
 //! Systems, step by step.
 
-use path_decl::{DeclFault, counts, read};
+use path_decl::counts;
+use path_lex::DeclFault;
+use path_read::read;
 use path_model::{ActId, Attempt, OpId, OutOfMemory, PathId, Reply, ResId, Verb};
 use path_system::{OpenFault, System};
 use refusing::Refusing;

@@ -1,6 +1,6 @@
 //! Texts of attempts.
 
-use path_decl::read;
+use path_read::read;
 use path_lines::{
     FirstLine, LineFault, TextFault, fault_at, first_entry, read_attempts, write_line,
 };

@@ -1,6 +1,7 @@
 //! Texts of journals.
 
-use path_decl::{Decl, read};
+use path_decl::Decl;
+use path_read::read;
 use path_journal::{read_journal, write_head};
 use path_lines::{TextFault, write_line};
 use path_model::{

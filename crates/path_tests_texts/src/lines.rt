@@ -1,6 +1,6 @@
 //! Texts of lines.
 
-use path_decl::read;
+use path_read::read;
 use path_lines::{push_reply, write_line};
 use path_model::{ActId, Attempt, Line, OpId, OutOfMemory, PathId, Reply, Verb};
 use refusing::Refusing;

@@ -1,7 +1,7 @@
 //! Texts on both sides of each limit.
 
 use super::{SLOT, expect_fault, expect_read};
-use path_decl::DeclFault;
+use path_lex::DeclFault;
 use std::alloc::{AllocError, Global};
 use std::test::Fail;
 

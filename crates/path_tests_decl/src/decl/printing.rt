@@ -1,7 +1,8 @@
 //! Declarations, and the texts that they are printed as.
 
 use crate::in_turn::refuse_in_turn;
-use path_decl::{Decl, read};
+use path_decl::Decl;
+use path_read::read;
 use path_model::OutOfMemory;
 use path_print::print;
 use refusing::Refusing;

@@ -1,5 +1,0 @@
-use Rattle.path_decl.proofs.Unique.{declares_once}
-use Rattle.path_decl.proofs.theorems.each_text_declares_once.Goals as goal
-
-pub returns : goal.returns
-returns c = declares_once

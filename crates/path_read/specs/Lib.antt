@@ -1,0 +1,5 @@
+pub mod Refused
+pub mod Parts
+pub mod Reading
+pub mod Building
+pub mod Once

@@ -1,0 +1,301 @@
+//! Declarations on the way.
+
+ghost use Rattle.std.specs.Prelude.{◌≡◌, ◌<◌, ◌≤◌, ◌∷◌, ◌↔◌, All, length, Contains, Some, None, IsTrue, IfOk, OnOk, IfErr};
+ghost use Rattle.path_model.specs.Trees.{shape};
+ghost use Rattle.path_decl.specs.Lawful.{IsDistinct};
+ghost use Rattle.path_decl.specs.LawfulOnce.{IsDistinct-prop};
+ghost use Rattle.path_decl.specs.Table.{names_of};
+ghost use Rattle.path_read.specs.Parts.{law_said, saying, sayings, a_resource, a_law, an_operation, a_path, a_name, a_sequence, a_selection};
+ghost use Rattle.path_read.specs.Parts.{an_opening, a_closing, an_end};
+ghost use Rattle.path_read.specs.Reading.{Fails};
+
+use crate::law::law_at;
+use crate::numeral::number_up_to;
+use crate::part::{LawText, Part, PlacedPart};
+use indexmap::IndexMap;
+use path_decl::{Names, PathEntry};
+use path_lex::DeclFault;
+use path_model::{Expr, Law, OpId, ResId};
+use std::alloc::Allocator;
+
+/// The most resources of a file.
+const MOST_RESOURCES: usize = 64;
+
+/// The most operations of a file.
+const MOST_OPERATIONS: usize = 256;
+
+/// The most paths of a file.
+const MOST_PATHS: usize = 256;
+
+/// The most names of a path.
+const MOST_NAMES: usize = 64;
+
+/// The largest bound of braces.
+const MOST_AT_ONCE: u32 = 65_535;
+
+/// What was declared so far, and what was read so far of a path.
+#[derive(Drop)]
+pub(crate) struct Draft<A: Allocator + Copy> {
+    pub(crate) resources: Names<Law, A>,
+    pub(crate) operations: Names<ResId, A>,
+    pub(crate) paths: Vec<PathEntry<A>, A>,
+    /// The last resource, to which operations and paths belong.
+    pub(crate) resource: ResId,
+    /// The trees of the path that no operator has joined yet.
+    pub(crate) open_trees: Vec<Expr<A>, A>,
+    /// The operations that the path names.
+    pub(crate) named: Vec<OpId, A>,
+    /// Whether braces of the path are open.
+    pub(crate) in_braces: bool,
+    // No two operations have one name.
+    ghost distinct: { IsDistinct (names_of operations.entries) } by { IsDistinct-prop _ },
+    // What the path names was declared.
+    ghost known: { All (λ a. a.0 < length operations.entries) named.items },
+}
+
+/// Whether the table has the name.
+fn has_name<V, A: Allocator + Copy>(names: &Names<V, A>, name: &str) -> bool
+    ensures { IsTrue result ↔ Contains (names_of names.now.entries) name.now }
+{
+    names.contains_key(name)
+}
+
+impl<A: Allocator + Copy> Draft<A> {
+    ghost use Rattle.path_read.specs.Building.{drafted, nothing, HasTwo, Allowed, after, AllAllowed, after_all};
+
+    /// Nothing is declared.
+    fn new(alloc: A) -> Draft<A>
+        ensures { drafted result ≡ nothing }
+    {
+        Draft {
+            resources: IndexMap::new(alloc),
+            operations: IndexMap::new(alloc),
+            paths: Vec::new(alloc),
+            resource: ResId(0),
+            open_trees: Vec::new(alloc),
+            named: Vec::new(alloc),
+            in_braces: false,
+        }
+    }
+
+    /// A resource has this name. It is a cell until its law comes.
+    fn resource(&mut self, alloc: A, name: &str, at: u32) -> Result<(), DeclFault>
+        ensures ok { OnOk result (Allowed (a_resource name.now) (drafted self.old)
+            × (drafted self.new ≡ after (a_resource name.now) (drafted self.old))) }
+        ensures err { IfErr result (λ e. Fails e (Allowed (a_resource name.now) (drafted self.old) → ⊥)) }
+    {
+        if has_name(&self.resources, name) {
+            return Err(DeclFault::DuplicateResource(at));
+        }
+        if self.resources.len() >= MOST_RESOURCES {
+            return Err(DeclFault::TooMany(at));
+        }
+        self.resource = ResId(self.resources.len() as u32);
+        let key = String::from_str(alloc, name)?;
+        self.resources.insert(key, Law::Cell)?;
+        Ok(())
+    }
+
+    /// The last resource has this law.
+    fn law(&mut self, text: LawText<'_>, at: u32) -> Result<(), DeclFault>
+        ensures ok { OnOk result (Allowed (a_law (law_said text.entry)) (drafted self.old)
+            × (drafted self.new ≡ after (a_law (law_said text.entry)) (drafted self.old))) }
+        ensures err { IfErr result (λ e. Fails e (Allowed (a_law (law_said text.entry)) (drafted self.old) → ⊥)) }
+    {
+        let law = law_at(text, at)?;
+        if let Some(last) = self.resources.last_mut() {
+            *last = law;
+        }
+        Ok(())
+    }
+
+    /// The last resource has an operation of this name.
+    fn operation(&mut self, alloc: A, name: &str, at: u32) -> Result<(), DeclFault>
+        ensures ok { OnOk result (Allowed (an_operation name.now) (drafted self.old)
+            × (drafted self.new ≡ after (an_operation name.now) (drafted self.old))) }
+        ensures err { IfErr result (λ e. Fails e (Allowed (an_operation name.now) (drafted self.old) → ⊥)) }
+    {
+        if has_name(&self.operations, name) {
+            return Err(DeclFault::DuplicateOperation(at));
+        }
+        if self.operations.len() >= MOST_OPERATIONS {
+            return Err(DeclFault::TooMany(at));
+        }
+        let key = String::from_str(alloc, name)?;
+        self.operations.insert(key, self.resource)?;
+        Ok(())
+    }
+
+    /// A path of the last resource begins.
+    fn path(&mut self, at: u32) -> Result<(), DeclFault>
+        ensures ok { OnOk result (Allowed a_path (drafted self.old) × (drafted self.new ≡ after a_path (drafted self.old))) }
+        ensures err { IfErr result (λ e. Fails e (Allowed a_path (drafted self.old) → ⊥)) }
+    {
+        if self.paths.len() >= MOST_PATHS {
+            return Err(DeclFault::TooMany(at));
+        }
+        Ok(())
+    }
+
+    /// An operation of the path has this name.
+    fn name(&mut self, name: &str, at: u32) -> Result<(), DeclFault>
+        requires { length self.old.operations.entries ≤ 256 }
+        ensures ok { OnOk result (Allowed (a_name name.now) (drafted self.old)
+            × (drafted self.new ≡ after (a_name name.now) (drafted self.old))) }
+        ensures err { IfErr result (λ e. Fails e (Allowed (a_name name.now) (drafted self.old) → ⊥)) }
+    {
+        let Some((place, _, owner)) = self.operations.get_full(name) else {
+            return Err(DeclFault::Undeclared(at));
+        };
+        if owner.0 != self.resource.0 {
+            return Err(DeclFault::Undeclared(at));
+        }
+        let number = OpId(place as u32);
+        if self.named.contains(&number) {
+            return Err(DeclFault::RepeatedName(at));
+        }
+        if self.named.len() >= MOST_NAMES {
+            return Err(DeclFault::TooMany(at));
+        }
+        self.open_trees.push(Expr::Op(number))?;
+        self.named.push(number)?;
+        Ok(())
+    }
+
+    /// Takes the last two trees of the path.
+    fn operands(
+        &mut self,
+        alloc: A,
+        at: u32,
+    ) -> Result<(Box<Expr<A>, A>, Box<Expr<A>, A>), DeclFault>
+        ensures ok { IfOk result (λ p. drafted self.old
+            ≡ record (drafted self.new) { open_trees = shape p.1.value ∷ shape p.0.value ∷ (drafted self.new).open_trees }) }
+        ensures err { IfErr result (λ e. Fails e (HasTwo (drafted self.old).open_trees → ⊥)) }
+    {
+        let Some(right) = self.open_trees.pop() else {
+            return Err(DeclFault::Unexpected(at));
+        };
+        let Some(left) = self.open_trees.pop() else {
+            return Err(DeclFault::Unexpected(at));
+        };
+        let left = Box::new(alloc, left)?;
+        let right = Box::new(alloc, right)?;
+        Ok((left, right))
+    }
+
+    /// The last two trees of the path, one after the other.
+    fn sequence(&mut self, alloc: A, at: u32) -> Result<(), DeclFault>
+        ensures ok { OnOk result (Allowed a_sequence (drafted self.old) × (drafted self.new ≡ after a_sequence (drafted self.old))) }
+        ensures err { IfErr result (λ e. Fails e (Allowed a_sequence (drafted self.old) → ⊥)) }
+    {
+        let (left, right) = self.operands(alloc, at)?;
+        self.open_trees.push(Expr::Seq(left, right))?;
+        Ok(())
+    }
+
+    /// One of the last two trees of the path.
+    fn selection(&mut self, alloc: A, at: u32) -> Result<(), DeclFault>
+        ensures ok { OnOk result (Allowed a_selection (drafted self.old) × (drafted self.new ≡ after a_selection (drafted self.old))) }
+        ensures err { IfErr result (λ e. Fails e (Allowed a_selection (drafted self.old) → ⊥)) }
+    {
+        let (left, right) = self.operands(alloc, at)?;
+        self.open_trees.push(Expr::Alt(left, right))?;
+        Ok(())
+    }
+
+    /// A brace opens.
+    fn opening(&mut self, at: u32) -> Result<(), DeclFault>
+        ensures ok { OnOk result (Allowed an_opening (drafted self.old) × (drafted self.new ≡ after an_opening (drafted self.old))) }
+        ensures err { IfErr result (λ e. Fails e (Allowed an_opening (drafted self.old) → ⊥)) }
+    {
+        if self.in_braces {
+            return Err(DeclFault::NestedBraces(at));
+        }
+        self.in_braces = true;
+        Ok(())
+    }
+
+    /// Braces with no bound close.
+    fn closing(&mut self, alloc: A, at: u32) -> Result<(), DeclFault>
+        ensures ok { OnOk result (Allowed (a_closing None) (drafted self.old)
+            × (drafted self.new ≡ after (a_closing None) (drafted self.old))) }
+        ensures err { IfErr result (λ e. Fails e (Allowed (a_closing None) (drafted self.old) → ⊥)) }
+    {
+        let Some(tree) = self.open_trees.pop() else {
+            return Err(DeclFault::Unexpected(at));
+        };
+        let inner = Box::new(alloc, tree)?;
+        self.open_trees.push(Expr::Burst(inner))?;
+        self.in_braces = false;
+        Ok(())
+    }
+
+    /// Braces with the bound of these digits close.
+    fn bound(&mut self, alloc: A, digits: &[u8], at: u32) -> Result<(), DeclFault>
+        ensures ok { OnOk result (Allowed (a_closing (Some digits.now)) (drafted self.old)
+            × (drafted self.new ≡ after (a_closing (Some digits.now)) (drafted self.old))) }
+        ensures err { IfErr result (λ e. Fails e (Allowed (a_closing (Some digits.now)) (drafted self.old) → ⊥)) }
+    {
+        let Some(count) = number_up_to(MOST_AT_ONCE, digits) else {
+            return Err(DeclFault::BadCount(at));
+        };
+        let Some(tree) = self.open_trees.pop() else {
+            return Err(DeclFault::Unexpected(at));
+        };
+        let inner = Box::new(alloc, tree)?;
+        self.open_trees.push(Expr::Counted(inner, count))?;
+        self.in_braces = false;
+        Ok(())
+    }
+
+    /// The path ends.
+    fn end(&mut self, at: u32) -> Result<(), DeclFault>
+        ensures ok { OnOk result (Allowed an_end (drafted self.old) × (drafted self.new ≡ after an_end (drafted self.old))) }
+        ensures err { IfErr result (λ e. Fails e (Allowed an_end (drafted self.old) → ⊥)) }
+    {
+        let Some(tree) = self.open_trees.pop() else {
+            return Err(DeclFault::Unexpected(at));
+        };
+        self.paths.push(PathEntry {
+            resource: self.resource,
+            tree,
+        })?;
+        self.open_trees.clear();
+        self.named.clear();
+        Ok(())
+    }
+
+    /// Takes a part.
+    fn take(&mut self, alloc: A, part: PlacedPart<'_>) -> Result<(), DeclFault>
+        requires { length self.old.operations.entries ≤ 256 }
+        ensures ok { OnOk result (Allowed (saying part.entry.part) (drafted self.old)
+            × (drafted self.new ≡ after (saying part.entry.part) (drafted self.old))) }
+        ensures err { IfErr result (λ e. Fails e (Allowed (saying part.entry.part) (drafted self.old) → ⊥)) }
+    {
+        match part.part {
+            Part::Resource(name) => self.resource(alloc, name, part.at),
+            Part::Law(text) => self.law(text, part.at),
+            Part::Operation(name) => self.operation(alloc, name, part.at),
+            Part::Path => self.path(part.at),
+            Part::Name(name) => self.name(name, part.at),
+            Part::Sequence => self.sequence(alloc, part.at),
+            Part::Selection => self.selection(alloc, part.at),
+            Part::Opening => self.opening(part.at),
+            Part::Closing => self.closing(alloc, part.at),
+            Part::Bound(digits) => self.bound(alloc, digits, part.at),
+            Part::End => self.end(part.at),
+        }
+    }
+
+    /// Takes the parts of a file, one after the other. The first part that breaks a rule is named.
+    pub(crate) fn build(alloc: A, parts: &[PlacedPart<'_>]) -> Result<Draft<A>, DeclFault>
+        ensures built { IfOk result (λ d. AllAllowed (sayings parts.now) nothing × (drafted d ≡ after_all (sayings parts.now) nothing)) }
+        ensures none { IfErr result (λ e. Fails e (AllAllowed (sayings parts.now) nothing → ⊥)) }
+    {
+        let mut draft = Draft::new(alloc);
+        for part in parts {
+            draft.take(alloc, *part)?;
+        }
+        Ok(draft)
+    }
+}
