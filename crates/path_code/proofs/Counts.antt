@@ -8,8 +8,7 @@ use Rattle.path_model.specs.Machine.{semicolons, braces}
 use Rattle.path_model.specs.Flat.{counted_braces, semaphores_in, Sited}
 use Rattle.path_model.specs.Declarations.{Path, Declaration}
 use Rattle.path_decl.specs.Lawful.{names_count, Lawful}
-use Rattle.path_code.specs.Names.{names_in}
-use Rattle.path_code.specs.PathCodes.{bounds_in, numbered_values, numbers_from, opening_values, semaphores_of, braces_of, op_of_path, ops_of, numbered_trees, total_semaphores, total_braces}
+use Rattle.path_code.specs.PathCodes.{bounds_in, numbered_values, numbers_from, opening_values, semaphores_of, braces_of, numbered_trees, total_semaphores, total_braces}
 use Rattle.path_code.specs.LawfulPaths.{LawfulPaths}
 use Rattle.path_code.proofs.Substituted.{no_braces, length_bounds}
 
@@ -77,13 +76,6 @@ length_numbered k (s ∷ ss) = let r = length_numbered (k + 1) ss in omega (arit
 pub length_trees : (ps : List Path) → length (numbered_trees ps) ≡ length ps
 length_trees ps = length_numbered 0 (map (λ p. p.tree) ps) ∙ length-map ps (λ p. p.tree)
 
--- all paths together have at most 32,768 semaphores and 16,384 pairs of braces
-pub all_semaphores : (ps : List Path) → LawfulPaths ps → total_semaphores (numbered_trees ps) ≤ 32768
-all_semaphores ps L = let e = few_semaphores (numbered_trees ps) (each_path_small ps L) in let l = length_trees ps in let f = L.few_paths in omega (arith, e, l, f)
-
-pub all_braces : (ps : List Path) → LawfulPaths ps → total_braces (numbered_trees ps) ≤ 16384
-all_braces ps L = let e = few_braces (numbered_trees ps) (each_path_small ps L) in let l = length_trees ps in let f = L.few_paths in omega (arith, e, l, f)
-
 -- the lengths of a path's lists
 pub length_values : (n : ℕ) (vs : List ℕ) → length (numbered_values n vs) ≡ length vs
 length_values n [] = refl
@@ -105,15 +97,6 @@ length_numbers n (suc k) = let r = length_numbers (n + 1) k in omega (arith, r)
 
 pub length_braces : (x : Sited) → length (braces_of x) ≡ braces x.tree
 length_braces x = length_numbers x.first (braces x.tree)
-
-pub length_names : (s : Tree) → length (names_in s) ≡ names_count s
-length_names (op a) = refl
-length_names (seq s t) = let a = length-append (names_in s) (names_in t) in omega (arith, a, length_names s, length_names t)
-length_names (alt s t) = let a = length-append (names_in s) (names_in t) in omega (arith, a, length_names s, length_names t)
-length_names (burst b s) = length_names s
-
-pub length_ops : (x : Sited) → length (ops_of x) ≡ names_count x.tree
-length_ops x = length-map (names_in x.tree) (op_of_path x) ∙ length_names x.tree
 
 -- the paths of a declaration are lawful
 pub lawful_paths : (d : Declaration) → Lawful d → LawfulPaths d.paths

@@ -2,7 +2,5 @@ pub mod Substituted
 pub mod NumberLists
 pub mod Counts
 pub mod Tables
-pub mod CallerLemmas
 pub mod Texts
 pub mod Examples
-pub mod Ranges

@@ -134,4 +134,4 @@ module _ {Y : Type 0} (x : Sited) (c : PathCode Y) (is : IsPathCode x c) where
   code_braces n e = e ∙ c.braces.ok.0 ∙ ap length is.braces ∙ length_braces x
 
 pub one_shown : {Y : Type 0} (x : Sited) (c : PathCode Y) (r : ResId) → IsPathCode x c → c.resource ≡ r → paths_shown (c ∷ []) ≡ record { resource = r.0; tree = x.tree } ∷ []
-one_shown x c r is e = ap (λ (k : ResId). record { resource = k.0; tree = shape c.tree } ∷ []) e ∙ ap (λ (t : Tree). record { resource = r.0; tree = t } ∷ []) is.tree
+one_shown x c r is e = ap (λ (k : ResId). record { resource = k.0; tree = shape c.tree.now } ∷ []) e ∙ ap (λ (t : Tree). record { resource = r.0; tree = t } ∷ []) is.tree

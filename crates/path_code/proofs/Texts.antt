@@ -1,6 +1,5 @@
 -- The text of paths, as that of their codes.
-use Rattle.std.proofs.Common.{◌≡◌, ◌+◌, ℕ, List, [], ◌∷◌, ◌++◌, length, refl, sym, ap, ◌∙◌}
-use Rattle.std.proofs.lemmas.List.{length-map}
+use Rattle.std.proofs.Common.{◌≡◌, ◌+◌, ℕ, List, [], ◌∷◌, ◌++◌, refl, ap, ◌∙◌}
 use Rattle.path_model.specs.Flat.{Sited}
 use Rattle.path_model.specs.Declarations.{Declaration, Path}
 use Rattle.path_code.specs.declared.code.PathCode.{PathCode}
@@ -27,6 +26,3 @@ text_of_codes d n (x ∷ xs) (c ∷ cs) a = ap (λ t. t ++ codes_text d (n + 1) 
 module _ {Y : Type 0} (ps : List Path) (cs : List (PathCode Y)) (shown : paths_shown cs ≡ ps) (table : ArePathCodes (sites ps) cs) where
   pub whole_text : (d : Declaration) → codes_text d 0 cs ≡ listing_text d ps
   whole_text d = text_of_codes d 0 (sites ps) cs table ∙ ap (λ qs. paths_text d 0 qs (sites ps)) shown
-
-  pub as_many : length cs ≡ length ps
-  as_many = sym (length-map cs path_shown) ∙ ap length shown

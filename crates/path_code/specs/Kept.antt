@@ -1,4 +1,5 @@
 -- What a Code shows, and what it keeps beside that.
+use Rattle.std.specs.Prelude.{◌≡◌}
 use Rattle.path_code.specs.declared.code.Code.TheInside.{Inside}
 use Rattle.path_code.specs.Known.{KnownCode}
 use Rattle.path_code.specs.PathCodes.{ArePathCodes, paths_shown, sites}
@@ -6,6 +7,7 @@ use Rattle.path_code.specs.PathCodes.{ArePathCodes, paths_shown, sites}
 abbrev pub shown : {Y : Type 0} → Inside Y → KnownCode
 shown c = record { paths = paths_shown c.paths.items; lawful = c.lawful }
 
--- each path has its code, with numbers that count through all paths
-abbrev pub IsTranslated : {Y : Type 0} → Inside Y → Type 0
-IsTranslated c = ArePathCodes (sites (paths_shown c.paths.items)) c.paths.items
+-- each path of the declaration has its code, with numbers that count through all paths
+pub record IsTranslated {Y : Type 0} (c : Inside Y) : Type 0 where
+  pub declared : paths_shown c.paths.items ≡ c.decl.now.declaration.paths
+  pub table : ArePathCodes (sites (paths_shown c.paths.items)) c.paths.items

@@ -7,4 +7,3 @@ pub mod KnownOnce
 pub mod Known
 pub mod Kept
 pub mod Listing
-pub mod Ranges

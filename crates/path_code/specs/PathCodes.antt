@@ -55,7 +55,7 @@ ops_of x = map (op_of_path x) (names_in x.tree)
 
 -- the code is that of the path with these numbers
 pub record IsPathCode {Y : Type 0} (x : Sited) (p : PathCode Y) : Type 0 where
-  pub tree : shape p.tree ≡ x.tree
+  pub tree : shape p.tree.now ≡ x.tree
   pub semaphores : p.semaphores.items ≡ semaphores_of x
   pub braces : p.braces.items ≡ braces_of x
   pub ops : p.ops.items ≡ ops_of x
@@ -69,7 +69,7 @@ ArePathCodes (x ∷ xs) (p ∷ ps) = IsPathCode x.1 p × ArePathCodes xs ps
 
 -- the path that was compiled
 abbrev pub path_shown : {Y : Type 0} → PathCode Y → Path
-path_shown p = record { resource = p.resource.0; tree = shape p.tree }
+path_shown p = record { resource = p.resource.0; tree = shape p.tree.now }
 
 abbrev pub paths_shown : {Y : Type 0} → List (PathCode Y) → List Path
 paths_shown ps = map path_shown ps

@@ -6,7 +6,6 @@
 #![tactic(auto)]
 
 mod code;
-mod copies;
 pub mod lister;
 mod substitution;
 mod terms;

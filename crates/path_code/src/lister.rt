@@ -57,9 +57,11 @@ fn push_prologue<B: Allocator + Copy>(
     ensures { OnOk result (string_bytes out.new ≡ string_bytes out.old ++ prologue_text prologue) }
 {
     match prologue {
-        Prologue::P(s) => write!(out, "P(s{s})")?,
-        Prologue::PP(c, s) => write!(out, "PP(c{c},m{c},P(s{s}))")?,
-        Prologue::PPN(c, s, u) => write!(out, "P(s{u}); PP(c{c},m{c},P(s{s}))")?,
+        Prologue::P(own) => write!(out, "P(s{own})")?,
+        Prologue::PP(pair, own) => write!(out, "PP(c{pair},m{pair},P(s{own}))")?,
+        Prologue::PPN(pair, own, bound) => {
+            write!(out, "P(s{bound}); PP(c{pair},m{pair},P(s{own}))")?;
+        }
     }
     Ok(())
 }
@@ -72,9 +74,11 @@ fn push_epilogue<B: Allocator + Copy>(
     ensures { OnOk result (string_bytes out.new ≡ string_bytes out.old ++ epilogue_text epilogue) }
 {
     match epilogue {
-        Epilogue::V(s) => write!(out, "V(s{s})")?,
-        Epilogue::VV(c, s) => write!(out, "VV(c{c},m{c},V(s{s}))")?,
-        Epilogue::VVN(c, s, u) => write!(out, "VV(c{c},m{c},V(s{s})); V(s{u})")?,
+        Epilogue::V(own) => write!(out, "V(s{own})")?,
+        Epilogue::VV(pair, own) => write!(out, "VV(c{pair},m{pair},V(s{own}))")?,
+        Epilogue::VVN(pair, own, bound) => {
+            write!(out, "VV(c{pair},m{pair},V(s{own})); V(s{bound})")?;
+        }
     }
     Ok(())
 }
@@ -173,7 +177,7 @@ fn push_path<A: Allocator + Copy, B: Allocator + Copy, C: Allocator + Copy>(
     out: &mut String<C>,
     decl: &Decl<A>,
     number: u32,
-    path: &PathCode<B>,
+    path: &PathCode<'_, B>,
 ) -> Result<(), OutOfMemory>
     ensures { OnOk result (string_bytes out.new ≡ string_bytes out.old ++
         parts_text decl.now.declaration number path.now.resource.0 path.now.semaphores.items path.now.braces.items path.now.ops.items) }
@@ -195,7 +199,7 @@ fn push_path<A: Allocator + Copy, B: Allocator + Copy, C: Allocator + Copy>(
 pub fn listing<A: Allocator + Copy, B: Allocator + Copy, C: Allocator + Copy>(
     alloc: C,
     decl: &Decl<A>,
-    code: &Code<B>,
+    code: &Code<'_, B>,
 ) -> Result<String<C>, OutOfMemory>
     ensures { IfOk result (λ text. string_bytes text ≡ listing_text decl.now.declaration code.now.paths) }
 {

@@ -1,7 +1,7 @@
 //! The substitution into one tree, from its root downwards: from left to right what stands before each name, and back what stands
 //! after it.
 
-ghost use Rattle.std.specs.Prelude.{◌≡◌, ◌+◌, ◌<◌, ◌≤◌, ◌++◌, ◌^◌, length, IfOk, OnOk};
+ghost use Rattle.std.specs.Prelude.{◌≡◌, ◌+◌, ◌<◌, ◌≤◌, ◌++◌, ◌^◌, length, OnOk};
 ghost use Rattle.path_model.specs.Trees.{shape};
 ghost use Rattle.path_model.specs.Machine.{semicolons, braces};
 ghost use Rattle.path_model.specs.Flat.{counted_braces};
@@ -25,64 +25,33 @@ pub(crate) struct Numbers {
     pub(crate) bound: u32,
 }
 
-impl Numbers {
-    /// Both together.
-    fn and(self, more: Numbers) -> Numbers
-        requires place { self.place + more.place < 2 ^ 32 }
-        requires semicolon { self.semicolon + more.semicolon < 2 ^ 32 }
-        requires brace { self.brace + more.brace < 2 ^ 32 }
-        requires bound { self.bound + more.bound < 2 ^ 32 }
-        ensures place { result.place ≡ self.place + more.place }
-        ensures semicolon { result.semicolon ≡ self.semicolon + more.semicolon }
-        ensures brace { result.brace ≡ self.brace + more.brace }
-        ensures bound { result.bound ≡ self.bound + more.bound }
-    {
-        Numbers {
-            place: self.place + more.place,
-            semicolon: self.semicolon + more.semicolon,
-            brace: self.brace + more.brace,
-            bound: self.bound + more.bound,
-        }
-    }
-}
-
-/// How much stands in a tree. The cost is one walk over it.
-pub(crate) fn count_parts<A: Allocator + Copy>(tree: &Expr<A>) -> Numbers
-    requires few { parts (shape tree.now) < 2 ^ 32 }
-    ensures place { result.place ≡ names_count (shape tree.now) }
-    ensures semicolon { result.semicolon ≡ semicolons (shape tree.now) }
-    ensures brace { result.brace ≡ braces (shape tree.now) }
-    ensures bound { result.bound ≡ counted_braces (shape tree.now) }
+/// Adds to a count what stands in a tree. The cost is one walk over it.
+pub(crate) fn count_parts<A: Allocator + Copy>(tree: &Expr<A>, count: &mut Numbers)
+    requires few { reach (shape tree.now) count.old < 2 ^ 32 }
+    ensures place { count.new.place ≡ count.old.place + names_count (shape tree.now) }
+    ensures semicolon { count.new.semicolon ≡ count.old.semicolon + semicolons (shape tree.now) }
+    ensures brace { count.new.brace ≡ count.old.brace + braces (shape tree.now) }
+    ensures bound { count.new.bound ≡ count.old.bound + counted_braces (shape tree.now) }
 {
     match tree {
-        Expr::Op(_) => Numbers {
-            place: 1,
-            semicolon: 0,
-            brace: 0,
-            bound: 0,
-        },
+        Expr::Op(_) => count.place += 1,
         Expr::Seq(left, right) => {
-            let both = count_parts(left).and(count_parts(right));
-            Numbers {
-                semicolon: both.semicolon + 1,
-                ..both
-            }
+            count_parts(left, count);
+            count_parts(right, count);
+            count.semicolon += 1;
         }
-        Expr::Alt(left, right) => count_parts(left).and(count_parts(right)),
+        Expr::Alt(left, right) => {
+            count_parts(left, count);
+            count_parts(right, count);
+        }
         Expr::Burst(inner) => {
-            let inside = count_parts(inner);
-            Numbers {
-                brace: inside.brace + 1,
-                ..inside
-            }
+            count_parts(inner, count);
+            count.brace += 1;
         }
         Expr::Counted(inner, _) => {
-            let inside = count_parts(inner);
-            Numbers {
-                brace: inside.brace + 1,
-                bound: inside.bound + 1,
-                ..inside
-            }
+            count_parts(inner, count);
+            count.brace += 1;
+            count.bound += 1;
         }
     }
 }
@@ -111,22 +80,22 @@ fn ending_within(epilogue: Epilogue, brace: u32, bound: Option<u32>) -> Epilogue
 
 /// Adds each name of a tree, from left to right, with what stands before it: `prologue`, and at the right of a `;` what waits for
 /// that. What stands after it is set on the way back. Adds the semaphore of each bound too. The numbers that the tree's parts get
-/// begin with `next`; what is answered are those after them.
+/// begin with `next`, which becomes those after them; after a refusal its numbers mean nothing.
 pub(crate) fn add_starts<A: Allocator + Copy, B: Allocator + Copy>(
     ops: &mut Vec<OpCode, B>,
     semaphores: &mut Vec<(u32, u32), B>,
     tree: &Expr<A>,
-    next: Numbers,
+    next: &mut Numbers,
     prologue: Prologue,
-) -> Result<Numbers, OutOfMemory>
-    requires few { reach (shape tree.now) next < 2 ^ 32 }
-    ensures place { IfOk result (λ end. end.place ≡ next.place + names_count (shape tree.now)) }
-    ensures semicolon { IfOk result (λ end. end.semicolon ≡ next.semicolon + semicolons (shape tree.now)) }
-    ensures brace { IfOk result (λ end. end.brace ≡ next.brace + braces (shape tree.now)) }
-    ensures bound { IfOk result (λ end. end.bound ≡ next.bound + counted_braces (shape tree.now)) }
+) -> Result<(), OutOfMemory>
+    requires few { reach (shape tree.now) next.old < 2 ^ 32 }
+    ensures place { OnOk result (next.new.place ≡ next.old.place + names_count (shape tree.now)) }
+    ensures semicolon { OnOk result (next.new.semicolon ≡ next.old.semicolon + semicolons (shape tree.now)) }
+    ensures brace { OnOk result (next.new.brace ≡ next.old.brace + braces (shape tree.now)) }
+    ensures bound { OnOk result (next.new.bound ≡ next.old.bound + counted_braces (shape tree.now)) }
     ensures starts { OnOk result (ops.new.items ≡
-        ops.old.items ++ starts_in (shape tree.now) next.semicolon next.brace next.bound prologue) }
-    ensures bounds { OnOk result (semaphores.new.items ≡ semaphores.old.items ++ bounds_from (shape tree.now) next.bound) }
+        ops.old.items ++ starts_in (shape tree.now) next.old.semicolon next.old.brace next.old.bound prologue) }
+    ensures bounds { OnOk result (semaphores.new.items ≡ semaphores.old.items ++ bounds_from (shape tree.now) next.old.bound) }
 {
     match tree {
         Expr::Op(op) => {
@@ -135,94 +104,78 @@ pub(crate) fn add_starts<A: Allocator + Copy, B: Allocator + Copy>(
                 prologue,
                 epilogue: Epilogue::V(0),
             })?;
-            Ok(Numbers {
-                place: next.place + 1,
-                ..next
-            })
+            next.place += 1;
         }
         Expr::Seq(left, right) => {
-            let middle = add_starts(ops, semaphores, left, next, prologue)?;
-            let after = Numbers {
-                semicolon: middle.semicolon + 1,
-                ..middle
-            };
-            add_starts(ops, semaphores, right, after, Prologue::P(middle.semicolon))
+            add_starts(ops, semaphores, left, next, prologue)?;
+            let semicolon = next.semicolon;
+            next.semicolon += 1;
+            add_starts(ops, semaphores, right, next, Prologue::P(semicolon))?;
         }
         Expr::Alt(left, right) => {
-            let middle = add_starts(ops, semaphores, left, next, prologue)?;
-            add_starts(ops, semaphores, right, middle, prologue)
+            add_starts(ops, semaphores, left, next, prologue)?;
+            add_starts(ops, semaphores, right, next, prologue)?;
         }
         Expr::Burst(inner) => {
-            let inside = Numbers {
-                brace: next.brace + 1,
-                ..next
-            };
             let start = starting_within(prologue, next.brace, None);
-            add_starts(ops, semaphores, inner, inside, start)
+            next.brace += 1;
+            add_starts(ops, semaphores, inner, next, start)?;
         }
         Expr::Counted(inner, most) => {
             semaphores.push((next.bound, *most))?;
-            let inside = Numbers {
-                brace: next.brace + 1,
-                bound: next.bound + 1,
-                ..next
-            };
             let start = starting_within(prologue, next.brace, Some(next.bound));
-            add_starts(ops, semaphores, inner, inside, start)
+            next.brace += 1;
+            next.bound += 1;
+            add_starts(ops, semaphores, inner, next, start)?;
         }
     }
+    Ok(())
 }
 
 /// Sets what stands after each name of a tree, from right to left: `epilogue`, and at the left of a `;` what signals that. The
-/// numbers after those of the tree's parts are `end`; what is answered are the first ones.
+/// numbers after those of the tree's parts are `end`, which becomes the first ones.
 pub(crate) fn set_ends<A: Allocator + Copy>(
     ops: &mut [OpCode],
     tree: &Expr<A>,
-    end: Numbers,
+    end: &mut Numbers,
     epilogue: Epilogue,
-) -> Numbers
+)
     requires flat { IsFlat (shape tree.now) }
-    requires fits { FitsBelow (shape tree.now) end }
-    requires within { end.place ≤ length ops.old }
-    ensures place { result.place + names_count (shape tree.now) ≡ end.place }
-    ensures semicolon { result.semicolon + semicolons (shape tree.now) ≡ end.semicolon }
-    ensures brace { result.brace + braces (shape tree.now) ≡ end.brace }
-    ensures bound { result.bound + counted_braces (shape tree.now) ≡ end.bound }
+    requires fits { FitsBelow (shape tree.now) end.old }
+    requires within { end.old.place ≤ length ops.old }
+    ensures place { end.new.place + names_count (shape tree.now) ≡ end.old.place }
+    ensures semicolon { end.new.semicolon + semicolons (shape tree.now) ≡ end.old.semicolon }
+    ensures brace { end.new.brace + braces (shape tree.now) ≡ end.old.brace }
+    ensures bound { end.new.bound + counted_braces (shape tree.now) ≡ end.old.bound }
     ensures kept { length ops.new ≡ length ops.old }
-    ensures set { ops.new ≡ ended (shape tree.now) result.place result.semicolon result.brace result.bound epilogue ops.old }
+    ensures set { ops.new ≡ ended (shape tree.now) end.new.place end.new.semicolon end.new.brace end.new.bound epilogue ops.old }
 {
     match tree {
         Expr::Op(_) => {
-            let place = end.place - 1;
-            ops[place as usize].epilogue = epilogue;
-            Numbers { place, ..end }
+            end.place -= 1;
+            ops[end.place as usize].epilogue = epilogue;
         }
         Expr::Seq(left, right) => {
-            let after = set_ends(ops, right, end, epilogue);
-            let middle = Numbers {
-                semicolon: after.semicolon - 1,
-                ..after
-            };
-            set_ends(ops, left, middle, Epilogue::V(middle.semicolon))
+            set_ends(ops, right, end, epilogue);
+            end.semicolon -= 1;
+            let semicolon = end.semicolon;
+            set_ends(ops, left, end, Epilogue::V(semicolon));
         }
         Expr::Alt(left, right) => {
-            let middle = set_ends(ops, right, end, epilogue);
-            set_ends(ops, left, middle, epilogue)
+            set_ends(ops, right, end, epilogue);
+            set_ends(ops, left, end, epilogue);
         }
         Expr::Burst(inner) => {
             let brace = end.brace - 1;
-            let inside = set_ends(ops, inner, end, ending_within(epilogue, brace, None));
-            Numbers { brace, ..inside }
+            set_ends(ops, inner, end, ending_within(epilogue, brace, None));
+            end.brace = brace;
         }
         Expr::Counted(inner, _) => {
             let brace = end.brace - 1;
             let bound = end.bound - 1;
-            let inside = set_ends(ops, inner, end, ending_within(epilogue, brace, Some(bound)));
-            Numbers {
-                brace,
-                bound,
-                ..inside
-            }
+            set_ends(ops, inner, end, ending_within(epilogue, brace, Some(bound)));
+            end.brace = brace;
+            end.bound = bound;
         }
     }
 }

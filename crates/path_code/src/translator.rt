@@ -8,7 +8,6 @@ ghost use Rattle.path_code.specs.PathCodes.{IsPathCode, numbered_values, numbers
 ghost use Rattle.path_code.specs.Walks.{parts};
 
 use crate::code::{Code, PathCode};
-use crate::copies::copied;
 use crate::substitution::{Numbers, add_starts, count_parts, set_ends};
 use crate::terms::{Epilogue, Prologue};
 use path_decl::{Decl, counts, path_resource, tree_of};
@@ -48,21 +47,27 @@ fn numbers<A: Allocator + Copy>(alloc: A, first: u32, end: u32) -> Result<Vec<u3
 }
 
 /// What a path is compiled to, where its own semaphore has the number `own` and its first pair of braces the number `brace`. The
-/// cost is four walks over its tree.
-fn path_code<A: Allocator + Copy, B: Allocator + Copy>(
-    alloc: B,
+/// cost is three walks over its tree.
+fn path_code<'d, A: Allocator + Copy>(
+    alloc: A,
     resource: ResId,
-    tree: &Expr<A>,
+    tree: &'d Expr<A>,
     own: u32,
     brace: u32,
-) -> Result<PathCode<B>, OutOfMemory>
+) -> Result<PathCode<'d, A>, OutOfMemory>
     requires formed { WellFormed (shape tree.now) }
     requires few { 2 * parts (shape tree.now) + 2 * own + brace + 2 < 2 ^ 32 }
     ensures code { IfOk result (IsPathCode (record { tree = shape tree.now; own = own; first = brace })) }
     ensures resource { IfOk result (λ code. code.resource ≡ resource) }
 {
-    let count = count_parts(tree);
-    let next = Numbers {
+    let mut count = Numbers {
+        place: 0,
+        semicolon: 0,
+        brace: 0,
+        bound: 0,
+    };
+    count_parts(tree, &mut count);
+    let mut next = Numbers {
         place: 0,
         semicolon: own + 1,
         brace,
@@ -70,14 +75,14 @@ fn path_code<A: Allocator + Copy, B: Allocator + Copy>(
     };
     let mut semaphores = first_semaphores(alloc, own, next.bound, count.bound)?;
     let mut ops = Vec::with_capacity(alloc, count.place as usize)?;
-    let start = Prologue::P(own);
-    let end = add_starts(&mut ops, &mut semaphores, tree, next, start)?;
-    set_ends(&mut ops, tree, end, Epilogue::V(own));
+    add_starts(&mut ops, &mut semaphores, tree, &mut next, Prologue::P(own))?;
+    let braces = numbers(alloc, brace, next.brace)?;
+    set_ends(&mut ops, tree, &mut next, Epilogue::V(own));
     Ok(PathCode {
         resource,
-        tree: copied(alloc, tree)?,
+        tree,
         semaphores,
-        braces: numbers(alloc, brace, end.brace)?,
+        braces,
         ops,
     })
 }
@@ -88,12 +93,12 @@ fn path_code<A: Allocator + Copy, B: Allocator + Copy>(
 /// `P(s)` and `V(s)`, where `s` opens at 1 (Campbell and Habermann, 1974). The numbers of semaphores and of pairs of braces count
 /// from 0 through the file.
 ///
-/// The only error is want of memory; nothing is kept then. The cost is a few walks over each tree, and a place for each of its
-/// parts.
-pub fn translate<A: Allocator + Copy, B: Allocator + Copy>(
-    alloc: B,
-    decl: &Decl<A>,
-) -> Result<Code<B>, OutOfMemory>
+/// The only error is want of memory; nothing is kept then. The cost is three walks over each tree, and a place for each semaphore,
+/// pair of braces and name. No tree is copied.
+pub fn translate<'d, A: Allocator + Copy>(
+    alloc: A,
+    decl: &'d Decl<A>,
+) -> Result<Code<'d, A>, OutOfMemory>
     ensures { IfOk result (λ code. code.paths ≡ decl.now.declaration.paths) }
 {
     let total = counts(decl).paths;
@@ -109,5 +114,5 @@ pub fn translate<A: Allocator + Copy, B: Allocator + Copy>(
         brace += code.braces.len() as u32;
         paths.push(code)?;
     }
-    Ok(Code { paths })
+    Ok(Code { decl, paths })
 }

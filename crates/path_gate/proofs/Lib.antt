@@ -8,3 +8,4 @@ pub mod Runs
 pub mod OpeningValues
 pub mod Opened
 pub mod Adding
+pub mod Appended

@@ -3,10 +3,11 @@
 use crate::in_turn::refuse_in_turn;
 use path_code::{Code, Epilogue, OpCode, Prologue, listing, translate};
 use path_decl::Decl;
+use path_lex::DeclFault;
 use path_read::read;
 use path_model::{OpId, OutOfMemory, ResId};
 use refusing::Refusing;
-use std::alloc::Global;
+use std::alloc::{Allocator, Global};
 use std::process::Abort;
 
 const BOOK: &str = "resource book cell operation read, write path { read } , write end end";
@@ -30,14 +31,29 @@ m0 = 1
 a: PP(c0,m0,P(s0)) | VV(c0,m0,V(s0))
 ";
 
-fn declared(rt: &impl Abort, heap: Global, text: &str) -> Decl {
-    match read(heap, text.as_bytes()) {
-        Ok(decl) => decl,
-        Err(fault) => panic!(rt; "{fault:?} at {text:?}"),
+// The declaration of a text, which is well formed.
+fn read_by<A: Allocator + Copy>(
+    rt: &impl Abort,
+    alloc: A,
+    text: &str,
+) -> Result<Decl<A>, OutOfMemory> {
+    match read(alloc, text.as_bytes()) {
+        Ok(decl) => Ok(decl),
+        Err(fault) => {
+            assert_eq!(rt; fault, DeclFault::OutOfMemory);
+            Err(OutOfMemory)
+        }
     }
 }
 
-fn translated(rt: &impl Abort, heap: Global, decl: &Decl) -> Code {
+fn declared(rt: &impl Abort, heap: Global, text: &str) -> Decl {
+    match read_by(rt, heap, text) {
+        Ok(decl) => decl,
+        Err(OutOfMemory) => panic!(rt; "out of memory at {text:?}"),
+    }
+}
+
+fn translated<'d>(rt: &impl Abort, heap: Global, decl: &'d Decl) -> Code<'d> {
     match translate(heap, decl) {
         Ok(code) => code,
         Err(OutOfMemory) => panic!(rt; "out of memory"),
@@ -46,7 +62,8 @@ fn translated(rt: &impl Abort, heap: Global, decl: &Decl) -> Code {
 
 // The code of the one text is listed with the names of the other.
 fn lists_with(rt: &impl Abort, heap: Global, text: &str, names: &str, want: &str) {
-    let code = translated(rt, heap, &declared(rt, heap, text));
+    let decl = declared(rt, heap, text);
+    let code = translated(rt, heap, &decl);
     match listing(heap, &declared(rt, heap, names), &code) {
         Ok(listed) => assert_eq!(rt; listed.as_str(), want),
         Err(OutOfMemory) => panic!(rt; "out of memory"),
@@ -168,7 +185,8 @@ d: P(s0) | V(s1)
 
 #[test]
 fn fields_of_a_path(rt: HostRuntime) {
-    let code = translated(&rt, rt.alloc(), &declared(&rt, rt.alloc(), BOOK));
+    let decl = declared(&rt, rt.alloc(), BOOK);
+    let code = translated(&rt, rt.alloc(), &decl);
     let want = [
         OpCode {
             op: OpId(0),
@@ -192,8 +210,8 @@ fn fields_of_a_path(rt: HostRuntime) {
 
 #[test]
 fn translating_wants_memory(rt: HostRuntime) {
-    let decl = declared(&rt, rt.alloc(), LONE);
     refuse_in_turn(&rt, rt.alloc(), OutOfMemory, |heap: &Refusing<Global>| {
+        let decl = read_by(&rt, heap, LONE)?;
         let code = translate(heap, &decl)?;
         Ok(code.paths().len() == 1)
     });
@@ -201,8 +219,8 @@ fn translating_wants_memory(rt: HostRuntime) {
 
 #[test]
 fn translating_several_wants_memory(rt: HostRuntime) {
-    let decl = declared(&rt, rt.alloc(), SEVERAL);
     refuse_in_turn(&rt, rt.alloc(), OutOfMemory, |heap: &Refusing<Global>| {
+        let decl = read_by(&rt, heap, SEVERAL)?;
         let code = translate(heap, &decl)?;
         Ok(code.paths().len() == 3)
     });

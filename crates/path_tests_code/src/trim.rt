@@ -3,11 +3,12 @@
 use crate::in_turn::refuse_in_turn;
 use path_code::{Epilogue, Prologue, listing, translate};
 use path_decl::Decl;
+use path_lex::DeclFault;
 use path_read::read;
 use path_model::{OpId, OutOfMemory, PathId};
 use path_trim::{Lean, LeanOp, Removed, kept, lean_listing, removed, trim};
 use refusing::Refusing;
-use std::alloc::Global;
+use std::alloc::{Allocator, Global};
 use std::process::Abort;
 
 const BOOK: &str = "resource book cell operation read, write path { read } , write end end";
@@ -35,15 +36,31 @@ b: P(s1) | V(s0)
 path 1 of r same as 0
 ";
 
+// The declaration of a text, which is well formed.
+fn read_by<A: Allocator + Copy>(
+    rt: &impl Abort,
+    alloc: A,
+    text: &str,
+) -> Result<Decl<A>, OutOfMemory> {
+    match read(alloc, text.as_bytes()) {
+        Ok(decl) => Ok(decl),
+        Err(fault) => {
+            assert_eq!(rt; fault, DeclFault::OutOfMemory);
+            Err(OutOfMemory)
+        }
+    }
+}
+
 fn declared(rt: &impl Abort, heap: Global, text: &str) -> Decl {
-    match read(heap, text.as_bytes()) {
+    match read_by(rt, heap, text) {
         Ok(decl) => decl,
-        Err(fault) => panic!(rt; "{fault:?} at {text:?}"),
+        Err(OutOfMemory) => panic!(rt; "out of memory at {text:?}"),
     }
 }
 
 fn trimmed(rt: &impl Abort, heap: Global, text: &str) -> Lean {
-    let Ok(code) = translate(heap, &declared(rt, heap, text)) else {
+    let decl = declared(rt, heap, text);
+    let Ok(code) = translate(heap, &decl) else {
         panic!(rt; "out of memory at {text:?}");
     };
     match trim(heap, code) {
@@ -256,6 +273,7 @@ fn trims_in_turn(rt: &impl Abort, heap: Global, text: &str, rows: usize) {
         panic!(rt; "out of memory");
     };
     refuse_in_turn(rt, heap, OutOfMemory, |refusing: &Refusing<Global>| {
+        let decl = read_by(rt, refusing, text)?;
         let code = translate(refusing, &decl)?;
         match trim(refusing, code) {
             Ok(lean) => Ok(kept(&lean).len() == rows),

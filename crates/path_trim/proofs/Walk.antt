@@ -137,24 +137,24 @@ module _ {Y : Type 0} (ss : List Tree) (ps : List (PathCode Y)) (h : ArePathCode
   number = let n = number_at (sited 0 0 (numbered 0 ss)) 0 k nowhere (sites_numbered ss 0 0 0) within in omega arith
 
   -- a path whose tree an earlier one has
-  pub same_step : (old new : Parts Y) (i : ℕ) → IsFirstEqual (shape e.tree) (take k ps) i → Made old (take k (sited 0 0 (numbered 0 ss)))
+  pub same_step : (old new : Parts Y) (i : ℕ) → IsFirstEqual (shape e.tree.now) (take k ps) i → Made old (take k (sited 0 0 (numbered 0 ss)))
       → Adds old new [] (SamePath (record { 0 = k }) (record { 0 = i }) ∷ []) (SameAs (record { 0 = i })) → Made new (take (k + 1) (sited 0 0 (numbered 0 ss)))
   same_step old new i f was added =
       let xs = sited 0 0 (numbered 0 ss) in
       let zero_add : 0 + i ≡ i = omega arith in
       let first : first_with (get_or xs k nowhere).1.tree (take k xs) ≡ Some i =
       subst (λ t. first_with t (take k xs) ≡ Some i) here.tree
-      (first_some (shape e.tree) 0 (take k xs) (take k ps) i (codes_take xs ps k h) (numbered_take xs 0 k (sites_numbered ss 0 0 0)) f ∙ ap (λ n. Some n) zero_add) in
+      (first_some (shape e.tree.now) 0 (take k xs) (take k ps) i (codes_take xs ps k h) (numbered_take xs 0 k (sites_numbered ss 0 0 0)) f ∙ ap (λ n. Some n) zero_add) in
       made_step old new xs k nowhere (Some i) within first was
       (subst (λ n. Adds old new [] (SamePath (record { 0 = n }) (record { 0 = i }) ∷ []) (SameAs (record { 0 = i }))) (sym number) added)
 
   -- a path that is kept
-  pub kept_step : (old new : Parts Y) → All (HasOther (shape e.tree)) (take k ps) → Made old (take k (sited 0 0 (numbered 0 ss)))
+  pub kept_step : (old new : Parts Y) → All (HasOther (shape e.tree.now)) (take k ps) → Made old (take k (sited 0 0 (numbered 0 ss)))
       → ((x : Sited) → IsPathCode x e → Adds old new (lean_row (k, x) ∷ []) (values_removed x) (Stays (length (values_removed x)))) → Made new (take (k + 1) (sited 0 0 (numbered 0 ss)))
   kept_step old new f was added =
       let xs = sited 0 0 (numbered 0 ss) in
       let y = (get_or xs k nowhere).1 in
       let first : first_with (get_or xs k nowhere).1.tree (take k xs) ≡ None =
-      subst (λ t. first_with t (take k xs) ≡ None) here.tree (first_none (shape e.tree) (take k xs) (take k ps) (codes_take xs ps k h) f) in
+      subst (λ t. first_with t (take k xs) ≡ None) here.tree (first_none (shape e.tree.now) (take k xs) (take k ps) (codes_take xs ps k h) f) in
       made_step old new xs k nowhere None within first was
       (subst (λ n. Adds old new (lean_row (n, y) ∷ []) (values_removed y) (Stays (length (values_removed y)))) (sym number) (added y here))

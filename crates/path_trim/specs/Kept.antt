@@ -1,16 +1,16 @@
 -- What trimmed paths show, and what they keep beside that.
 use Rattle.std.specs.Prelude.{◌≡◌, List, map}
 use Rattle.path_model.specs.Trees.{Tree}
+use Rattle.path_model.specs.Declarations.{trees}
 use Rattle.path_trim.specs.declared.lean.Lean.TheInside.{Inside}
 use Rattle.path_trim.specs.Known.{KnownTrees}
-use Rattle.path_trim.specs.Trees.{trees_in}
 use Rattle.path_trim.specs.Compared.{compared}
 use Rattle.path_trim.specs.LeanTable.{lean_table}
 use Rattle.path_trim.specs.RemovedList.{removed_list}
 use Rattle.path_trim.specs.Rows.{row_of, fates_of}
 
 abbrev pub trees_shown : {Y : Type 0} → Inside Y → List Tree
-trees_shown l = trees_in l.code.value
+trees_shown l = trees l.decl.value.declaration
 
 abbrev pub shown : {Y : Type 0} → Inside Y → KnownTrees
 shown l = record { trees = trees_shown l; lawful = l.lawful }

@@ -5,7 +5,6 @@ pub mod Compared
 pub mod LeanTable
 pub mod RemovedList
 pub mod LeanListing
-pub mod Totals
 pub mod FirstEqual
 pub mod Steps
 pub mod Rows

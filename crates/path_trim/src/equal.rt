@@ -32,13 +32,13 @@ fn is_same<A: Allocator + Copy>(left: &Expr<A>, right: &Expr<A>) -> bool
 
 /// The place of the first of these paths that has the tree. A walk over the tree for each of them at most.
 pub(crate) fn first_equal<A: Allocator + Copy>(
-    paths: &[PathCode<A>],
+    paths: &[PathCode<'_, A>],
     tree: &Expr<A>,
 ) -> Option<usize>
     ensures { MatchOption result (All (HasOther (shape tree.now)) paths.now) (IsFirstEqual (shape tree.now) paths.now) }
 {
     for (place, path) in paths.iter().enumerate() {
-        if is_same(tree, &path.tree) {
+        if is_same(tree, path.tree) {
             return Some(place);
         }
     }

@@ -1,14 +1,14 @@
 //! Trimmed paths, and what they answer.
 
 ghost use Rattle.std.specs.Prelude.{◌≡◌, map};
-ghost use Rattle.path_trim.specs.Trees.{trees_in};
+ghost use Rattle.path_model.specs.Declarations.{trees};
 ghost use Rattle.path_trim.specs.LawfulTrees.{LawfulTrees, LawfulTrees-prop};
 ghost use Rattle.path_trim.specs.LeanTable.{lean_table};
 ghost use Rattle.path_trim.specs.RemovedList.{removed_list};
 ghost use Rattle.path_trim.specs.Rows.{row_of};
 
 use crate::table::{Fate, LeanPath, Removed};
-use path_code::Code;
+use path_decl::Decl;
 use std::alloc::{Allocator, Global};
 use std::marker::Model;
 use std::snapshot::Snapshot;
@@ -17,15 +17,15 @@ use std::snapshot::Snapshot;
 /// them what always holds of them, `lawful`.
 #[derive(Drop)]
 pub struct Lean<A: Allocator + Copy = Global> {
-    /// What was trimmed, which only contracts read: it takes no memory.
-    pub(crate) code: Snapshot<Code<A>>,
+    /// The declaration whose paths were trimmed, which only contracts read: it takes no memory.
+    pub(crate) decl: Snapshot<Decl<A>>,
     /// The paths that are kept.
     pub(crate) kept: Vec<LeanPath<A>, A>,
     /// What was removed, path after path.
     pub(crate) removed: Vec<Removed, A>,
     /// What became of each path.
     pub(crate) fates: Vec<Fate, A>,
-    ghost lawful: { LawfulTrees (trees_in code.value) } by { LawfulTrees-prop _ },
+    ghost lawful: { LawfulTrees (trees decl.value.declaration) } by { LawfulTrees-prop _ },
 }
 
 impl<A: Allocator + Copy> Model for Lean<A> {

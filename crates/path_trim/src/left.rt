@@ -72,9 +72,7 @@ fn copied<T: Copy, A: Allocator + Copy>(alloc: A, values: &[T]) -> Result<Vec<T,
     ensures { IfOk result (λ v. v.items ≡ values.now) }
 {
     let mut copies = Vec::with_capacity(alloc, values.len())?;
-    for value in values {
-        copies.push(*value)?;
-    }
+    copies.extend_from_slice(values)?;
     Ok(copies)
 }
 
@@ -99,11 +97,11 @@ fn counters_left(whole: bool, braces: &[u32]) -> &[u32]
 pub(crate) fn lean_path<A: Allocator + Copy>(
     alloc: A,
     path: PathId,
-    code: &PathCode<A>,
+    code: &PathCode<'_, A>,
 ) -> Result<LeanPath<A>, OutOfMemory>
     ensures { IfOk result (λ lean. (x : Sited) → IsPathCode x code.now → row_of lean ≡ lean_row (path.0, x)) }
 {
-    let whole = is_burst(&code.tree);
+    let whole = is_burst(code.tree);
     Ok(LeanPath {
         path,
         semaphores: copied(alloc, semaphores_left(whole, &code.semaphores))?,
@@ -115,10 +113,10 @@ pub(crate) fn lean_path<A: Allocator + Copy>(
 /// Notes that the own semaphore and the counter of a path are removed that is one pair of braces.
 fn note_whole<A: Allocator + Copy>(
     removed: &mut Vec<Removed, A>,
-    code: &PathCode<A>,
+    code: &PathCode<'_, A>,
 ) -> Result<(), OutOfMemory>
     requires code { (x : Sited) × IsPathCode x code.now }
-    requires whole { trimmed.is_burst (shape code.now.tree) ≡ true }
+    requires whole { trimmed.is_burst (shape code.now.tree.now) ≡ true }
     ensures { (x : Sited) → IsPathCode x code.now →
         OnOk result (removed.new.items ≡ removed.old.items ++ Semaphore x.own ∷ Counter x.first ∷ []) }
 {
@@ -144,14 +142,14 @@ fn note_mutexes<A: Allocator + Copy>(
 /// Notes what of a path that is kept is removed, and answers how many things these are. One pass over its braces.
 pub(crate) fn note_removed<A: Allocator + Copy>(
     removed: &mut Vec<Removed, A>,
-    code: &PathCode<A>,
+    code: &PathCode<'_, A>,
 ) -> Result<usize, OutOfMemory>
     requires { (x : Sited) × IsPathCode x code.now }
     ensures noted { (x : Sited) → IsPathCode x code.now → OnOk result (removed.new.items ≡ removed.old.items ++ values_removed x) }
     ensures counted { (x : Sited) → IsPathCode x code.now → IfOk result (λ n. n ≡ length (values_removed x)) }
 {
     let before = removed.len();
-    if is_burst(&code.tree) {
+    if is_burst(code.tree) {
         note_whole(removed, code)?;
     }
     note_mutexes(removed, &code.braces)?;

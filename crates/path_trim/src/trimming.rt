@@ -38,7 +38,7 @@ impl<A: Allocator + Copy> Parts<A> {
     }
 
     /// Keeps a path.
-    fn keep(&mut self, alloc: A, path: PathId, code: &PathCode<A>) -> Result<(), OutOfMemory>
+    fn keep(&mut self, alloc: A, path: PathId, code: &PathCode<'_, A>) -> Result<(), OutOfMemory>
         requires { (x : Sited) × IsPathCode x code.now }
         ensures { OnOk result ((x : Sited) → IsPathCode x code.now →
             Adds self.old self.new (lean_row (path.0, x) ∷ []) (values_removed x) (Stays (length (values_removed x)))) }
@@ -51,7 +51,7 @@ impl<A: Allocator + Copy> Parts<A> {
 }
 
 /// The trimmed paths of a code.
-fn trimmed<A: Allocator + Copy>(alloc: A, code: &Code<A>) -> Result<Lean<A>, OutOfMemory>
+fn trimmed<A: Allocator + Copy>(alloc: A, code: &Code<'_, A>) -> Result<Lean<A>, OutOfMemory>
     ensures { IfOk result (λ lean. lean.trees ≡ trees_in code.now) }
 {
     let paths = code.paths();
@@ -62,13 +62,13 @@ fn trimmed<A: Allocator + Copy>(alloc: A, code: &Code<A>) -> Result<Lean<A>, Out
     };
     for (number, path) in paths.iter().enumerate() {
         let id = PathId(number as u32);
-        match first_equal(&paths[..number], &path.tree) {
+        match first_equal(&paths[..number], path.tree) {
             Some(first) => parts.remove(id, PathId(first as u32))?,
             None => parts.keep(alloc, id, path)?,
         }
     }
     Ok(Lean {
-        code: Snapshot::of(code),
+        decl: Snapshot::of(code.decl()),
         kept: parts.kept,
         removed: parts.removed,
         fates: parts.fates,
@@ -81,9 +81,12 @@ fn trimmed<A: Allocator + Copy>(alloc: A, code: &Code<A>) -> Result<Lean<A>, Out
 /// The only error is want of memory; the code then comes back as it was. Each path is compared with each earlier one until one has its
 /// tree: at most 256 paths of at most 64 names, so at most 32,640 comparisons, each of which ends where the trees first differ.
 /// Else the cost is one pass over the code.
-pub fn trim<A: Allocator + Copy>(alloc: A, code: Code<A>) -> Result<Lean<A>, (Code<A>, OutOfMemory)>
-    ensures trimmed { IfOk result (λ lean. lean.trees ≡ trees_in code) }
-    ensures back { IfErr result (λ refusal. refusal.0 ≡ code) }
+pub fn trim<'d, A: Allocator + Copy>(
+    alloc: A,
+    code: Code<'d, A>,
+) -> Result<Lean<A>, (Code<'d, A>, OutOfMemory)>
+    ensures trimmed { IfOk result (λ lean. lean.trees ≡ trees_in code.entry) }
+    ensures back { IfErr result (λ refusal. refusal.0 ≡ code.entry) }
 {
     match trimmed(alloc, &code) {
         Ok(lean) => Ok(lean),

@@ -26,6 +26,7 @@ fn reach<A: Allocator + Copy>(values: &mut Vec<u64, A>, places: usize) -> Result
 }
 
 /// Writes a value at its number, and 0 in the places below it that weren't there.
+#[tactic(auto, using(crate::proofs::Appended::put_next))]
 fn put_at<A: Allocator + Copy>(
     values: &mut Vec<u64, A>,
     number: u32,
@@ -34,6 +35,10 @@ fn put_at<A: Allocator + Copy>(
     ensures { OnOk result (values.new.items ≡ put_value values.old.items number value) }
 {
     let place = number as usize;
+    if place == values.len() {
+        values.push(value)?;
+        return Ok(());
+    }
     reach(values, place + 1)?;
     values[place] = value;
     Ok(())

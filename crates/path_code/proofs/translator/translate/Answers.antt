@@ -106,3 +106,13 @@ invariant_of-result g c =
     let ps : List Path = c.args.decl.now.declaration.paths in
     let all : take c.loop-number.number ps ≡ ps = take_all c.loop-number.number ps (omega arith) in
     (subst LawfulPaths (sym (c.loop-number.invariant.shown ∙ all)) (lawful_paths _ c.args.decl.now.lawful), tt)
+
+pub invariant_of-result-2 : goal.invariant_of-result-2
+invariant_of-result-2 g c =
+    let ps : List Path = c.args.decl.now.declaration.paths in
+    let all : take c.loop-number.number ps ≡ ps = take_all c.loop-number.number ps (omega arith) in
+    let i = c.loop-number.invariant in
+    record {
+      declared = i.shown ∙ all;
+      table = subst (λ xs. ArePathCodes (sites xs) c.loop-number.paths.items) (sym i.shown) i.table;
+    }

@@ -1,7 +1,8 @@
 -- Each path is compared with those before it, and all of them are the trimmed table.
-use Rattle.std.proofs.Common.{◌≡◌, ◌≤◌, length, take, subst, sym, ap, ◌∙◌, arith}
+use Rattle.std.proofs.Common.{◌≡◌, ◌≤◌, List, length, map, take, subst, sym, ap, ◌∙◌, arith}
 use Rattle.std.proofs.lemmas.List.{take_all}
-use Rattle.path_code.specs.Known.{KnownCode}
+use Rattle.path_model.specs.Declarations.{Path, trees}
+use Rattle.path_decl.specs.Known.{KnownDeclaration}
 use Rattle.path_code.specs.PathCodes.{sites}
 use Rattle.path_trim.specs.Trees.{trees_in}
 use Rattle.path_trim.specs.LawfulTrees.{LawfulTrees}
@@ -30,7 +31,9 @@ loop-number-preserved g c =
     ]
 
 pub invariant_of-result : goal.invariant_of-result
-invariant_of-result g c = (subst (λ (v : KnownCode). LawfulTrees (trees_in v)) (sym c.of.ensures) (lawful_trees c.args.code.now.paths c.args.code.now.lawful), tt)
+invariant_of-result g c =
+    let is : c.of.result.value.declaration.paths ≡ c.args.code.now.paths = ap (λ (k : KnownDeclaration). k.declaration.paths) c.of.ensures ∙ c.decl.ensures in
+    (subst (λ (ps : List Path). LawfulTrees (map (λ p. p.tree) ps)) (sym is) (lawful_trees c.args.code.now.paths c.args.code.now.lawful), tt)
 
 pub invariant_of-result-2 : goal.invariant_of-result-2
 invariant_of-result-2 g c =
@@ -38,9 +41,9 @@ invariant_of-result-2 g c =
     let all : length xs ≤ c.loop-number.number = let n = codes_length xs c.paths-paths.result.now c.paths-paths.ensures.table in omega (arith, c.loop-number-test.false) in
     let whole : take c.loop-number.number xs ≡ xs = take_all c.loop-number.number xs all in
     let made : Made c.loop-number.parts xs = subst (Made c.loop-number.parts) whole c.loop-number.invariant in
-    let is : c.args.code.now ≡ c.of.result.value = sym c.of.ensures in
+    let is : trees_in c.args.code.now ≡ trees c.of.result.value.declaration = sym (ap (λ (k : KnownDeclaration). trees k.declaration) c.of.ensures ∙ ap (λ (ps : List Path). map (λ p. p.tree) ps) c.decl.ensures) in
     record {
-      table = made.table ∙ ap (λ (v : KnownCode). lean_table (trees_in v)) is;
-      removed = made.removed ∙ ap (λ (v : KnownCode). removed_list (trees_in v)) is;
-      fates = made.fates ∙ ap (λ (v : KnownCode). fates_of (compared (trees_in v))) is;
+      table = made.table ∙ ap lean_table is;
+      removed = made.removed ∙ ap removed_list is;
+      fates = made.fates ∙ ap (λ ss. fates_of (compared ss)) is;
     }
