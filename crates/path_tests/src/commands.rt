@@ -4,7 +4,7 @@ use crate::writers::{Failing, Full};
 use path_commands::{ROOM, Status, check_to, trace_bytes};
 use refusing::Refusing;
 use std::alloc::Global;
-use std::io::ErrorKind;
+use std::io::{ErrorKind, Write};
 use std::process::Abort;
 
 const SLOT: &[u8] = b"resource slot cell operation deposit, remove path deposit ; remove end end";
@@ -101,48 +101,55 @@ fn other_trees(rt: HostRuntime) {
     );
 }
 
-#[test]
-fn a_full_writer(rt: HostRuntime) {
-    let heap = rt.alloc();
+// A check into this writer ends with this status, having said that.
+fn checks_into<O: Write>(
+    rt: &impl Abort,
+    heap: Global,
+    text: &[u8],
+    out: &mut O,
+    status: Status,
+    said: &[u8],
+) {
     let mut err: Vec<u8> = Vec::new(heap);
-    assert_eq!(rt;
-        check_to(heap, SLOT, &mut Full, &mut err),
-        Status::StreamFailed
-    );
-    assert_eq!(rt; err.as_slice(), b"output: cannot write\n".as_slice());
+    assert_eq!(rt; check_to(heap, text, out, &mut err), status);
+    assert_eq!(rt; err.as_slice(), said);
 }
 
 #[test]
-fn a_fault_that_cannot_be_told(rt: HostRuntime) {
-    let heap = rt.alloc();
+fn a_full_writer(rt: HostRuntime) {
+    let said = b"output: cannot write\n";
+    checks_into(&rt, rt.alloc(), SLOT, &mut Full, Status::StreamFailed, said);
+}
+
+// The texts are refused, and nothing can be told.
+fn cannot_tell(rt: &impl Abort, heap: Global, text: &[u8], attempts: &[u8]) {
     let mut out: Vec<u8> = Vec::new(heap);
-    assert_eq!(rt;
-        check_to(heap, b"", &mut out, &mut Full),
-        Status::StreamFailed
-    );
-    assert_eq!(rt;
-        trace_bytes(heap, b"", ROOM, b"", &mut out, &mut Full),
-        Status::StreamFailed
-    );
+    let checked = check_to(heap, text, &mut out, &mut Full);
+    assert_eq!(rt; checked, Status::StreamFailed);
+    let traced = trace_bytes(heap, text, ROOM, attempts, &mut out, &mut Full);
+    assert_eq!(rt; traced, Status::StreamFailed);
     assert!(rt; out.is_empty());
 }
 
 #[test]
+fn a_fault_that_cannot_be_told(rt: HostRuntime) {
+    cannot_tell(&rt, rt.alloc(), b"", b"");
+}
+
+#[test]
 fn a_print_that_wants_memory(rt: HostRuntime) {
-    let heap = rt.alloc();
-    let mut out = Failing::new(heap, 3, ErrorKind::OutOfMemory);
-    let mut err: Vec<u8> = Vec::new(heap);
-    assert_eq!(rt; check_to(heap, SLOT, &mut out, &mut err), Status::NoMemory);
+    let mut out = Failing::new(rt.alloc(), 3, ErrorKind::OutOfMemory);
+    let said = b"out of memory\n";
+    checks_into(&rt, rt.alloc(), SLOT, &mut out, Status::NoMemory, said);
     assert_eq!(rt; out.bytes.as_slice(), b"resource slot c".as_slice());
-    assert_eq!(rt; err.as_slice(), b"out of memory\n".as_slice());
 }
 
 // Whether the request of this number was made and refused; the status then says so, and nothing was written.
-fn trace_is_refused_at(rt: &impl Abort, heap: Global, number: u64) -> bool {
+fn trace_is_refused_at(rt: &impl Abort, heap: Global, texts: (&[u8], &[u8]), number: u64) -> bool {
     let refusing = Refusing::new(heap, number);
     let mut out: Vec<u8> = Vec::new(heap);
     let mut err: Vec<u8> = Vec::new(heap);
-    let status = trace_bytes(&refusing, SLOT, ROOM, ATTEMPTS, &mut out, &mut err);
+    let status = trace_bytes(&refusing, texts.0, ROOM, texts.1, &mut out, &mut err);
     if !refusing.has_refused() {
         return false;
     }
@@ -152,11 +159,11 @@ fn trace_is_refused_at(rt: &impl Abort, heap: Global, number: u64) -> bool {
 }
 
 // The same of a check.
-fn check_is_refused_at(rt: &impl Abort, heap: Global, number: u64) -> bool {
+fn check_is_refused_at(rt: &impl Abort, heap: Global, text: &[u8], number: u64) -> bool {
     let refusing = Refusing::new(heap, number);
     let mut out: Vec<u8> = Vec::new(heap);
     let mut err: Vec<u8> = Vec::new(heap);
-    let status = check_to(&refusing, SLOT, &mut out, &mut err);
+    let status = check_to(&refusing, text, &mut out, &mut err);
     if !refusing.has_refused() {
         return false;
     }
@@ -168,7 +175,7 @@ fn check_is_refused_at(rt: &impl Abort, heap: Global, number: u64) -> bool {
 #[test]
 fn each_request_of_a_trace_is_refused(rt: HostRuntime) {
     for number in 1..200u64 {
-        if !trace_is_refused_at(&rt, rt.alloc(), number) {
+        if !trace_is_refused_at(&rt, rt.alloc(), (SLOT, ATTEMPTS), number) {
             assert!(rt; number > 1);
             return;
         }
@@ -179,7 +186,7 @@ fn each_request_of_a_trace_is_refused(rt: HostRuntime) {
 #[test]
 fn each_request_of_a_check_is_refused(rt: HostRuntime) {
     for number in 1..200u64 {
-        if !check_is_refused_at(&rt, rt.alloc(), number) {
+        if !check_is_refused_at(&rt, rt.alloc(), SLOT, number) {
             assert!(rt; number > 1);
             return;
         }

@@ -141,22 +141,25 @@ fn nested_braces_are_refused(rt: HostRuntime) {
     );
 }
 
-#[test]
-fn a_full_writer(rt: HostRuntime) {
-    let mut err: Vec<u8> = Vec::new(rt.alloc());
-    assert_eq!(rt;
-        compile_to(rt.alloc(), LONE_BURST, &mut Full, &mut err),
-        Status::StreamFailed
-    );
+// Compiling the text into a writer that takes nothing says so.
+fn cannot_write(rt: &impl Abort, heap: Global, text: &[u8]) {
+    let mut err: Vec<u8> = Vec::new(heap);
+    let ended = compile_to(heap, text, &mut Full, &mut err);
+    assert_eq!(rt; ended, Status::StreamFailed);
     assert_eq!(rt; err.as_slice(), b"output: cannot write\n".as_slice());
 }
 
+#[test]
+fn a_full_writer(rt: HostRuntime) {
+    cannot_write(&rt, rt.alloc(), LONE_BURST);
+}
+
 // Whether the request of this number was made and refused; the status then says so, and nothing was written.
-fn is_refused_at(rt: &impl Abort, heap: Global, number: u64) -> bool {
+fn is_refused_at(rt: &impl Abort, heap: Global, text: &[u8], number: u64) -> bool {
     let refusing = Refusing::new(heap, number);
     let mut out: Vec<u8> = Vec::new(heap);
     let mut err: Vec<u8> = Vec::new(heap);
-    let status = compile_to(&refusing, LONE_BURST, &mut out, &mut err);
+    let status = compile_to(&refusing, text, &mut out, &mut err);
     if !refusing.has_refused() {
         return false;
     }
@@ -168,7 +171,7 @@ fn is_refused_at(rt: &impl Abort, heap: Global, number: u64) -> bool {
 #[test]
 fn each_request_is_refused(rt: HostRuntime) {
     for number in 1..400u64 {
-        if !is_refused_at(&rt, rt.alloc(), number) {
+        if !is_refused_at(&rt, rt.alloc(), LONE_BURST, number) {
             assert!(rt; number > 1);
             return;
         }

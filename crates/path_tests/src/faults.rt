@@ -4,6 +4,17 @@ use path_commands::{Fault, Status, tell};
 use path_lex::DeclFault;
 use path_lines::TextFault;
 use path_system::OpenFault;
+use std::alloc::Global;
+use std::process::Abort;
+
+// Each fault is told with this exit status and this text.
+fn are_told(rt: &impl Abort, heap: Global, rows: &[(Fault<'_>, u8, &str)]) {
+    for (fault, number, want) in rows {
+        let mut err: Vec<u8> = Vec::new(heap);
+        assert_eq!(rt; u8::from(tell(&mut err, *fault)), *number);
+        assert_eq!(rt; err.as_slice(), want.as_bytes());
+    }
+}
 
 #[test]
 fn tells_each_fault(rt: HostRuntime) {
@@ -32,11 +43,7 @@ fn tells_each_fault(rt: HostRuntime) {
         (Fault::Text(TextFault::OutOfMemory), 6, "out of memory\n"),
         (Fault::OutOfMemory, 6, "out of memory\n"),
     ];
-    for (fault, number, want) in rows {
-        let mut err: Vec<u8> = Vec::new(rt.alloc());
-        assert_eq!(rt; u8::from(tell(&mut err, fault)), number);
-        assert_eq!(rt; err.as_slice(), want.as_bytes());
-    }
+    are_told(&rt, rt.alloc(), rows.as_slice());
 }
 
 #[test]

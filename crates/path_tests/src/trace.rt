@@ -139,6 +139,22 @@ fn room_ends(rt: HostRuntime) {
     answers_so(&rt, SLOT, attempts.as_str(), want.as_str());
 }
 
+const BAD_FIRST_LINE: (Status, &str) = (Status::TextRefused, "text: bad line 0\n");
+
+// Each text is refused for its first line.
+fn are_bad<R: Abort + AllocGlobal>(rt: &R, texts: &[&str]) {
+    for attempts in texts {
+        is_refused_so(rt, ROOM, attempts, BAD_FIRST_LINE);
+    }
+}
+
+// Each text is refused, and what is beside it said.
+fn are_refused<R: Abort + AllocGlobal>(rt: &R, rows: &[(&str, &str)]) {
+    for (attempts, said) in rows {
+        is_refused_so(rt, ROOM, attempts, (Status::TextRefused, *said));
+    }
+}
+
 #[test]
 fn attempt_texts(rt: HostRuntime) {
     let bad = [
@@ -157,14 +173,7 @@ fn attempt_texts(rt: HostRuntime) {
         "\n1 start deposit",
         "%",
     ];
-    for attempts in bad {
-        is_refused_so(
-            &rt,
-            ROOM,
-            attempts,
-            (Status::TextRefused, "text: bad line 0\n"),
-        );
-    }
+    are_bad(&rt, bad.as_slice());
     let rows = [
         ("1 start insert", "text: undeclared in line 0\n"),
         (
@@ -178,9 +187,7 @@ fn attempt_texts(rt: HostRuntime) {
             "text: undeclared in line 1\n",
         ),
     ];
-    for (attempts, want) in rows {
-        is_refused_so(&rt, ROOM, attempts, (Status::TextRefused, want));
-    }
+    are_refused(&rt, rows.as_slice());
 }
 
 #[test]
@@ -203,12 +210,7 @@ fn bad_room(rt: HostRuntime) {
             "1 start deposit",
             (Status::CommandRefused, "open: bad room\n"),
         );
-        is_refused_so(
-            &rt,
-            room,
-            "1 start #0",
-            (Status::TextRefused, "text: bad line 0\n"),
-        );
+        is_refused_so(&rt, room, "1 start #0", BAD_FIRST_LINE);
     }
 }
 

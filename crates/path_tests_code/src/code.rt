@@ -208,22 +208,19 @@ fn fields_of_a_path(rt: HostRuntime) {
     }
 }
 
-#[test]
-fn translating_wants_memory(rt: HostRuntime) {
-    refuse_in_turn(&rt, rt.alloc(), OutOfMemory, |heap: &Refusing<Global>| {
-        let decl = read_by(&rt, heap, LONE)?;
-        let code = translate(heap, &decl)?;
-        Ok(code.paths().len() == 1)
+// Reading and translating the text want memory in turn, until there is the code of so many paths.
+fn translates_in_turn(rt: &impl Abort, heap: Global, text: &str, paths: usize) {
+    refuse_in_turn(rt, heap, OutOfMemory, |refusing: &Refusing<Global>| {
+        let decl = read_by(rt, refusing, text)?;
+        let code = translate(refusing, &decl)?;
+        Ok(code.paths().len() == paths)
     });
 }
 
 #[test]
-fn translating_several_wants_memory(rt: HostRuntime) {
-    refuse_in_turn(&rt, rt.alloc(), OutOfMemory, |heap: &Refusing<Global>| {
-        let decl = read_by(&rt, heap, SEVERAL)?;
-        let code = translate(heap, &decl)?;
-        Ok(code.paths().len() == 3)
-    });
+fn translating_wants_memory(rt: HostRuntime) {
+    translates_in_turn(&rt, rt.alloc(), LONE, 1);
+    translates_in_turn(&rt, rt.alloc(), SEVERAL, 3);
 }
 
 #[test]

@@ -1,12 +1,9 @@
 //! Braces, with a bound or without, and the faults that they bring.
 
-use crate::decl::{declared, drawn, expect_faults, expect_read};
-use crate::in_turn::refuse_in_turn;
-use path_decl::counts;
+use crate::decl::{declared, draws, expect_faults, expect_read, reads_in_turn};
 use path_lex::DeclFault;
-use path_read::read;
-use refusing::Refusing;
 use std::alloc::{AllocError, Global};
+use std::process::Abort;
 use std::test::Fail;
 
 // A declaration of one operation, a, with this path.
@@ -36,8 +33,15 @@ fn trees_of_braces(rt: HostRuntime) -> Result<(), Fail> {
         (3, "(*1 0)"),
         (4, "(* 0)"),
     ];
+    draws(&rt, heap, &decl, rows.as_slice())?;
+    Ok(())
+}
+
+// A declaration of one operation with each of these paths has the fault beside it.
+fn paths_fault(rt: &impl Abort, heap: Global, rows: &[(&str, DeclFault)]) -> Result<(), Fail> {
     for (path, want) in rows {
-        assert_eq!(rt; drawn(heap, &decl, path)?.as_str(), want, "at {path}");
+        let text = with_path(heap, path)?;
+        expect_faults(rt, heap, &[(text.as_str(), *want)]);
     }
     Ok(())
 }
@@ -54,10 +58,7 @@ fn bounds(rt: HostRuntime) -> Result<(), Fail> {
         ("{ a : 999999999 }", DeclFault::BadCount(39)),
         ("{ a : 1000000000 }", DeclFault::NumberTooLong(39)),
     ];
-    for (path, want) in rows {
-        let text = with_path(heap, path)?;
-        expect_faults(&rt, heap, &[(text.as_str(), want)]);
-    }
+    paths_fault(&rt, heap, rows.as_slice())?;
     for path in ["{ a : 1 }", "{a:10}", "{ a : 65535 }"] {
         expect_read(&rt, heap, with_path(heap, path)?.as_bytes());
     }
@@ -81,11 +82,7 @@ fn unexpected_in_braces(rt: HostRuntime) -> Result<(), Fail> {
         ("{ a : 2", DeclFault::Unexpected(41)),
         ("{ a", DeclFault::Unexpected(37)),
     ];
-    for (path, want) in rows {
-        let text = with_path(heap, path)?;
-        expect_faults(&rt, heap, &[(text.as_str(), want)]);
-    }
-    Ok(())
+    paths_fault(&rt, heap, rows.as_slice())
 }
 
 // Rules are broken at tokens, and the first token counts.
@@ -105,11 +102,7 @@ fn rules_in_the_order_of_tokens(rt: HostRuntime) -> Result<(), Fail> {
         ("{ a , a : 0 }", DeclFault::RepeatedName(39)),
         ("{ a : 2 } ; { a }", DeclFault::RepeatedName(47)),
     ];
-    for (path, want) in rows {
-        let text = with_path(heap, path)?;
-        expect_faults(&rt, heap, &[(text.as_str(), want)]);
-    }
-    Ok(())
+    paths_fault(&rt, heap, rows.as_slice())
 }
 
 #[test]
@@ -175,13 +168,5 @@ fn many_open_braces(rt: HostRuntime) -> Result<(), Fail> {
 fn reading_braces_wants_memory(rt: HostRuntime) {
     let text =
         b"resource r cell operation a, b, c path { a ; b } , { c : 3 } end path { c } end end";
-    refuse_in_turn(
-        &rt,
-        rt.alloc(),
-        DeclFault::OutOfMemory,
-        |heap: &Refusing<Global>| {
-            let decl = read(heap, text)?;
-            Ok(counts(&decl).paths == 2)
-        },
-    );
+    reads_in_turn(&rt, rt.alloc(), text, (3, 2));
 }

@@ -70,11 +70,24 @@ fn draw(heap: Global, tree: &Expr) -> Result<String, AllocError> {
 }
 
 // The drawn tree of a path, or of none.
-pub(crate) fn drawn(heap: Global, decl: &Decl, path: u32) -> Result<String, AllocError> {
+fn drawn(heap: Global, decl: &Decl, path: u32) -> Result<String, AllocError> {
     match tree_of(decl, PathId(path)) {
         Some(tree) => draw(heap, tree),
         None => format!(in heap; "none"),
     }
+}
+
+// The tree of each path is drawn so.
+pub(crate) fn draws(
+    rt: &impl Abort,
+    heap: Global,
+    decl: &Decl,
+    rows: &[(u32, &str)],
+) -> Result<(), AllocError> {
+    for (path, want) in rows {
+        assert_eq!(rt; drawn(heap, decl, *path)?.as_str(), *want, "at {path}");
+    }
+    Ok(())
 }
 
 pub(crate) fn declared(heap: Global, text: &str) -> Result<Decl, DeclFault> {
@@ -163,9 +176,7 @@ fn several_paths(rt: HostRuntime) -> Result<(), Fail> {
         (3, "(; 3 4)"),
         (4, "none"),
     ];
-    for (path, want) in rows {
-        assert_eq!(rt; drawn(rt.alloc(), &decl, path)?.as_str(), want, "at {path}");
-    }
+    draws(&rt, rt.alloc(), &decl, rows.as_slice())?;
     Ok(())
 }
 
@@ -273,18 +284,30 @@ fn stages(rt: HostRuntime) {
     expect_faults(&rt, rt.alloc(), &rows);
 }
 
+// Reading the text wants memory in turn, until it declares so many operations and paths.
+pub(crate) fn reads_in_turn(rt: &impl Abort, heap: Global, text: &[u8], totals: (u32, u32)) {
+    refuse_in_turn(
+        rt,
+        heap,
+        DeclFault::OutOfMemory,
+        |refusing: &Refusing<Global>| {
+            let counts = counts(&read(refusing, text)?);
+            Ok(counts.operations == totals.0 && counts.paths == totals.1)
+        },
+    );
+}
+
 #[test]
 fn reading_wants_memory(rt: HostRuntime) {
     let text = b"resource r cell operation a, b, c path a ; ( b , c ) end path c end end";
-    refuse_in_turn(
-        &rt,
-        rt.alloc(),
-        DeclFault::OutOfMemory,
-        |heap: &Refusing<Global>| {
-            let decl = read(heap, text)?;
-            Ok(counts(&decl).operations == 3)
-        },
-    );
+    reads_in_turn(&rt, rt.alloc(), text, (3, 2));
+}
+
+// Whether each of these is a name.
+fn are_names(rt: &impl Abort, rows: &[(&str, bool)]) {
+    for (text, want) in rows {
+        assert_eq!(rt; is_name(text.as_bytes()), *want, "at {text:?}");
+    }
 }
 
 #[test]
@@ -300,9 +323,15 @@ fn names(rt: HostRuntime) {
         ("a-b", false),
         ("queue", false),
     ];
-    for (text, want) in rows {
-        assert_eq!(rt; is_name(text.as_bytes()), want, "at {text:?}");
+    are_names(&rt, rows.as_slice());
+}
+
+// Each fault has the text beside it.
+fn are_told(rt: &impl Abort, heap: Global, rows: &[(DeclFault, &str)]) -> Result<(), AllocError> {
+    for (fault, want) in rows {
+        assert_eq!(rt; format!(in heap; "{fault}")?.as_str(), *want);
     }
+    Ok(())
 }
 
 #[test]
@@ -327,8 +356,6 @@ fn fault_texts(rt: HostRuntime) -> Result<(), Fail> {
         (DeclFault::TooMany(527), "too many at 527"),
         (DeclFault::OutOfMemory, "out of memory"),
     ];
-    for (fault, want) in rows {
-        assert_eq!(rt; format!(in rt.alloc(); "{fault}")?.as_str(), want);
-    }
+    are_told(&rt, rt.alloc(), rows.as_slice())?;
     Ok(())
 }

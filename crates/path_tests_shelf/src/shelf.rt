@@ -12,17 +12,65 @@ use std::alloc::Global;
 use std::process::Abort;
 use std::sync::Arc;
 use std::sync::atomic::{AtomicU32, Ordering};
-use std::test::Fail;
 
 /// Two resources, both cells.
 const TWO: &[u8] = b"resource r cell operation a end resource t cell operation b end";
+
+/// A device of any kind.
+type AnyDevice = Box<dyn Device + Send>;
 
 const FIRST: ResId = ResId(0);
 
 const SECOND: ResId = ResId(1);
 
+fn declared(rt: &impl Abort, alloc: Global, text: &[u8]) -> Decl {
+    read(alloc, text).expect(rt, "it is a declaration")
+}
+
 fn two(rt: &impl Abort, alloc: Global) -> Decl {
-    read(alloc, TWO).expect(rt, "it is a declaration")
+    declared(rt, alloc, TWO)
+}
+
+fn cell(rt: &impl Abort, alloc: Global, number: u64) -> AnyDevice {
+    Box::new(alloc, Cell::new(number)).expect(rt, "memory is ample")
+}
+
+fn tally(rt: &impl Abort, alloc: Global, total: u64) -> AnyDevice {
+    Box::new(alloc, Tally::new(total)).expect(rt, "memory is ample")
+}
+
+fn queue(rt: &impl Abort, alloc: Global) -> AnyDevice {
+    let queue = Queue::new(alloc, 1).expect(rt, "memory is ample");
+    Box::new(alloc, queue).expect(rt, "memory is ample")
+}
+
+fn remembering(rt: &impl Abort, alloc: Global, number: u64) -> AnyDevice {
+    let cell = Remembering::new(alloc, number, 1).expect(rt, "memory is ample");
+    Box::new(alloc, cell).expect(rt, "memory is ample")
+}
+
+fn failing_tally(rt: &impl Abort, alloc: Global) -> AnyDevice {
+    let tally = FailingTally {
+        total: 0,
+        uses: 0,
+        fails_at: 0,
+        failures: 0,
+    };
+    Box::new(alloc, tally).expect(rt, "memory is ample")
+}
+
+// A cell that counts its drops.
+fn counted(rt: &impl Abort, alloc: Global, number: u64, drops: &Arc<AtomicU32>) -> AnyDevice {
+    let drops = drops.clone().expect(rt, "clones are few");
+    Box::new(alloc, Counted { number, drops }).expect(rt, "memory is ample")
+}
+
+// Two devices, in order.
+fn both<D: Device>(rt: &impl Abort, alloc: Global, first: D, second: D) -> Vec<D> {
+    let mut devices = Vec::new(alloc);
+    assert!(rt; devices.push(first).is_ok());
+    assert!(rt; devices.push(second).is_ok());
+    devices
 }
 
 // A shelf of two devices.
@@ -57,36 +105,37 @@ fn refused<D: Device>(
 }
 
 #[test]
-fn one_device_for_each_resource(rt: HostRuntime) -> Result<(), Fail> {
+fn one_device_for_each_resource(rt: HostRuntime) {
     let decl = two(&rt, rt.alloc());
     for (count, numbers) in [
         (0, &[][..]),
         (1, &[Some(0)][..]),
         (3, &[Some(0), Some(1), Some(2)][..]),
     ] {
-        let mut devices: Vec<Box<dyn Device + Send>> = Vec::new(rt.alloc());
+        let mut devices = Vec::new(rt.alloc());
         for number in 0..count {
-            devices.push(Box::new(rt.alloc(), Cell::new(number))?)?;
+            assert!(rt; devices.push(cell(&rt, rt.alloc(), number)).is_ok());
         }
         refused(&rt, devices, &decl, ShelfFault::WrongCount, numbers);
     }
-    Ok(())
 }
 
 #[test]
-fn first_of_another_law(rt: HostRuntime) -> Result<(), Fail> {
+fn second_of_another_law(rt: HostRuntime) {
+    let cell = cell(&rt, rt.alloc(), 4);
+    let devices = both(&rt, rt.alloc(), cell, queue(&rt, rt.alloc()));
     let decl = two(&rt, rt.alloc());
-    let mut devices: Vec<Box<dyn Device + Send>> = Vec::new(rt.alloc());
-    devices.push(Box::new(rt.alloc(), Cell::new(4))?)?;
-    devices.push(Box::new(rt.alloc(), Queue::new(rt.alloc(), 1)?)?)?;
     let fault = ShelfFault::WrongDevice(SECOND);
     refused(&rt, devices, &decl, fault, &[Some(4), None]);
-    let mut devices: Vec<Box<dyn Device + Send>> = Vec::new(rt.alloc());
-    devices.push(Box::new(rt.alloc(), Tally::new(5))?)?;
-    devices.push(Box::new(rt.alloc(), Queue::new(rt.alloc(), 1)?)?)?;
+}
+
+#[test]
+fn first_of_another_law(rt: HostRuntime) {
+    let tally = tally(&rt, rt.alloc(), 5);
+    let devices = both(&rt, rt.alloc(), tally, queue(&rt, rt.alloc()));
+    let decl = two(&rt, rt.alloc());
     let fault = ShelfFault::WrongDevice(FIRST);
     refused(&rt, devices, &decl, fault, &[Some(5), None]);
-    Ok(())
 }
 
 // A device acts, and the other stays.
@@ -105,13 +154,10 @@ fn acts<D: Device>(rt: &impl Abort, devices: Vec<D>, decl: &Decl) {
 }
 
 #[test]
-fn one_acts_and_the_other_stays(rt: HostRuntime) -> Result<(), Fail> {
-    let decl = two(&rt, rt.alloc());
-    let mut devices: Vec<Box<dyn Device + Send>> = Vec::new(rt.alloc());
-    devices.push(Box::new(rt.alloc(), Cell::new(1))?)?;
-    devices.push(Box::new(rt.alloc(), Remembering::new(rt.alloc(), 2, 1)?)?)?;
-    acts(&rt, devices, &decl);
-    Ok(())
+fn one_acts_and_the_other_stays(rt: HostRuntime) {
+    let cell = cell(&rt, rt.alloc(), 1);
+    let devices = both(&rt, rt.alloc(), cell, remembering(&rt, rt.alloc(), 2));
+    acts(&rt, devices, &two(&rt, rt.alloc()));
 }
 
 // Another cell takes the first place, and a tally doesn't.
@@ -144,25 +190,16 @@ fn counts_drops<D: Device>(
 }
 
 #[test]
-fn each_device_is_dropped_once(rt: HostRuntime) -> Result<(), Fail> {
+fn each_device_is_dropped_once(rt: HostRuntime) {
+    let Ok(drops) = Arc::new(rt.alloc(), AtomicU32::new(0)) else {
+        panic!(rt; "out of memory");
+    };
+    let first = counted(&rt, rt.alloc(), 1, &drops);
+    let second = counted(&rt, rt.alloc(), 2, &drops);
+    let devices = both(&rt, rt.alloc(), first, second);
+    let cell = cell(&rt, rt.alloc(), 9);
+    let tally = failing_tally(&rt, rt.alloc());
     let decl = two(&rt, rt.alloc());
-    let drops = Arc::new(rt.alloc(), AtomicU32::new(0))?;
-    let mut devices: Vec<Box<dyn Device + Send>> = Vec::new(rt.alloc());
-    for number in 1..3u64 {
-        let drops = drops.clone()?;
-        devices.push(Box::new(rt.alloc(), Counted { number, drops })?)?;
-    }
-    let cell: Box<dyn Device + Send> = Box::new(rt.alloc(), Cell::new(9))?;
-    let tally: Box<dyn Device + Send> = Box::new(
-        rt.alloc(),
-        FailingTally {
-            total: 0,
-            uses: 0,
-            fails_at: 0,
-            failures: 0,
-        },
-    )?;
     counts_drops(&rt, devices, &decl, cell, tally, &drops);
     assert_eq!(rt; drops.load(Ordering::SeqCst), 2);
-    Ok(())
 }

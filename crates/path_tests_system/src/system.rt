@@ -1,6 +1,6 @@
 //! Systems, step by step.
 
-use path_decl::counts;
+use path_decl::{Decl, counts};
 use path_lex::DeclFault;
 use path_read::read;
 use path_model::{ActId, Attempt, OpId, OutOfMemory, PathId, Reply, ResId, Verb};
@@ -18,6 +18,21 @@ const REMOVE: Attempt = Attempt::Start(OpId(1));
 
 const UNKNOWN: Attempt = Attempt::Start(OpId(256));
 
+// The declaration that a text is.
+fn declared<A: Allocator + Copy>(
+    rt: &impl Abort,
+    alloc: A,
+    text: &[u8],
+) -> Result<Decl<A>, OutOfMemory> {
+    match read(alloc, text) {
+        Ok(decl) => Ok(decl),
+        Err(fault) => {
+            assert_eq!(rt; fault, DeclFault::OutOfMemory);
+            Err(OutOfMemory)
+        }
+    }
+}
+
 // A system of the slot, after the steps, each of which is answered as told.
 fn after<A: Allocator + Copy>(
     rt: &impl Abort,
@@ -25,13 +40,7 @@ fn after<A: Allocator + Copy>(
     room: u32,
     steps: &[(u32, Attempt, Reply)],
 ) -> Result<System<A>, OutOfMemory> {
-    let decl = match read(alloc, SLOT) {
-        Ok(decl) => decl,
-        Err(fault) => {
-            assert_eq!(rt; fault, DeclFault::OutOfMemory);
-            return Err(OutOfMemory);
-        }
-    };
+    let decl = declared(rt, alloc, SLOT)?;
     let mut system = match System::open(alloc, decl, room) {
         Ok(system) => system,
         Err(fault) => {
@@ -157,8 +166,8 @@ fn rooms_are_refused_at_the_limit(rt: HostRuntime) {
         (1048577, false),
         (u32::MAX, false),
     ] {
-        let Ok(decl) = read(rt.alloc(), SLOT) else {
-            panic!(rt; "no declaration");
+        let Ok(decl) = declared(&rt, rt.alloc(), SLOT) else {
+            panic!(rt; "out of memory");
         };
         match System::open(rt.alloc(), decl, room) {
             Ok(system) => assert!(rt; want && system.journal().is_empty()),

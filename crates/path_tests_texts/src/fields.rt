@@ -38,41 +38,63 @@ fn numbers(rt: HostRuntime) {
 
 #[test]
 fn cuts_at_the_first(rt: HostRuntime) {
-    assert_eq!(rt;
-        cut(b"1 use 0", b' '),
-        Some((b"1".as_slice(), b"use 0".as_slice()))
-    );
-    assert_eq!(rt; cut(b"", b' '), None);
-    assert_eq!(rt;
-        until(b"a\nb\n", b'\n'),
-        (b"a".as_slice(), b"\nb\n".as_slice())
-    );
-    assert_eq!(rt; until(b"a", b'\n'), (b"a".as_slice(), b"".as_slice()));
+    let rows: [(&[u8], Option<(&[u8], &[u8])>); 2] = [
+        (b"1 use 0", Some((b"1", b"use 0"))),
+        (b"", None),
+    ];
+    for (text, parts) in rows {
+        assert_eq!(rt; cut(text, b' '), parts, "at {text:?}");
+    }
+    let rows: [(&[u8], (&[u8], &[u8])); 2] = [(b"a\nb\n", (b"a", b"\nb\n")), (b"a", (b"a", b""))];
+    for (text, parts) in rows {
+        assert_eq!(rt; until(text, b'\n'), parts, "at {text:?}");
+    }
 }
 
 #[test]
 fn strips_a_front(rt: HostRuntime) {
-    assert_eq!(rt; strip(b"put 7", b"put "), Some(b"7".as_slice()));
-    assert_eq!(rt; strip(b"put ", b"put "), Some(b"".as_slice()));
-    assert_eq!(rt; strip(b"pu", b"put "), None);
-    assert_eq!(rt; strip(b"add 7", b"put "), None);
+    let rows: [(&[u8], Option<&[u8]>); 4] = [
+        (b"put 7", Some(b"7")),
+        (b"put ", Some(b"")),
+        (b"pu", None),
+        (b"add 7", None),
+    ];
+    for (text, rest) in rows {
+        assert_eq!(rt; strip(text, b"put "), rest, "at {text:?}");
+    }
 }
 
 #[test]
 fn ends_of_lines(rt: HostRuntime) {
-    assert_eq!(rt; at_end(b""), Some(b"".as_slice()));
-    assert_eq!(rt; at_end(b"\nx"), Some(b"\nx".as_slice()));
-    assert_eq!(rt; at_end(b"x"), None);
-    assert_eq!(rt; at_end(b"\r\n"), None);
-    assert_eq!(rt; last_number(b"7\n8"), Some((7, b"\n8".as_slice())));
-    assert_eq!(rt;
-        last_number(b"18446744073709551615"),
-        Some((u64::MAX, b"".as_slice()))
-    );
-    assert_eq!(rt; last_number(b"7 \n"), None);
-    assert_eq!(rt; last_number(b"07\n"), None);
-    assert_eq!(rt; last_number(b"\n"), None);
-    assert_eq!(rt; after_line(b"ab\ncd", 2), b"cd".as_slice());
-    assert_eq!(rt; after_line(b"ab\n", 2), b"".as_slice());
-    assert_eq!(rt; after_line(b"ab", 2), b"".as_slice());
+    let rows: [(&[u8], Option<&[u8]>); 4] = [
+        (b"", Some(b"")),
+        (b"\nx", Some(b"\nx")),
+        (b"x", None),
+        (b"\r\n", None),
+    ];
+    for (text, rest) in rows {
+        assert_eq!(rt; at_end(text), rest, "at {text:?}");
+    }
+}
+
+#[test]
+fn numbers_at_ends_of_lines(rt: HostRuntime) {
+    let rows: [(&[u8], Option<(u64, &[u8])>); 5] = [
+        (b"7\n8", Some((7, b"\n8"))),
+        (b"18446744073709551615", Some((u64::MAX, b""))),
+        (b"7 \n", None),
+        (b"07\n", None),
+        (b"\n", None),
+    ];
+    for (text, want) in rows {
+        assert_eq!(rt; last_number(text), want, "at {text:?}");
+    }
+}
+
+#[test]
+fn what_comes_after_a_line(rt: HostRuntime) {
+    let rows: [(&[u8], &[u8]); 3] = [(b"ab\ncd", b"cd"), (b"ab\n", b""), (b"ab", b"")];
+    for (text, rest) in rows {
+        assert_eq!(rt; after_line(text, text.len().min(2)), rest, "at {text:?}");
+    }
 }

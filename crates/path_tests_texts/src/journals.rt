@@ -1,15 +1,13 @@
 //! Texts of journals.
 
+use crate::declaration::declared;
 use path_decl::Decl;
-use path_read::read;
 use path_journal::{read_journal, write_head};
 use path_lines::{TextFault, write_line};
-use path_model::{
-    ActId, Attempt, JournalText, Line, MOST_LINES, OpId, OutOfMemory, PathId, Reply, Verb,
-};
+use path_model::{ActId, Attempt, Line, MOST_LINES, OpId, OutOfMemory, PathId, Reply, Verb};
 use refusing::Refusing;
-use std::alloc::Allocator;
-use std::test::Fail;
+use std::alloc::{Allocator, Global};
+use std::process::Abort;
 
 const DECLARATION: &[u8] =
     b"resource slot cell operation deposit, remove path deposit ; remove end end";
@@ -55,12 +53,22 @@ fn fault_of<A: Allocator + Copy>(alloc: A, decl: &Decl<A>, text: &str) -> Option
     }
 }
 
+// The text of a line is a journal of that line.
+fn is_read_again(rt: &impl Abort, heap: Global, decl: &Decl, line: Line) {
+    let Ok(text) = write_line(heap, decl, &line) else {
+        panic!(rt; "no memory");
+    };
+    let Ok(journal) = read_journal(heap, decl, text.as_bytes()) else {
+        panic!(rt; "refused: {text}");
+    };
+    assert_eq!(rt; journal.room, None);
+    assert_eq!(rt; journal.lines.as_slice(), [line].as_slice());
+}
+
 /// What is written is read again, each reply after each attempt.
 #[test]
 fn reads_what_was_written(rt: HostRuntime) {
-    let Ok(decl) = read(rt.alloc(), DECLARATION) else {
-        panic!(rt; "no declaration");
-    };
+    let decl = declared(&rt, rt.alloc(), DECLARATION);
     for attempt in ATTEMPTS {
         for reply in REPLIES {
             let line = Line {
@@ -68,23 +76,35 @@ fn reads_what_was_written(rt: HostRuntime) {
                 attempt,
                 reply,
             };
-            let Ok(text) = write_line(rt.alloc(), &decl, &line) else {
-                panic!(rt; "no memory");
-            };
-            let Ok(journal) = read_journal(rt.alloc(), &decl, text.as_bytes()) else {
-                panic!(rt; "refused: {text}");
-            };
-            assert_eq!(rt; journal.room, None);
-            assert_eq!(rt; journal.lines.as_slice(), [line].as_slice());
+            is_read_again(&rt, rt.alloc(), &decl, line);
         }
+    }
+}
+
+// Each text, with the room that it names, and how many of these lines it has, from the first on.
+fn reads_so(
+    rt: &impl Abort,
+    heap: Global,
+    decl: &Decl,
+    lines: &[Line],
+    rows: &[(&str, Option<u32>, usize)],
+) {
+    for (text, room, count) in rows {
+        let Ok(journal) = read_journal(heap, decl, text.as_bytes()) else {
+            panic!(rt; "refused: {text}");
+        };
+        assert_eq!(rt; journal.room, *room, "at {text}");
+        assert_eq!(rt;
+            Some(journal.lines.as_slice()),
+            lines.get(..*count),
+            "at {text}"
+        );
     }
 }
 
 #[test]
 fn reads_lines_of_both_versions(rt: HostRuntime) {
-    let Ok(decl) = read(rt.alloc(), DECLARATION) else {
-        panic!(rt; "no declaration");
-    };
+    let decl = declared(&rt, rt.alloc(), DECLARATION);
     let first = Line {
         worker: 1,
         attempt: Attempt::Start(OpId(0)),
@@ -121,23 +141,25 @@ fn reads_lines_of_both_versions(rt: HostRuntime) {
             2,
         ),
     ];
-    for (text, room, count) in rows {
-        assert!(rt; count <= 2);
-        let Ok(journal) = read_journal(rt.alloc(), &decl, text.as_bytes()) else {
-            panic!(rt; "refused: {text}");
-        };
-        let JournalText { room: told, lines } = journal;
-        assert_eq!(rt; told, room, "at {text}");
-        assert_eq!(rt; lines.as_slice(), &[first, second][..count], "at {text}");
+    let lines = [first, second];
+    reads_so(&rt, rt.alloc(), &decl, lines.as_slice(), rows.as_slice());
+}
+
+// Each of these texts has a bad first line.
+fn are_bad(rt: &impl Abort, heap: Global, decl: &Decl, texts: &[&str]) {
+    for text in texts {
+        assert_eq!(rt;
+            fault_of(heap, decl, text),
+            Some(TextFault::BadLine(0)),
+            "at {text:?}"
+        );
     }
 }
 
 /// No line has a second spelling.
 #[test]
 fn refuses_second_spellings(rt: HostRuntime) {
-    let Ok(decl) = read(rt.alloc(), DECLARATION) else {
-        panic!(rt; "no declaration");
-    };
+    let decl = declared(&rt, rt.alloc(), DECLARATION);
     let bad = [
         "\n",
         " ",
@@ -186,21 +208,13 @@ fn refuses_second_spellings(rt: HostRuntime) {
         "%",
         "Journal 2 room 2",
     ];
-    for text in bad {
-        assert_eq!(rt;
-            fault_of(rt.alloc(), &decl, text),
-            Some(TextFault::BadLine(0)),
-            "at {text:?}"
-        );
-    }
+    are_bad(&rt, rt.alloc(), &decl, bad.as_slice());
 }
 
 /// A first line that begins with `j` is a head, or bad.
 #[test]
 fn refuses_other_heads(rt: HostRuntime) {
-    let Ok(decl) = read(rt.alloc(), DECLARATION) else {
-        panic!(rt; "no declaration");
-    };
+    let decl = declared(&rt, rt.alloc(), DECLARATION);
     let bad = [
         "j",
         "journal",
@@ -223,21 +237,20 @@ fn refuses_other_heads(rt: HostRuntime) {
         "j\n1 start deposit: started 0\n",
         "journal 2 room 0\n1 start deposit: started 0\n",
     ];
-    for text in bad {
-        assert_eq!(rt;
-            fault_of(rt.alloc(), &decl, text),
-            Some(TextFault::BadLine(0)),
-            "at {text:?}"
-        );
+    are_bad(&rt, rt.alloc(), &decl, bad.as_slice());
+}
+
+// Each text is refused with the fault beside it.
+fn are_refused(rt: &impl Abort, heap: Global, decl: &Decl, rows: &[(&str, TextFault)]) {
+    for (text, want) in rows {
+        assert_eq!(rt; fault_of(heap, decl, text), Some(*want), "at {text:?}");
     }
 }
 
 /// The first faulty line is named, and the head is a line.
 #[test]
 fn names_the_first_faulty_line_of_a_journal(rt: HostRuntime) {
-    let Ok(decl) = read(rt.alloc(), DECLARATION) else {
-        panic!(rt; "no declaration");
-    };
+    let decl = declared(&rt, rt.alloc(), DECLARATION);
     let rows = [
         ("1 start deposit: started 0\n\n", TextFault::BadLine(1)),
         (
@@ -277,35 +290,26 @@ fn names_the_first_faulty_line_of_a_journal(rt: HostRuntime) {
             TextFault::BadLine(1),
         ),
     ];
-    for (text, want) in rows {
-        assert_eq!(rt;
-            fault_of(rt.alloc(), &decl, text),
-            Some(want),
-            "at {text:?}"
-        );
+    are_refused(&rt, rt.alloc(), &decl, rows.as_slice());
+}
+
+// The head of a room has this text, which is a journal without lines.
+fn has_head(rt: &impl Abort, heap: Global, decl: &Decl, room: u32, want: &str) {
+    assert!(rt; 1 <= room && room <= MOST_LINES);
+    match write_head(heap, room) {
+        Ok(text) => assert_eq!(rt; text.as_str(), want),
+        Err(OutOfMemory) => panic!(rt; "no memory"),
     }
+    reads_so(rt, heap, decl, &[], &[(want, Some(room), 0)]);
 }
 
 #[test]
-fn each_head_is_read_again(rt: HostRuntime) -> Result<(), Fail> {
-    let Ok(decl) = read(rt.alloc(), DECLARATION) else {
-        panic!(rt; "no declaration");
-    };
-    let rows = [
-        (1, "journal 2 room 1"),
-        (2, "journal 2 room 2"),
-        (4096, "journal 2 room 4096"),
-        (1_048_576, "journal 2 room 1048576"),
-    ];
-    for (room, want) in rows {
-        assert!(rt; 1 <= room && room <= MOST_LINES);
-        let text = write_head(rt.alloc(), room)?;
-        assert_eq!(rt; text.as_str(), want);
-        let journal = read_journal(rt.alloc(), &decl, want.as_bytes())?;
-        assert_eq!(rt; journal.room, Some(room));
-        assert!(rt; journal.lines.is_empty());
-    }
-    Ok(())
+fn each_head_is_read_again(rt: HostRuntime) {
+    let decl = declared(&rt, rt.alloc(), DECLARATION);
+    has_head(&rt, rt.alloc(), &decl, 1, "journal 2 room 1");
+    has_head(&rt, rt.alloc(), &decl, 2, "journal 2 room 2");
+    has_head(&rt, rt.alloc(), &decl, 4096, "journal 2 room 4096");
+    has_head(&rt, rt.alloc(), &decl, 1_048_576, "journal 2 room 1048576");
 }
 
 #[test]
@@ -325,27 +329,32 @@ fn each_request_of_a_head_is_refused(rt: HostRuntime) {
     panic!(rt; "never passed");
 }
 
+// How many lines a text has where this request is refused, and whether it was made.
+fn counted_without(
+    heap: Global,
+    decl: &Decl,
+    text: &[u8],
+    number: u64,
+) -> (Result<usize, TextFault>, bool) {
+    let refusing = Refusing::new(heap, number);
+    match read_journal(&refusing, decl, text) {
+        Ok(journal) => (Ok(journal.lines.len()), refusing.has_refused()),
+        Err(fault) => (Err(fault), refusing.has_refused()),
+    }
+}
+
 #[test]
 fn each_request_of_a_journal_is_refused(rt: HostRuntime) {
-    let Ok(decl) = read(rt.alloc(), DECLARATION) else {
-        panic!(rt; "no declaration");
-    };
-    let texts = [
-        "1 start deposit: started 0\n1 finish 0: finished\n",
-        "journal 2 room 2\n1 start deposit: started 0\n1 finish 0: finished",
+    let decl = declared(&rt, rt.alloc(), DECLARATION);
+    let texts: [&[u8]; 2] = [
+        b"1 start deposit: started 0\n1 finish 0: finished\n",
+        b"journal 2 room 2\n1 start deposit: started 0\n1 finish 0: finished",
     ];
     for text in texts {
-        let refusing = Refusing::new(rt.alloc(), 1);
-        match read_journal(&refusing, &decl, text.as_bytes()) {
-            Ok(_) => panic!(rt; "not refused"),
-            Err(fault) => assert_eq!(rt; fault, TextFault::OutOfMemory),
-        }
-        assert!(rt; refusing.has_refused());
-        let refusing = Refusing::new(rt.alloc(), 2);
-        let Ok(journal) = read_journal(&refusing, &decl, text.as_bytes()) else {
-            panic!(rt; "refused");
-        };
-        assert_eq!(rt; journal.lines.len(), 2);
-        assert!(rt; !refusing.has_refused());
+        assert_eq!(rt;
+            counted_without(rt.alloc(), &decl, text, 1),
+            (Err(TextFault::OutOfMemory), true)
+        );
+        assert_eq!(rt; counted_without(rt.alloc(), &decl, text, 2), (Ok(2), false));
     }
 }

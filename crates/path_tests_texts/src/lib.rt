@@ -5,6 +5,8 @@
 #[cfg(test)]
 mod attempts;
 #[cfg(test)]
+mod declaration;
+#[cfg(test)]
 mod fields;
 #[cfg(test)]
 mod journals;

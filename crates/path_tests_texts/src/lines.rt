@@ -1,15 +1,30 @@
 //! Texts of lines.
 
-use path_read::read;
+use crate::declaration::declared;
+use path_decl::Decl;
 use path_lines::{push_reply, write_line};
 use path_model::{ActId, Attempt, Line, OpId, OutOfMemory, PathId, Reply, Verb};
 use refusing::Refusing;
+use std::alloc::Global;
+use std::process::Abort;
+
+const DECLARATION: &[u8] = b"resource r cell operation a end";
+
+// The line has this text, and its reply what stands behind the colon.
+fn is_written_so(rt: &impl Abort, heap: Global, decl: &Decl, line: &Line, want: &str) {
+    match write_line(heap, decl, line) {
+        Ok(text) => assert_eq!(rt; text.as_str(), want),
+        Err(OutOfMemory) => panic!(rt; "no memory"),
+    }
+    let mut bytes = Vec::new(heap);
+    assert!(rt; push_reply(&mut bytes, line.reply).is_ok());
+    assert!(rt; want.as_bytes().ends_with(bytes.as_slice()));
+    assert!(rt; want.as_bytes()[..want.len() - bytes.len()].ends_with(b": "));
+}
 
 #[test]
 fn each_reply_has_its_text(rt: HostRuntime) {
-    let Ok(decl) = read(rt.alloc(), b"resource r cell operation a end") else {
-        panic!(rt; "no declaration");
-    };
+    let decl = declared(&rt, rt.alloc(), DECLARATION);
     let rows = [
         (
             Attempt::Start(OpId(0)),
@@ -79,22 +94,13 @@ fn each_reply_has_its_text(rt: HostRuntime) {
             attempt,
             reply,
         };
-        let Ok(text) = write_line(rt.alloc(), &decl, &line) else {
-            panic!(rt; "no memory");
-        };
-        assert_eq!(rt; text.as_str(), want);
-        let mut bytes = Vec::new(rt.alloc());
-        assert!(rt; push_reply(&mut bytes, reply).is_ok());
-        assert!(rt; want.as_bytes().ends_with(bytes.as_slice()));
-        assert!(rt; want.as_bytes()[..want.len() - bytes.len()].ends_with(b": "));
+        is_written_so(&rt, rt.alloc(), &decl, &line, want);
     }
 }
 
 #[test]
 fn each_request_of_a_line_is_refused(rt: HostRuntime) {
-    let Ok(decl) = read(rt.alloc(), b"resource r cell operation a end") else {
-        panic!(rt; "no declaration");
-    };
+    let decl = declared(&rt, rt.alloc(), DECLARATION);
     let line = Line {
         worker: 4_000_000_000,
         attempt: Attempt::Apply(ActId(u64::MAX), Verb::Put(u64::MAX)),

@@ -84,21 +84,22 @@ fn prints_no_needless_parentheses(rt: HostRuntime) {
     );
 }
 
-#[test]
-fn printing_wants_memory(rt: HostRuntime) {
-    let decl = declared(&rt, rt.alloc(), OTHER_TREES);
-    refuse_in_turn(&rt, rt.alloc(), OutOfMemory, |heap: &Refusing<Global>| {
-        let text = print(heap, &decl)?;
-        Ok(text.as_str() == OTHER_TREES)
-    });
-    let decl = declared(&rt, rt.alloc(), POOL);
-    refuse_in_turn(&rt, rt.alloc(), OutOfMemory, |heap: &Refusing<Global>| {
-        let text = print(heap, &decl)?;
-        Ok(text.as_str() == POOL)
+// Printing the text, which is laid out as it is printed, wants memory in turn.
+fn prints_in_turn(rt: &impl Abort, heap: Global, text: &str) {
+    let decl = declared(rt, heap, text);
+    refuse_in_turn(rt, heap, OutOfMemory, |refusing: &Refusing<Global>| {
+        let printed = print(refusing, &decl)?;
+        Ok(printed.as_str() == text)
     });
     let decl = declared(&rt, rt.alloc(), LAWS);
     refuse_in_turn(&rt, rt.alloc(), OutOfMemory, |heap: &Refusing<Global>| {
         let text = print(heap, &decl)?;
         Ok(text.as_str() == LAWS)
     });
+}
+
+#[test]
+fn printing_wants_memory(rt: HostRuntime) {
+    prints_in_turn(&rt, rt.alloc(), OTHER_TREES);
+    prints_in_turn(&rt, rt.alloc(), POOL);
 }
