@@ -1,13 +1,14 @@
 -- What the parts of a system answer is owed by its journal.
-use Rattle.std.proofs.Common.{◌≡◌, ℕ, ◌+◌, ◌<◌, ◌≤◌, Bool, true, false, cond, List, [], ◌∷◌, ◌++◌, All, length, get_or, arith, refl, ap, sym, subst, ◌∙◌, Option, Some, None, inl, inr}
+use Rattle.std.proofs.Common.{◌≡◌, ℕ, ◌+◌, ◌<◌, ◌≤◌, Bool, true, false, cond, List, [], ◌∷◌, ◌++◌, All, length, arith, refl, ap, sym, subst, ◌∙◌, Option, Some, None, Result, Ok, Err, inl, inr}
 use Rattle.std.specs.Prelude.{◌==◌}
+use Rattle.std.proofs.lemmas.List.{length-map}
 use Rattle.std.proofs.lemmas.Bool.{cases_eq}
 use Rattle.std.proofs.lemmas.List.Elements.{All-tail}
 use Rattle.path_model.specs.declared.ids.OpId.{OpId}
 use Rattle.path_model.specs.declared.ids.ActId.{ActId}
 use Rattle.path_model.specs.declared.history.Event.{Event}
 use Rattle.path_model.specs.declared.history.Event.TheVariants.{Began}
-use Rattle.path_model.specs.declared.resource.Law.TheVariants.{Cell}
+use Rattle.path_model.specs.declared.resource.Law.{Law}
 use Rattle.path_model.specs.declared.journal.Verb.{Verb}
 use Rattle.path_model.specs.declared.journal.Attempt.{Attempt}
 use Rattle.path_model.specs.declared.journal.Attempt.TheVariants.{Start, Apply, Finish}
@@ -17,13 +18,17 @@ use Rattle.path_model.specs.declared.journal.Line.{Line}
 use Rattle.path_model.specs.declared.journal.Activation.{Activation}
 use Rattle.path_model.specs.Trees.{Tree}
 use Rattle.path_model.specs.Legal as legal
-use Rattle.path_model.specs.Declarations.{paths_of, resource_of, law_of}
-use Rattle.path_model.specs.Devices.{Outcome, serves, refuses, outcome_of}
+use Rattle.path_model.specs.Declarations.{Resource, paths_of, resource_of, law_of}
+use Rattle.path_model.specs.Devices.{outcome_of}
 use Rattle.path_model.specs.Journals.{live, activation_of, admitted_history}
 use Rattle.path_model.specs.Owed.{by_words, taken, IsOwn, OwedToStart, OwedToUse, OwedToFinish, Owed, outcome_for}
 use Rattle.path_model.specs.Contents.{contents_after}
 use Rattle.path_model.proofs.CallerLemmas.{each_honest_journal_is_legal, live_in_progress}
-use Rattle.path_system.specs.Parts.{PartsValue, Acts, MovesStart, MovesUse, MovesFinish, Moves, has_room, is_own_of, Answers, AreReady, AreTrueTo}
+use Rattle.path_shelf.specs.declared.device.ActFault.{ActFault}
+use Rattle.path_shelf.specs.declared.device.ActFault.TheVariants as faults
+use Rattle.path_shelf.specs.States.{State, Acts, state_at}
+use Rattle.path_shelf.proofs.CallerLemmas.{law_at, would_serve}
+use Rattle.path_system.specs.Parts.{PartsValue, as_reply, MovesStart, MovesUse, MovesFinish, Moves, has_room, is_own_of, Answers, AreReady, AreTrueTo}
 use Rattle.path_system.proofs.Tested.{roomy, not_roomy, roomy_or, not_roomy_or, not_own, own_or_other}
 
 -- where a start keeps a history legal, no path forbids it
@@ -66,32 +71,49 @@ module _ (old : PartsValue) (room : ℕ) (openings : List (List ℕ)) (journal :
   owed_start w a UnknownOperation new fits m = OwedToStart.unknown fits m.0
   owed_start w a reply new fits m = absurd m
 
-  -- the resource of what is live was declared, and is a cell
+  -- the resource of what is live was declared
   pub resource_in : (n : ActId) (a : Activation) → activation_of n old.book.live ≡ Some a → resource_of old.declaration a.op.0 < length old.declaration.resources
   resource_in n a is = s.lawful.operations a.op.0 _ (found_declared (length old.declaration.operations) n old.book.live a s.declared is)
 
-  pub law_is : (r : ℕ) → r < length old.declaration.resources → law_of old.declaration r ≡ Cell
-  law_is r h = s.lawful.cells r _ h
+  -- each resource has a device of its law
+  pub states_count : length old.states ≡ length old.declaration.resources
+  states_count =
+      let e = length-map old.states (λ (x : State). x.law) in
+      let k = length-map old.declaration.resources (λ (x : Resource). x.law) in
+      let l = ap length s.laws in
+      omega (arith, e, k, l)
 
-  outcome_is : (n : ActId) (a : Activation) (verb : Verb) → activation_of n old.book.live ≡ Some a
-      → outcome_for old.declaration openings journal verb a ≡ outcome_of Cell verb (get_or old.cells (resource_of old.declaration a.op.0) 0 ∷ [])
-  outcome_is n a verb is =
-      let within = resource_in n a is in
-      let law = law_is (resource_of old.declaration a.op.0) within in
-      let held = s.contents (resource_of old.declaration a.op.0) within in
-      ap (λ l. outcome_of l verb (contents_after old.declaration openings journal (resource_of old.declaration a.op.0))) law ∙ ap (λ c. outcome_of Cell verb c) held
+  pub law_is : (r : ℕ) → r < length old.declaration.resources → (state_at old.states r).law ≡ law_of old.declaration r
+  law_is r h = law_at old.states old.declaration r s.laws h
 
-  owed_served : (w : ℕ) (n : ActId) (verb : Verb) (a : Activation) (outcome : Outcome) (reply : Reply) (before left : ℕ) → taken journal + 1 ≤ room
-      → IsOwn journal w n a → outcome_for old.declaration openings journal verb a ≡ outcome → Acts outcome reply before left
-      → OwedToUse old.declaration room openings journal w n verb reply
-  owed_served w n verb a (serves x after) reply before left fits own is acts = rw acts.0 (OwedToUse.served a x after fits own is)
-  owed_served w n verb a (refuses r) reply before left fits own is acts = rw acts.0 (OwedToUse.refused a r fits own is)
+  -- what its device does with a verb
+  pub outcome_is : (verb : Verb) (a : Activation) → resource_of old.declaration a.op.0 < length old.declaration.resources
+      → outcome_for old.declaration openings journal verb a
+      ≡ outcome_of (state_at old.states (resource_of old.declaration a.op.0)).law verb (state_at old.states (resource_of old.declaration a.op.0)).contents
+  outcome_is verb a within =
+      let r : ℕ = resource_of old.declaration a.op.0 in
+      ap (λ l. outcome_of l verb (contents_after old.declaration openings journal r)) (sym (law_is r within))
+      ∙ ap (outcome_of (state_at old.states r).law verb) (sym (s.contents r within))
+
+  owed_answered : (w : ℕ) (n : ActId) (verb : Verb) (a : Activation) (answer : Result ℕ ActFault) (left : State) → taken journal + 1 ≤ room
+      → IsOwn journal w n a → resource_of old.declaration a.op.0 < length old.declaration.resources
+      → Acts (state_at old.states (resource_of old.declaration a.op.0)) verb answer left
+      → OwedToUse old.declaration room openings journal w n verb (as_reply answer)
+  owed_answered w n verb a (Ok x) left fits own within acts = OwedToUse.served a x left.contents fits own (outcome_is verb a within ∙ acts.served)
+  owed_answered w n verb a (Err faults.NotOffered) left fits own within acts = OwedToUse.refused a _ fits own (outcome_is verb a within ∙ acts.fault)
+  owed_answered w n verb a (Err faults.Empty) left fits own within acts = OwedToUse.refused a _ fits own (outcome_is verb a within ∙ acts.fault)
+  owed_answered w n verb a (Err faults.Full) left fits own within acts = OwedToUse.refused a _ fits own (outcome_is verb a within ∙ acts.fault)
+  owed_answered w n verb a (Err faults.Overflow) left fits own within acts = OwedToUse.refused a _ fits own (outcome_is verb a within ∙ acts.fault)
+  owed_answered w n verb a (Err faults.Failed) left fits own within acts =
+      let served = would_serve _ acts.fault.0 in
+      OwedToUse.failed a served.0 served.1 fits own (outcome_is verb a within ∙ served.2)
 
   owed_use : (w : ℕ) (n : ActId) (verb : Verb) (o : Option Activation) (reply : Reply) (new : PartsValue) → taken journal + 1 ≤ room
       → activation_of n old.book.live ≡ o → MovesUse old w verb o reply new → OwedToUse old.declaration room openings journal w n verb reply
   owed_use w n verb None reply new fits is m = rw m.0 (OwedToUse.stale fits (found_live n None is))
   owed_use w n verb (Some a) reply new fits is m = elim (cases_eq a.worker w) [
-    | inl own ↦ owed_served w n verb a _ reply _ (m.1 own).left fits (record { found = found_live n (Some a) is; own = own }) (outcome_is n a verb is) (m.1 own).acts
+    | inl own ↦ rw ((m.1 own).told)
+        (owed_answered w n verb a (m.1 own).answer _ fits (record { found = found_live n (Some a) is; own = own }) (resource_in n a is) (m.1 own).acts.acts)
     | inr other ↦ rw ((m.0 other).0) (OwedToUse.not_yours a fits (found_live n (Some a) is) other)
   ]
 
@@ -134,14 +156,14 @@ module _ (old : PartsValue) (room : ℕ) (openings : List (List ℕ)) (journal :
   pub ready : AreReady old
   ready = record {
     lawful = s.lawful;
-    cells = s.cells;
-    declared = λ n a is. found_declared (length old.declaration.operations) n old.book.live a s.declared is;
+    states = states_count;
+    asked = s.asked_count;
+    declared = s.declared;
     running = λ n a is named. (let k = live_in_progress old.declaration room openings journal s.honest n a (found_live n (Some a) is) in let p = s.at.progress a.op named in omega (arith, k, p));
   }
 
--- the resource of what is live has a cell
-pub cell_in : (parts : PartsValue) (n : ActId) (a : Activation) → AreReady parts → activation_of n parts.book.live ≡ Some a → resource_of parts.declaration a.op.0 < length parts.cells
-cell_in parts n a ready is =
-    let within : resource_of parts.declaration a.op.0 < length parts.declaration.resources = ready.lawful.operations a.op.0 _ (ready.declared n a is) in
-    let k = ready.cells in
-    omega (arith, within, k)
+-- the resource of what is live was declared
+pub declared_in : (parts : PartsValue) (n : ActId) (a : Activation) → AreReady parts → activation_of n parts.book.live ≡ Some a
+    → resource_of parts.declaration a.op.0 < length parts.declaration.resources
+declared_in parts n a ready is =
+    ready.lawful.operations a.op.0 _ (found_declared (length parts.declaration.operations) n parts.book.live a ready.declared is)

@@ -1,4 +1,10 @@
+pub mod Unasked
 pub mod Tested
 pub mod Answered
 pub mod Written
+pub mod Roomy
 pub mod Stepped
+pub mod Counted
+pub mod Rows
+pub mod Opened
+pub mod Replaced

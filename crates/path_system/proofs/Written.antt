@@ -1,5 +1,5 @@
 -- After an attempt the parts of a system are what the journal tells with its line.
-use Rattle.std.proofs.Common.{◌≡◌, ◌≢◌, ℕ, ◌<◌, Bool, true, false, List, [], ◌∷◌, ◌++◌, All, length, get_or, arith, refl, ap, sym, subst, ◌∙◌, Option, Some, None, inl, inr, eq-eqb, ne_eqb}
+use Rattle.std.proofs.Common.{◌≡◌, ◌≢◌, ◌↔◌, ℕ, ◌<◌, Bool, true, false, List, [], ◌∷◌, ◌++◌, All, length, get_or, arith, refl, ap, sym, subst, ◌∙◌, Option, Some, None, Result, Ok, Err, inl, inr, eq-eqb, ne_eqb}
 use Rattle.std.specs.Prelude.{◌==◌, not}
 use Rattle.std.proofs.Math.ListN.{set}
 use Rattle.std.proofs.lemmas.Bool.{cases_eq, cond-true, cond-false}
@@ -7,32 +7,65 @@ use Rattle.std.proofs.lemmas.List.{length-set, get_or-set_same, get_or-set_other
 use Rattle.std.proofs.lemmas.List.Elements.{All-cons, All-append, All-filter}
 use Rattle.path_model.specs.declared.ids.OpId.{OpId}
 use Rattle.path_model.specs.declared.ids.ActId.{ActId}
-use Rattle.path_model.specs.declared.resource.Law.TheVariants.{Cell}
 use Rattle.path_model.specs.declared.journal.Verb.{Verb}
-use Rattle.path_model.specs.declared.journal.Verb.TheVariants.{Put, Take, Look, Add}
 use Rattle.path_model.specs.declared.journal.Attempt.{Attempt}
 use Rattle.path_model.specs.declared.journal.Attempt.TheVariants.{Start, Apply, Finish}
 use Rattle.path_model.specs.declared.journal.Reply.{Reply}
-use Rattle.path_model.specs.declared.journal.Reply.TheVariants.{Started, Blocked, UnknownOperation, Used, NotOffered, DeviceFailed, Finished, Stale, NotYours, NoRoom}
+use Rattle.path_model.specs.declared.journal.Reply.TheVariants.{Started, Blocked, UnknownOperation, Used, Finished, Stale, NotYours, NoRoom}
 use Rattle.path_model.specs.declared.journal.Line.{Line}
 use Rattle.path_model.specs.declared.journal.Activation.{Activation}
-use Rattle.path_model.specs.Declarations.{resource_of}
+use Rattle.path_model.specs.Declarations.{resource_of, law_of}
 use Rattle.path_model.specs.Devices.{serves, outcome_of, contents_left}
-use Rattle.path_model.specs.Journals.{IsQuiet, activation_of, admitted_history, without, with_line}
+use Rattle.path_model.specs.Journals.{IsQuiet, activation_of, admitted_history, without}
 use Rattle.path_model.specs.Contents.{contents_after, line_applied, verb_applied}
 use Rattle.path_model.specs.Honest.{IsHonest}
+use Rattle.path_system.specs.Asked.{is_device_reply, resource_asked, IsAsked}
 use Rattle.path_model.proofs.CallerLemmas.{begun_more, begun_quiet, live_quiet, history_quiet, contents_more, quiet_use, quiet_reply, line_of, honest_more, live_started, live_finished, live_found, history_started, history_finished}
+use Rattle.path_system.proofs.Unasked.{asked_by_own, asked_more}
 use Rattle.path_gate.specs.Standings.{IsAt}
 use Rattle.path_ledger.specs.Ledgers.{Book}
-use Rattle.path_system.specs.Parts.{PartsValue, Acts, IsStarted, IsOver, MovesStart, MovesUse, MovesFinish, Moves, has_room, Answers, AreTrueTo}
+use Rattle.path_shelf.specs.declared.device.ActFault.{ActFault}
+use Rattle.path_shelf.specs.declared.device.ActFault.TheVariants as faults
+use Rattle.path_shelf.specs.States.{State, Acts, ActsAt, state_at}
+use Rattle.path_shelf.proofs.CallerLemmas.{laws_acted, others_acted}
+use Rattle.path_system.specs.Parts.{PartsValue, as_reply, IsStarted, IsUse, IsOver, MovesStart, MovesUse, MovesFinish, Moves, has_room, Answers, AreTrueTo}
 use Rattle.path_system.proofs.Answered.{owed_is, found_live, law_is, resource_in}
 
+-- what a device answered is a device's reply, and no fault changes contents
+pub answer_is_device : (answer : Result ℕ ActFault) → is_device_reply (as_reply answer) ≡ true
+answer_is_device (Ok x) = refl
+answer_is_device (Err faults.NotOffered) = refl
+answer_is_device (Err faults.Empty) = refl
+answer_is_device (Err faults.Full) = refl
+answer_is_device (Err faults.Overflow) = refl
+answer_is_device (Err faults.Failed) = refl
+
 module _ (old : PartsValue) (room : ℕ) (openings : List (List ℕ)) (journal : List Line) (s : AreTrueTo old room openings journal) where
+  fault_applied : (r : ℕ) (n : ActId) (verb : Verb) (held : List ℕ) (e : ActFault) → line_applied old.declaration r journal (Apply n verb) (as_reply (Err e)) held ≡ held
+  fault_applied r n verb held faults.NotOffered = refl
+  fault_applied r n verb held faults.Empty = refl
+  fault_applied r n verb held faults.Full = refl
+  fault_applied r n verb held faults.Overflow = refl
+  fault_applied r n verb held faults.Failed = refl
+
+  -- a line that asks none leaves what was asked
+  asked_quiet : (l : Line) → resource_asked old.declaration journal l.attempt l.reply ≡ None → (r : ℕ) → r < length old.declaration.resources
+      → (get_or old.asked r false ≡ true) ↔ IsAsked old.declaration (journal ++ l ∷ []) r
+  asked_quiet l none r within =
+      let more = asked_more old.declaration r journal l in
+      let so_far = s.asked r within in (
+        (λ e. more.1 (inl (so_far.0 e))),
+        (λ k. elim (more.0 k) [ | inl before ↦ so_far.1 before | inr now ↦ absurd (no_resource (sym none ∙ now)) ]),
+      )
+    where
+      no_resource : ◌≡◌ {A = Option ℕ} None (Some r) → ⊥
+      no_resource e = cc
+
   -- a line that moves nothing
-  true_quiet : (w : ℕ) (attempt : Attempt) (reply : Reply) → IsQuiet w attempt reply
+  true_quiet : (w : ℕ) (attempt : Attempt) (reply : Reply) → IsQuiet w attempt reply → resource_asked old.declaration journal attempt reply ≡ None
       → ((r : ℕ) → line_applied old.declaration r journal attempt reply (contents_after old.declaration openings journal r) ≡ contents_after old.declaration openings journal r)
       → IsHonest old.declaration room openings (journal ++ line_of w attempt reply ∷ []) → AreTrueTo old room openings (journal ++ line_of w attempt reply ∷ [])
-  true_quiet w attempt reply quiet kept honest = record {
+  true_quiet w attempt reply quiet none kept honest = record {
     lawful = s.lawful;
     honest = honest;
     paths = s.paths;
@@ -42,8 +75,10 @@ module _ (old : PartsValue) (room : ℕ) (openings : List (List ℕ)) (journal :
     begun = s.begun ∙ sym (begun_quiet journal (line_of w attempt reply) quiet);
     places = s.places;
     declared = s.declared;
-    cells = s.cells;
-    contents = λ r within. contents_more old.declaration openings journal (line_of w attempt reply) r ∙ kept r ∙ s.contents r within;
+    laws = s.laws;
+    contents = λ r within. s.contents r within ∙ sym (kept r) ∙ sym (contents_more old.declaration openings journal (line_of w attempt reply) r);
+    asked_count = s.asked_count;
+    asked = asked_quiet (line_of w attempt reply) none;
   }
 
   -- a start that was admitted
@@ -52,7 +87,7 @@ module _ (old : PartsValue) (room : ℕ) (openings : List (List ℕ)) (journal :
   true_started w a n new m honest =
       let line : Line = line_of w (Start a) (Started n) in
       let begun = begun_more journal line in
-      rw m.declaration (record {
+      rw (m.declaration, m.states, m.asked) (record {
         lawful = s.lawful;
         honest = honest;
         paths = m.standing.paths ∙ s.paths;
@@ -64,8 +99,10 @@ module _ (old : PartsValue) (room : ℕ) (openings : List (List ℕ)) (journal :
         declared = subst (λ (b : Book). All (λ a. a.op.0 < length old.declaration.operations) b.live) (sym m.book)
             (All-append (λ (a : Activation). a.op.0 < length old.declaration.operations) old.book.live _ s.declared
             (All-cons (λ (a : Activation). a.op.0 < length old.declaration.operations) (record { act = n; worker = w; op = a }) [] m.declared (λ k d h. absurd (omega arith))));
-        cells = ap length m.cells ∙ s.cells;
-        contents = λ r within. contents_more old.declaration openings journal line r ∙ s.contents r within ∙ ap (λ c. get_or c r 0 ∷ []) (sym m.cells);
+        laws = s.laws;
+        contents = λ r within. s.contents r within ∙ sym (contents_more old.declaration openings journal line r);
+        asked_count = s.asked_count;
+        asked = asked_quiet line refl;
       })
 
   -- a finish of one's own live activation
@@ -75,7 +112,7 @@ module _ (old : PartsValue) (room : ℕ) (openings : List (List ℕ)) (journal :
       let line : Line = line_of w (Finish n) Finished in
       let found = found_live old room openings journal s n (Some a) is in
       let begun = begun_more journal line in
-      rw m.declaration (record {
+      rw (m.declaration, m.states, m.asked) (record {
         lawful = s.lawful;
         honest = honest;
         paths = m.standing.paths ∙ s.paths;
@@ -86,99 +123,88 @@ module _ (old : PartsValue) (room : ℕ) (openings : List (List ℕ)) (journal :
         places = ap (λ b. b.room) m.book ∙ s.places;
         declared = subst (λ (b : Book). All (λ a. a.op.0 < length old.declaration.operations) b.live) (sym m.book)
             (All-filter (λ (a : Activation). not (a.act.0 == n.0)) (λ (a : Activation). a.op.0 < length old.declaration.operations) old.book.live s.declared);
-        cells = ap length m.cells ∙ s.cells;
-        contents = λ r within. contents_more old.declaration openings journal line r ∙ s.contents r within ∙ ap (λ c. get_or c r 0 ∷ []) (sym m.cells);
+        laws = s.laws;
+        contents = λ r within. s.contents r within ∙ sym (contents_more old.declaration openings journal line r);
+        asked_count = s.asked_count;
+        asked = asked_quiet line refl;
       })
 
-  -- a use changes one cell, as the line tells
-  true_used : (w : ℕ) (n : ActId) (verb : Verb) (reply : Reply) (r left : ℕ) → r < length old.declaration.resources
-      → line_applied old.declaration r journal (Apply n verb) reply (contents_after old.declaration openings journal r) ≡ left ∷ []
-      → ((q : ℕ) → q ≢ r → line_applied old.declaration q journal (Apply n verb) reply (contents_after old.declaration openings journal q) ≡ contents_after old.declaration openings journal q)
-      → IsHonest old.declaration room openings (journal ++ line_of w (Apply n verb) reply ∷ [])
-      → AreTrueTo (record old { cells = set old.cells r left }) room openings (journal ++ line_of w (Apply n verb) reply ∷ [])
-  true_used w n verb reply r left inside here others honest =
-      let line : Line = line_of w (Apply n verb) reply in
-      let quiet = quiet_use w n verb reply in
-      record {
-        lawful = s.lawful;
-        honest = honest;
-        paths = s.paths;
-        at = subst (IsAt old.standing) (sym (history_quiet journal line quiet)) s.at;
-        admitted = s.admitted ∙ sym (begun_quiet journal line quiet);
-        live = s.live ∙ sym (live_quiet journal line quiet);
-        begun = s.begun ∙ sym (begun_quiet journal line quiet);
-        places = s.places;
-        declared = s.declared;
-        cells = length-set old.cells r left ∙ s.cells;
-        contents = λ q within. contents_more old.declaration openings journal line q ∙ elim (cases_eq q r) [
-          | inl same ↦ subst (λ k. line_applied old.declaration k journal (Apply n verb) reply (contents_after old.declaration openings journal k) ≡ get_or (set old.cells r left) k 0 ∷ []) (sym same)
-              (here ∙ ap (λ x. x ∷ []) (sym (get_or-set_same old.cells r left 0 (let k = s.cells in omega (arith, inside, k)))))
-          | inr other ↦ others q other ∙ s.contents q within ∙ ap (λ x. x ∷ []) (sym (get_or-set_other old.cells r q left 0 other))
-        ];
-      }
+  -- a use of one's own live activation asks one device, as the line tells
+  module _ (w : ℕ) (n : ActId) (verb : Verb) (a : Activation) (answer : Result ℕ ActFault) (states : List State) (is : activation_of n old.book.live ≡ Some a) (own : a.worker ≡ w)
+      (acts : ActsAt old.states (resource_of old.declaration a.op.0) verb answer states) where
+    applied_by : (q : ℕ) (x : ℕ) (held : List ℕ) → line_applied old.declaration q journal (Apply n verb) (Used x) held ≡ verb_applied old.declaration q verb (Some a) held
+    applied_by q x held = ap (λ o. verb_applied old.declaration q verb o held) (live_found journal n a (found_live old room openings journal s n (Some a) is))
 
-  -- what a line of a served verb applies
-  applied_here : (n : ActId) (verb : Verb) (a : Activation) (x left : ℕ) → activation_of n old.book.live ≡ Some a
-      → outcome_of Cell verb (get_or old.cells (resource_of old.declaration a.op.0) 0 ∷ []) ≡ serves x (left ∷ [])
-      → line_applied old.declaration (resource_of old.declaration a.op.0) journal (Apply n verb) (Used x) (contents_after old.declaration openings journal (resource_of old.declaration a.op.0)) ≡ left ∷ []
-  applied_here n verb a x left is outcome =
-      let r : ℕ = resource_of old.declaration a.op.0 in
-      let held : List ℕ = contents_after old.declaration openings journal r in
-      let within = resource_in old room openings journal s n a is in
-      ap (λ o. verb_applied old.declaration r verb o held) (live_found journal n a (found_live old room openings journal s n (Some a) is))
-      ∙ cond-true _ _ _ (eq-eqb r r refl)
-      ∙ ap (λ l. contents_left (outcome_of l verb held) held) (law_is old room openings journal s r within)
-      ∙ ap (λ c. contents_left (outcome_of Cell verb c) c) (s.contents r within)
-      ∙ ap (λ o. contents_left o (get_or old.cells r 0 ∷ [])) outcome
+    -- its contents are what its law leaves
+    left_here : (answer : Result ℕ ActFault) (left : State) (r : ℕ) → r ≡ resource_of old.declaration a.op.0 → r < length old.declaration.resources
+        → Acts (state_at old.states r) verb answer left
+        → left.contents ≡ line_applied old.declaration r journal (Apply n verb) (as_reply answer) (contents_after old.declaration openings journal r)
+    left_here (Ok x) left r same within acts =
+        let held : List ℕ = contents_after old.declaration openings journal r in
+        sym (applied_by r x held ∙ cond-true _ _ _ (eq-eqb (resource_of old.declaration a.op.0) r (sym same))
+        ∙ ap (λ l. contents_left (outcome_of l verb held) held) (sym (law_is old room openings journal s r within))
+        ∙ ap (λ c. contents_left (outcome_of (state_at old.states r).law verb c) c) (sym (s.contents r within))
+        ∙ ap (λ o. contents_left o (state_at old.states r).contents) acts.served)
+    left_here (Err e) left r same within acts = acts.kept ∙ s.contents r within ∙ sym (fault_applied r n verb _ e)
 
-  applied_other : (n : ActId) (verb : Verb) (a : Activation) (x : ℕ) → activation_of n old.book.live ≡ Some a → (q : ℕ) → q ≢ resource_of old.declaration a.op.0
-      → line_applied old.declaration q journal (Apply n verb) (Used x) (contents_after old.declaration openings journal q) ≡ contents_after old.declaration openings journal q
-  applied_other n verb a x is q other =
-      ap (λ o. verb_applied old.declaration q verb o (contents_after old.declaration openings journal q)) (live_found journal n a (found_live old room openings journal s n (Some a) is))
-      ∙ cond-false _ _ _ (ne_eqb (resource_of old.declaration a.op.0) q (λ same. other (sym same)))
+    -- and those of all others stay
+    left_other : (answer : Result ℕ ActFault) (q : ℕ) (held : List ℕ) → q ≢ resource_of old.declaration a.op.0
+        → line_applied old.declaration q journal (Apply n verb) (as_reply answer) held ≡ held
+    left_other (Ok x) q held other = applied_by q x held ∙ cond-false _ _ _ (ne_eqb (resource_of old.declaration a.op.0) q (λ same. other (sym same)))
+    left_other (Err e) q held other = fault_applied q n verb held e
 
-  -- the cell served
-  true_served : (w : ℕ) (n : ActId) (verb : Verb) (a : Activation) (x left : ℕ) → activation_of n old.book.live ≡ Some a
-      → outcome_of Cell verb (get_or old.cells (resource_of old.declaration a.op.0) 0 ∷ []) ≡ serves x (left ∷ [])
-      → IsHonest old.declaration room openings (journal ++ line_of w (Apply n verb) (Used x) ∷ [])
-      → AreTrueTo (record old { cells = set old.cells (resource_of old.declaration a.op.0) left }) room openings (journal ++ line_of w (Apply n verb) (Used x) ∷ [])
-  true_served w n verb a x left is outcome honest =
-      true_used w n verb (Used x) (resource_of old.declaration a.op.0) left (resource_in old room openings journal s n a is)
-      (applied_here n verb a x left is outcome) (applied_other n verb a x is) honest
+    asked_this : resource_asked old.declaration journal (Apply n verb) (as_reply answer) ≡ Some (resource_of old.declaration a.op.0)
+    asked_this =
+        asked_by_own old.declaration journal w n a (record { found = found_live old room openings journal s n (Some a) is; own = own }) verb (as_reply answer) (answer_is_device answer)
 
-  -- the cell refused, and kept its number
-  true_refused : (w : ℕ) (n : ActId) (verb : Verb) (a : Activation) (left : ℕ) → activation_of n old.book.live ≡ Some a → left ≡ get_or old.cells (resource_of old.declaration a.op.0) 0
-      → IsHonest old.declaration room openings (journal ++ line_of w (Apply n verb) NotOffered ∷ [])
-      → AreTrueTo (record old { cells = set old.cells (resource_of old.declaration a.op.0) left }) room openings (journal ++ line_of w (Apply n verb) NotOffered ∷ [])
-  true_refused w n verb a left is kept honest =
-      let within = resource_in old room openings journal s n a is in
-      true_used w n verb NotOffered (resource_of old.declaration a.op.0) left within
-      (s.contents (resource_of old.declaration a.op.0) within ∙ ap (λ x. x ∷ []) (sym kept)) (λ q other. refl) honest
+    asked_used : (q : ℕ) → q < length old.declaration.resources
+        → (get_or (set old.asked (resource_of old.declaration a.op.0) true) q false ≡ true) ↔ IsAsked old.declaration (journal ++ line_of w (Apply n verb) (as_reply answer) ∷ []) q
+    asked_used q within =
+        let r : ℕ = resource_of old.declaration a.op.0 in
+        let more = asked_more old.declaration q journal (line_of w (Apply n verb) (as_reply answer)) in
+        elim (cases_eq q r) [
+          | inl same ↦ (
+              (λ e. more.1 (inr (asked_this ∙ ap Some (sym same)))),
+              (λ k. ap (λ p. get_or (set old.asked r true) p false) same
+                  ∙ get_or-set_same old.asked r true false (let k = s.asked_count in let l = resource_in old room openings journal s n a is in omega (arith, k, l))),
+            )
+          | inr other ↦
+              let stays = get_or-set_other old.asked r q true false other in
+              let so_far = s.asked q within in (
+                (λ e. more.1 (inl (so_far.0 (sym stays ∙ e)))),
+                (λ k. elim (more.0 k) [ | inl before ↦ stays ∙ so_far.1 before | inr now ↦ absurd (other (one_resource q r (sym now ∙ asked_this))) ]),
+              )
+        ]
+      where
+        one_resource : (q r : ℕ) → Some q ≡ Some r → q ≡ r
+        one_resource q r e = cc
 
-  as_served : (w : ℕ) (n : ActId) (verb : Verb) (a : Activation) (reply : Reply) (x left : ℕ) → activation_of n old.book.live ≡ Some a
-      → outcome_of Cell verb (get_or old.cells (resource_of old.declaration a.op.0) 0 ∷ []) ≡ serves x (left ∷ []) → reply ≡ Used x
-      → IsHonest old.declaration room openings (journal ++ line_of w (Apply n verb) reply ∷ [])
-      → AreTrueTo (record old { cells = set old.cells (resource_of old.declaration a.op.0) left }) room openings (journal ++ line_of w (Apply n verb) reply ∷ [])
-  as_served w n verb a reply x left is outcome told honest =
-      subst (λ y. AreTrueTo (record old { cells = set old.cells (resource_of old.declaration a.op.0) left }) room openings (journal ++ line_of w (Apply n verb) y ∷ [])) (sym told)
-      (true_served w n verb a x left is outcome (subst (λ y. IsHonest old.declaration room openings (journal ++ line_of w (Apply n verb) y ∷ [])) told honest))
-
-  as_refused : (w : ℕ) (n : ActId) (verb : Verb) (a : Activation) (reply : Reply) (left : ℕ) → activation_of n old.book.live ≡ Some a
-      → left ≡ get_or old.cells (resource_of old.declaration a.op.0) 0 → reply ≡ NotOffered
-      → IsHonest old.declaration room openings (journal ++ line_of w (Apply n verb) reply ∷ [])
-      → AreTrueTo (record old { cells = set old.cells (resource_of old.declaration a.op.0) left }) room openings (journal ++ line_of w (Apply n verb) reply ∷ [])
-  as_refused w n verb a reply left is kept told honest =
-      subst (λ y. AreTrueTo (record old { cells = set old.cells (resource_of old.declaration a.op.0) left }) room openings (journal ++ line_of w (Apply n verb) y ∷ [])) (sym told)
-      (true_refused w n verb a left is kept (subst (λ y. IsHonest old.declaration room openings (journal ++ line_of w (Apply n verb) y ∷ [])) told honest))
-
-  true_acted : (w : ℕ) (n : ActId) (verb : Verb) (a : Activation) (reply : Reply) (left : ℕ) → activation_of n old.book.live ≡ Some a
-      → Acts (outcome_of Cell verb (get_or old.cells (resource_of old.declaration a.op.0) 0 ∷ [])) reply (get_or old.cells (resource_of old.declaration a.op.0) 0) left
-      → IsHonest old.declaration room openings (journal ++ line_of w (Apply n verb) reply ∷ [])
-      → AreTrueTo (record old { cells = set old.cells (resource_of old.declaration a.op.0) left }) room openings (journal ++ line_of w (Apply n verb) reply ∷ [])
-  true_acted w n (Put y) a reply left is acts honest = as_served w n (Put y) a reply _ left is (ap (serves (get_or old.cells (resource_of old.declaration a.op.0) 0)) acts.1) acts.0 honest
-  true_acted w n Look a reply left is acts honest = as_served w n Look a reply _ left is (ap (serves (get_or old.cells (resource_of old.declaration a.op.0) 0)) acts.1) acts.0 honest
-  true_acted w n Take a reply left is acts honest = as_refused w n Take a reply left is acts.1 acts.0 honest
-  true_acted w n (Add y) a reply left is acts honest = as_refused w n (Add y) a reply left is acts.1 acts.0 honest
+    true_asked : IsHonest old.declaration room openings (journal ++ line_of w (Apply n verb) (as_reply answer) ∷ [])
+        → AreTrueTo (record old { states = states; asked = set old.asked (resource_of old.declaration a.op.0) true }) room openings (journal ++ line_of w (Apply n verb) (as_reply answer) ∷ [])
+    true_asked honest =
+        let r : ℕ = resource_of old.declaration a.op.0 in
+        let line : Line = line_of w (Apply n verb) (as_reply answer) in
+        let quiet = quiet_use w n verb (as_reply answer) in
+        record {
+          lawful = s.lawful;
+          honest = honest;
+          paths = s.paths;
+          at = subst (IsAt old.standing) (sym (history_quiet journal line quiet)) s.at;
+          admitted = s.admitted ∙ sym (begun_quiet journal line quiet);
+          live = s.live ∙ sym (live_quiet journal line quiet);
+          begun = s.begun ∙ sym (begun_quiet journal line quiet);
+          places = s.places;
+          declared = s.declared;
+          laws = laws_acted old.states states r verb answer acts ∙ s.laws;
+          contents = λ q within. elim (cases_eq q r) [
+            | inl same ↦ left_here answer (state_at states q) q same within (subst (λ k. Acts (state_at old.states k) verb answer (state_at states k)) (sym same) acts.acts)
+                ∙ sym (contents_more old.declaration openings journal line q)
+            | inr other ↦ ap (λ (x : State). x.contents) (others_acted old.states states r q verb answer acts other) ∙ s.contents q within
+                ∙ sym (left_other answer q _ other) ∙ sym (contents_more old.declaration openings journal line q)
+          ];
+          asked_count = length-set old.asked r true ∙ s.asked_count;
+          asked = asked_used;
+        }
 
   -- a line that refuses
   true_still_line : (w : ℕ) (attempt : Attempt) (reply : Reply) (told : Reply) (new : PartsValue) → reply ≡ told → new ≡ old
@@ -194,31 +220,38 @@ module _ (old : PartsValue) (room : ℕ) (openings : List (List ℕ)) (journal :
       → IsHonest old.declaration room openings (journal ++ line_of w (Start a) reply ∷ []) → AreTrueTo new room openings (journal ++ line_of w (Start a) reply ∷ [])
   true_start w a (Started n) new m honest = true_started w a n new m honest
   true_start w a (Blocked p) new m honest =
-      true_still_line w (Start a) (Blocked p) (Blocked p) new refl m.1 (true_quiet w (Start a) (Blocked p) (quiet_reply w (Start a) (Blocked p) (λ n e. cc) (λ e. cc)) (λ r. refl)) honest
+      true_still_line w (Start a) (Blocked p) (Blocked p) new refl m.1 (true_quiet w (Start a) (Blocked p) (quiet_reply w (Start a) (Blocked p) (λ n e. cc) (λ e. cc)) refl (λ r. refl)) honest
   true_start w a UnknownOperation new m honest =
       true_still_line w (Start a) UnknownOperation UnknownOperation new refl m.1
-      (true_quiet w (Start a) UnknownOperation (quiet_reply w (Start a) UnknownOperation (λ n e. cc) (λ e. cc)) (λ r. refl)) honest
+      (true_quiet w (Start a) UnknownOperation (quiet_reply w (Start a) UnknownOperation (λ n e. cc) (λ e. cc)) refl (λ r. refl)) honest
   true_start w a reply new m honest = absurd m
 
   -- a use
+  true_own : (w : ℕ) (n : ActId) (verb : Verb) (a : Activation) (reply : Reply) (new : PartsValue) → activation_of n old.book.live ≡ Some a → a.worker ≡ w → IsUse old a verb reply new
+      → IsHonest old.declaration room openings (journal ++ line_of w (Apply n verb) reply ∷ []) → AreTrueTo new room openings (journal ++ line_of w (Apply n verb) reply ∷ [])
+  true_own w n verb a reply new is own used honest =
+      subst (λ y. AreTrueTo new room openings (journal ++ line_of w (Apply n verb) y ∷ [])) (sym used.told)
+      (subst (λ p. AreTrueTo p room openings (journal ++ line_of w (Apply n verb) (as_reply used.answer) ∷ [])) (sym used.others)
+      (true_asked w n verb a used.answer new.states is own used.acts (subst (λ y. IsHonest old.declaration room openings (journal ++ line_of w (Apply n verb) y ∷ [])) used.told honest)))
+
   true_use : (w : ℕ) (n : ActId) (verb : Verb) (o : Option Activation) (reply : Reply) (new : PartsValue) → activation_of n old.book.live ≡ o → MovesUse old w verb o reply new
       → IsHonest old.declaration room openings (journal ++ line_of w (Apply n verb) reply ∷ []) → AreTrueTo new room openings (journal ++ line_of w (Apply n verb) reply ∷ [])
   true_use w n verb None reply new is m honest =
-      true_still_line w (Apply n verb) reply Stale new m.0 m.1 (true_quiet w (Apply n verb) Stale (quiet_use w n verb Stale) (λ r. refl)) honest
+      true_still_line w (Apply n verb) reply Stale new m.0 m.1 (true_quiet w (Apply n verb) Stale (quiet_use w n verb Stale) refl (λ r. refl)) honest
   true_use w n verb (Some a) reply new is m honest = elim (cases_eq a.worker w) [
-    | inl own ↦ subst (λ p. AreTrueTo p room openings (journal ++ line_of w (Apply n verb) reply ∷ [])) (sym (m.1 own).others) (true_acted w n verb a reply (m.1 own).left is (m.1 own).acts honest)
-    | inr other ↦ true_still_line w (Apply n verb) reply NotYours new (m.0 other).0 (m.0 other).1 (true_quiet w (Apply n verb) NotYours (quiet_use w n verb NotYours) (λ r. refl)) honest
+    | inl own ↦ true_own w n verb a reply new is own (m.1 own) honest
+    | inr other ↦ true_still_line w (Apply n verb) reply NotYours new (m.0 other).0 (m.0 other).1 (true_quiet w (Apply n verb) NotYours (quiet_use w n verb NotYours) refl (λ r. refl)) honest
   ]
 
   -- a finish
   true_finish : (w : ℕ) (n : ActId) (o : Option Activation) (reply : Reply) (new : PartsValue) → activation_of n old.book.live ≡ o → MovesFinish old w n o reply new
       → IsHonest old.declaration room openings (journal ++ line_of w (Finish n) reply ∷ []) → AreTrueTo new room openings (journal ++ line_of w (Finish n) reply ∷ [])
   true_finish w n None reply new is m honest =
-      true_still_line w (Finish n) reply Stale new m.0 m.1 (true_quiet w (Finish n) Stale (quiet_reply w (Finish n) Stale (λ k e. cc) (λ e. cc)) (λ r. refl)) honest
+      true_still_line w (Finish n) reply Stale new m.0 m.1 (true_quiet w (Finish n) Stale (quiet_reply w (Finish n) Stale (λ k e. cc) (λ e. cc)) refl (λ r. refl)) honest
   true_finish w n (Some a) reply new is m honest = elim (cases_eq a.worker w) [
     | inl own ↦ subst (λ y. AreTrueTo new room openings (journal ++ line_of w (Finish n) y ∷ [])) (sym (m.1 own).told)
         (true_over w n a reply new is (m.1 own) (subst (λ y. IsHonest old.declaration room openings (journal ++ line_of w (Finish n) y ∷ [])) (m.1 own).told honest))
-    | inr other ↦ true_still_line w (Finish n) reply NotYours new (m.0 other).0 (m.0 other).1 (true_quiet w (Finish n) NotYours (quiet_reply w (Finish n) NotYours (λ k e. cc) (λ e. cc)) (λ r. refl)) honest
+    | inr other ↦ true_still_line w (Finish n) reply NotYours new (m.0 other).0 (m.0 other).1 (true_quiet w (Finish n) NotYours (quiet_reply w (Finish n) NotYours (λ k e. cc) (λ e. cc)) refl (λ r. refl)) honest
   ]
 
   true_moved : (w : ℕ) (attempt : Attempt) (reply : Reply) (new : PartsValue) → Moves old w attempt reply new
@@ -237,63 +270,3 @@ module _ (old : PartsValue) (room : ℕ) (openings : List (List ℕ)) (journal :
           (honest_more old.declaration room openings journal (line_of w attempt reply) s.honest (owed_is old room openings journal s w attempt reply new answers) some)
       go false is = absurd (some ((answers.outside is).0))
 
--- the replies that no part gives
-pub record IsPlain (reply : Reply) : Type 0 where
-  pub no_room : reply ≢ NoRoom
-  pub not_failed : reply ≢ DeviceFailed
-
-plain_along : (reply told : Reply) → reply ≡ told → IsPlain told → IsPlain reply
-plain_along reply told is plain = record { no_room = λ e. plain.no_room (sym is ∙ e); not_failed = λ e. plain.not_failed (sym is ∙ e) }
-
-plain_acted : (verb : Verb) (before left : ℕ) (reply : Reply) → Acts (outcome_of Cell verb (before ∷ [])) reply before left → IsPlain reply
-plain_acted (Put y) before left reply acts = plain_along reply _ acts.0 (record { no_room = λ e. cc; not_failed = λ e. cc })
-plain_acted Look before left reply acts = plain_along reply _ acts.0 (record { no_room = λ e. cc; not_failed = λ e. cc })
-plain_acted Take before left reply acts = plain_along reply _ acts.0 (record { no_room = λ e. cc; not_failed = λ e. cc })
-plain_acted (Add y) before left reply acts = plain_along reply _ acts.0 (record { no_room = λ e. cc; not_failed = λ e. cc })
-
-plain_start : (old new : PartsValue) (w : ℕ) (a : OpId) (reply : Reply) → MovesStart old w a reply new → IsPlain reply
-plain_start old new w a (Started n) m = record { no_room = λ e. cc; not_failed = λ e. cc }
-plain_start old new w a (Blocked p) m = record { no_room = λ e. cc; not_failed = λ e. cc }
-plain_start old new w a UnknownOperation m = record { no_room = λ e. cc; not_failed = λ e. cc }
-plain_start old new w a reply m = absurd m
-
-plain_use : (old new : PartsValue) (w : ℕ) (verb : Verb) (o : Option Activation) (reply : Reply) → MovesUse old w verb o reply new → IsPlain reply
-plain_use old new w verb None reply m = plain_along reply Stale m.0 (record { no_room = λ e. cc; not_failed = λ e. cc })
-plain_use old new w verb (Some a) reply m = elim (cases_eq a.worker w) [
-  | inl own ↦ plain_acted verb _ _ reply (m.1 own).acts
-  | inr other ↦ plain_along reply NotYours (m.0 other).0 (record { no_room = λ e. cc; not_failed = λ e. cc })
-]
-
-plain_finish : (old new : PartsValue) (w : ℕ) (n : ActId) (o : Option Activation) (reply : Reply) → MovesFinish old w n o reply new → IsPlain reply
-plain_finish old new w n None reply m = plain_along reply Stale m.0 (record { no_room = λ e. cc; not_failed = λ e. cc })
-plain_finish old new w n (Some a) reply m = elim (cases_eq a.worker w) [
-  | inl own ↦ plain_along reply Finished (m.1 own).told (record { no_room = λ e. cc; not_failed = λ e. cc })
-  | inr other ↦ plain_along reply NotYours (m.0 other).0 (record { no_room = λ e. cc; not_failed = λ e. cc })
-]
-
-plain_moved : (old new : PartsValue) (w : ℕ) (attempt : Attempt) (reply : Reply) → Moves old w attempt reply new → IsPlain reply
-plain_moved old new w (Start a) reply m = plain_start old new w a reply m
-plain_moved old new w (Apply n verb) reply m = plain_use old new w verb (activation_of n old.book.live) reply m
-plain_moved old new w (Finish n) reply m = plain_finish old new w n (activation_of n old.book.live) reply m
-
-module _ (old new : PartsValue) (room lines w : ℕ) (attempt : Attempt) (reply : Reply) (answers : Answers old room lines w attempt reply new) where
-  -- no cell fails
-  pub never_failed : reply ≢ DeviceFailed
-  never_failed failed = go _ refl
-    where
-      go : (has : Bool) → has_room room lines old.book.live w attempt ≡ has → ⊥
-      go true is = (plain_moved old new w attempt reply (answers.inside is)).not_failed failed
-      go false is = let none = (answers.outside is).0 in cc
-
-  -- without room all stays
-  pub stays : reply ≡ NoRoom → new ≡ old
-  stays none = go _ refl
-    where
-      go : (has : Bool) → has_room room lines old.book.live w attempt ≡ has → new ≡ old
-      go true is = absurd ((plain_moved old new w attempt reply (answers.inside is)).no_room none)
-      go false is = (answers.outside is).1
-
--- the journal with a line
-pub with_line_is : (journal : List Line) (w : ℕ) (attempt : Attempt) (reply : Reply) → reply ≢ NoRoom → with_line journal w attempt reply ≡ journal ++ line_of w attempt reply ∷ []
-with_line_is journal w attempt NoRoom other = absurd (other refl)
-with_line_is journal w attempt reply other = refl

@@ -1,2 +1,5 @@
+pub mod Asked
 pub mod Accounts
+pub mod Faults
+pub mod Openings
 pub mod Parts

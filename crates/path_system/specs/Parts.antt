@@ -1,41 +1,53 @@
 -- The parts of a system: what one attempt does to them, and when they are what a journal tells.
 use Rattle.std.specs.Prelude.{◌≡◌, ◌≢◌, ◌==◌, ◌||◌, ◌+◌, ◌<◌, ◌≤◌, nat_le, ℕ, Bool, true, false, List, [], ◌∷◌, ◌++◌}
-use Rattle.std.specs.Prelude.{All, length, slice_index, slice_set, replicate, Option, Some, None}
+use Rattle.std.specs.Prelude.{◌↔◌, All, Any, length, slice_index, slice_index_or, slice_set, replicate, Option, Some, None, Result, Ok, Err}
 use Rattle.path_model.specs.declared.ids.OpId.{OpId}
 use Rattle.path_model.specs.declared.ids.ActId.{ActId}
 use Rattle.path_model.specs.declared.ids.PathId.{PathId}
 use Rattle.path_model.specs.declared.history.Event.{Event}
 use Rattle.path_model.specs.declared.history.Event.TheVariants.{Began}
-use Rattle.path_model.specs.declared.resource.Law.TheVariants.{Cell}
+use Rattle.path_model.specs.declared.resource.Law.{Law}
 use Rattle.path_model.specs.declared.journal.Verb.{Verb}
 use Rattle.path_model.specs.declared.journal.Attempt.{Attempt}
 use Rattle.path_model.specs.declared.journal.Attempt.TheVariants.{Start, Apply, Finish}
 use Rattle.path_model.specs.declared.journal.Reply.{Reply}
-use Rattle.path_model.specs.declared.journal.Reply.TheVariants.{Started, Blocked, UnknownOperation, Used, Finished, Stale, NotYours, NoRoom}
+use Rattle.path_model.specs.declared.journal.Reply.TheVariants as replies
+use Rattle.path_model.specs.declared.journal.Reply.TheVariants.{Started, Blocked, UnknownOperation, Finished, Stale, NotYours, NoRoom}
 use Rattle.path_model.specs.declared.journal.Line.{Line}
 use Rattle.path_model.specs.declared.journal.Activation.{Activation}
 use Rattle.path_model.specs.Legal as legal
 use Rattle.path_model.specs.Declarations.{Declaration, paths_of, resource_of}
-use Rattle.path_model.specs.Devices.{Outcome, serves, refuses, outcome_of}
 use Rattle.path_model.specs.Journals.{live, begun_in, activation_of, admitted_history, without}
 use Rattle.path_model.specs.Contents.{contents_after}
 use Rattle.path_model.specs.Honest.{IsHonest}
 use Rattle.path_decl.specs.Lawful.{Lawful}
 use Rattle.path_gate.specs.Standings.{Standing, IsNamed, IsAt, Admitted, Released}
 use Rattle.path_ledger.specs.Ledgers.{Book}
-use Rattle.path_system.specs.Accounts.{opening_contents}
+use Rattle.path_system.specs.Asked.{IsAsked}
+use Rattle.path_shelf.specs.declared.device.ActFault.{ActFault}
+use Rattle.path_shelf.specs.declared.device.ActFault.TheVariants as faults
+use Rattle.path_shelf.specs.States.{State, ActsAt, state_at, laws_of}
+use Rattle.path_shelf.specs.Shelves.{declared_laws}
+use Rattle.path_system.specs.declared.fault.ReplaceFault.{ReplaceFault}
+use Rattle.path_system.specs.declared.fault.ReplaceFault.TheVariants.{Busy, Used, OtherLaw}
+use Rattle.path_system.specs.Openings.{Row, AreFor, numbers_of}
 
--- the declaration, the gate, the ledger, and the number in each cell
+-- the declaration, the gate, the ledger, the states of the devices, and of each device whether it was asked
 pub record PartsValue : Type 0 where
   pub declaration : Declaration
   pub standing : Standing
   pub book : Book
-  pub cells : List ℕ
+  pub states : List State
+  pub asked : List Bool
 
--- a cell with the number `before` gives this reply to the outcome of its law, and then has the number `left`
-abbrev pub Acts : Outcome → Reply → ℕ → ℕ → Type 0
-Acts (serves x after) reply before left = (reply ≡ Used x) × (after ≡ left ∷ [])
-Acts (refuses r) reply before left = (reply ≡ r) × (left ≡ before)
+-- what a device answered, as a reply
+abbrev pub as_reply : Result ℕ ActFault → Reply
+as_reply (Ok x) = replies.Used x
+as_reply (Err faults.NotOffered) = replies.NotOffered
+as_reply (Err faults.Empty) = replies.Empty
+as_reply (Err faults.Full) = replies.Full
+as_reply (Err faults.Overflow) = replies.Overflow
+as_reply (Err faults.Failed) = replies.DeviceFailed
 
 -- the start of a is admitted with the number n
 pub record IsStarted (old : PartsValue) (w : ℕ) (a : OpId) (n : ActId) (new : PartsValue) : Type 0 where
@@ -47,7 +59,8 @@ pub record IsStarted (old : PartsValue) (w : ℕ) (a : OpId) (n : ActId) (new : 
   pub declaration : new.declaration ≡ old.declaration
   pub standing : Admitted old.standing a new.standing
   pub book : new.book ≡ record old.book { live = old.book.live ++ record { act = n; worker = w; op = a } ∷ []; begun = old.book.begun + 1 }
-  pub cells : new.cells ≡ old.cells
+  pub states : new.states ≡ old.states
+  pub asked : new.asked ≡ old.asked
 
 -- p is the first path that forbids the start of a
 pub record IsBlocked (old : PartsValue) (a : OpId) (p : PathId) : Type 0 where
@@ -63,15 +76,13 @@ MovesStart old w a (Blocked p) new = IsBlocked old a p × (new ≡ old)
 MovesStart old w a UnknownOperation new = (length old.declaration.operations ≤ a.0) × (new ≡ old)
 MovesStart old w a reply new = ⊥
 
--- the number in the cell of the activation's resource
-abbrev pub held_by : PartsValue → Activation → ℕ
-held_by old a = slice_index old.cells (resource_of old.declaration a.op.0)
-
--- that cell answers
+-- the device of the activation's resource answers
 pub record IsUse (old : PartsValue) (a : Activation) (verb : Verb) (reply : Reply) (new : PartsValue) : Type 0 where
-  pub left : ℕ
-  pub acts : Acts (outcome_of Cell verb (held_by old a ∷ [])) reply (held_by old a) left
-  pub others : new ≡ record old { cells = slice_set old.cells (resource_of old.declaration a.op.0) left }
+  pub answer : Result ℕ ActFault
+  pub told : reply ≡ as_reply answer
+  pub acts : ActsAt old.states (resource_of old.declaration a.op.0) verb answer new.states
+  pub others :
+      new ≡ record old { states = new.states; asked = slice_set old.asked (resource_of old.declaration a.op.0) true }
 
 -- a use of the activation, if it is live, leads from old parts to new ones with this reply
 abbrev pub MovesUse : PartsValue → ℕ → Verb → Option Activation → Reply → PartsValue → Type 0
@@ -84,7 +95,8 @@ pub record IsOver (old : PartsValue) (n : ActId) (a : Activation) (reply : Reply
   pub declaration : new.declaration ≡ old.declaration
   pub standing : Released old.standing a.op new.standing
   pub book : new.book ≡ record old.book { live = without n old.book.live }
-  pub cells : new.cells ≡ old.cells
+  pub states : new.states ≡ old.states
+  pub asked : new.asked ≡ old.asked
 
 -- a finish of the activation of the number n, if it is live, leads from old parts to new ones with this reply
 abbrev pub MovesFinish : PartsValue → ℕ → ActId → Option Activation → Reply → PartsValue → Type 0
@@ -126,8 +138,9 @@ pub record Answers (old : PartsValue) (room lines w : ℕ) (attempt : Attempt) (
 -- the parts fit one another: what is live was declared, and is in progress where paths name it
 pub record AreReady (parts : PartsValue) : Type 0 where
   pub lawful : Lawful parts.declaration
-  pub cells : length parts.cells ≡ length parts.declaration.resources
-  pub declared : (n : ActId) (a : Activation) → activation_of n parts.book.live ≡ Some a → a.op.0 < length parts.declaration.operations
+  pub states : length parts.states ≡ length parts.declaration.resources
+  pub asked : length parts.asked ≡ length parts.declaration.resources
+  pub declared : All (λ a. a.op.0 < length parts.declaration.operations) parts.book.live
   pub running :
       (n : ActId) (a : Activation) → activation_of n parts.book.live ≡ Some a → IsNamed parts.standing.paths a.op
       → 0 < slice_index parts.standing.in_progress a.op.0
@@ -143,22 +156,56 @@ pub record AreTrueTo (parts : PartsValue) (room : ℕ) (openings : List (List �
   pub begun : parts.book.begun ≡ begun_in journal
   pub places : parts.book.room ≡ room
   pub declared : All (λ a. a.op.0 < length parts.declaration.operations) parts.book.live
-  pub cells : length parts.cells ≡ length parts.declaration.resources
+  pub laws : laws_of parts.states ≡ declared_laws parts.declaration
   pub contents :
       (r : ℕ) → r < length parts.declaration.resources
-      → contents_after parts.declaration openings journal r ≡ slice_index parts.cells r ∷ []
+      → (state_at parts.states r).contents ≡ contents_after parts.declaration openings journal r
+  pub asked_count : length parts.asked ≡ length parts.declaration.resources
+  pub asked :
+      (r : ℕ) → r < length parts.declaration.resources
+      → (slice_index_or parts.asked r false ≡ true) ↔ IsAsked parts.declaration journal r
 
--- what always holds of a system: its parts are what its journal tells, and each line has its place
-pub record IsTold (parts : PartsValue) (room : ℕ) (journal : List Line) (places : ℕ) : Type 0 where
-  pub told : AreTrueTo parts room (opening_contents parts.declaration) journal
+-- what always holds of a system: its parts are what its journal tells, each line has its place, and so have the numbers of
+-- any device that may replace another
+pub record IsTold (parts : PartsValue) (room : ℕ) (rows : List Row) (journal : List Line) (places : ℕ) : Type 0 where
+  pub told : AreTrueTo parts room (numbers_of rows) journal
+  pub roomy : AreFor rows parts.declaration
   pub reserved : room ≤ places
 
--- the parts before any attempt
-pub record AreOpened (parts : PartsValue) (d : Declaration) (room : ℕ) : Type 0 where
+-- a gate, a ledger and marks before any attempt
+pub record AreFresh (standing : Standing) (book : Book) (asked : List Bool) (d : Declaration) (room : ℕ) : Type 0 where
+  pub paths : standing.paths ≡ paths_of d
+  pub at : IsAt standing []
+  pub admitted : standing.admitted ≡ 0
+  pub idle : book ≡ record { live = []; begun = 0; room = room }
+  pub unasked : asked ≡ replicate (length d.resources) false
+
+-- the parts before any attempt, over devices in these states
+pub record AreOpened (parts : PartsValue) (d : Declaration) (room : ℕ) (states : List State) : Type 0 where
   pub lawful : Lawful d
   pub declaration : parts.declaration ≡ d
-  pub paths : parts.standing.paths ≡ paths_of d
-  pub at : IsAt parts.standing []
-  pub admitted : parts.standing.admitted ≡ 0
-  pub book : parts.book ≡ record { live = []; begun = 0; room = room }
-  pub cells : parts.cells ≡ replicate (length d.resources) 0
+  pub fresh : AreFresh parts.standing parts.book parts.asked d room
+  pub over : parts.states ≡ states
+  pub laws : laws_of states ≡ declared_laws d
+
+-- an activation of the resource is live
+abbrev pub IsLiveAt : PartsValue → ℕ → Type 0
+IsLiveAt parts r = Any (λ a. resource_of parts.declaration a.op.0 ≡ r) parts.book.live
+
+-- nothing of the resource is live, and its device wasn't asked
+abbrev pub IsFreeAt : PartsValue → ℕ → Type 0
+IsFreeAt parts r = (IsLiveAt parts r → ⊥) × (slice_index_or parts.asked r false ≡ false)
+
+-- the first refusal that applies to a device of this law
+abbrev pub IsPartsFault : PartsValue → ℕ → Law → ReplaceFault → Type 0
+IsPartsFault parts r law Busy = IsLiveAt parts r
+IsPartsFault parts r law Used = (IsLiveAt parts r → ⊥) × (slice_index_or parts.asked r false ≡ true)
+IsPartsFault parts r law OtherLaw = IsFreeAt parts r × (law ≢ (state_at parts.states r).law)
+
+-- none applies
+abbrev pub MayReplacePart : PartsValue → ℕ → Law → Type 0
+MayReplacePart parts r law = IsFreeAt parts r × (law ≡ (state_at parts.states r).law)
+
+-- the parts with another device
+abbrev pub with_state : PartsValue → ℕ → State → PartsValue
+with_state parts r state = record parts { states = slice_set parts.states r state }

@@ -1,7 +1,11 @@
-//! A process system: what one attempt does, and the journal of all attempts.
+//! A process system over devices: what one attempt does, and the journal of all attempts.
 #![tactic(auto)]
 
+mod fault;
+mod openings;
 mod parts;
+mod replace;
 mod system;
 
-pub use system::{OpenFault, System};
+pub use fault::{OpenFault, ReplaceFault};
+pub use system::System;

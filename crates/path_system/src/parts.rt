@@ -1,31 +1,33 @@
 //! The parts of a system. They fit one another, and know no journal.
 
-ghost use Rattle.std.specs.Prelude.{◌≡◌, ◌+◌, ◌<◌, ◌≤◌, [], ◌∷◌, length, slice_index, IfOk};
-ghost use Rattle.path_model.specs.declared.resource.Law.TheVariants.{Cell};
+ghost use Rattle.std.specs.Prelude.{◌≡◌, ◌+◌, ◌<◌, ◌≤◌, [], ◌↔◌, IsTrue, length, map, replicate, false, IfOk, IfErr};
 ghost use Rattle.path_model.specs.Declarations as declarations;
-ghost use Rattle.path_model.specs.Devices.{outcome_of};
 ghost use Rattle.path_model.specs.Journals.{activation_of};
-ghost use Rattle.path_system.specs.Parts.{Acts, Answers, AreOpened, AreReady, MovesFinish, MovesStart, MovesUse};
+ghost use Rattle.path_system.specs.Faults.{IsDevicesFault};
+ghost use Rattle.path_system.specs.Parts.{Answers, AreFresh, AreOpened, AreReady, MovesFinish, MovesStart, MovesUse, as_reply};
 
+use crate::fault::OpenFault;
 use path_code::translate;
 use path_decl::{Decl, counts, resource_of};
 use path_gate::Gate;
 use path_ledger::{EndFault, Ledger};
 use path_model::{ActId, Attempt, OpId, OutOfMemory, Reply, ResId, Verb};
+use path_shelf::{ActFault, Device, Shelf};
 use path_trim::{Lean, trim};
 use std::alloc::{Allocator, Global};
 use std::marker::Model;
 
-/// The declaration, the gate, the ledger, and the number in the cell of each resource.
+/// The declaration, the gate, the ledger, the devices, and of each device whether it was asked.
 #[derive(Drop)]
-pub struct Parts<A: Allocator + Copy = Global> {
-    decl: Decl<A>,
-    gate: Gate<A>,
-    ledger: Ledger<A>,
-    cells: Vec<u64, A>,
+pub struct Parts<D: Device, A: Allocator + Copy = Global> {
+    pub(crate) decl: Decl<A>,
+    pub(crate) gate: Gate<A>,
+    pub(crate) ledger: Ledger<A>,
+    pub(crate) shelf: Shelf<D, A>,
+    pub(crate) asked: Vec<bool, A>,
 }
 
-impl<A: Allocator + Copy> Model for Parts<A> {
+impl<D: Device, A: Allocator + Copy> Model for Parts<D, A> {
     ghost use Rattle.std.specs.Coded.{codes};
     ghost use Rattle.path_decl.specs.Stored.{declaration_code};
     ghost use Rattle.path_gate.specs.Standings.{standing_code};
@@ -35,21 +37,26 @@ impl<A: Allocator + Copy> Model for Parts<A> {
 
     ghost coded = { Prim.hlevel (codes, declaration_code, standing_code) };
 
-    ghost view = { λ p. record { declaration = p.decl.declaration; standing = p.gate; book = p.ledger; cells = p.cells.items } };
+    ghost view = { λ p. record {
+      declaration = p.decl.declaration;
+      standing = p.gate;
+      book = p.ledger;
+      states = p.shelf;
+      asked = p.asked.items;
+    } };
 }
 
-/// What a cell answers to a verb.
-fn act_on(cell: &mut u64, verb: Verb) -> Reply
-    ensures { Acts (outcome_of Cell verb (cell.old ∷ [])) result cell.old cell.new }
+/// What a device answered, as a reply.
+fn reply_of(answer: Result<u64, ActFault>) -> Reply
+    ensures { result ≡ as_reply answer }
 {
-    match verb {
-        Verb::Put(number) => {
-            let held = *cell;
-            *cell = number;
-            Reply::Used(held)
-        }
-        Verb::Look => Reply::Used(*cell),
-        Verb::Take | Verb::Add(_) => Reply::NotOffered,
+    match answer {
+        Ok(number) => Reply::Used(number),
+        Err(ActFault::NotOffered) => Reply::NotOffered,
+        Err(ActFault::Empty) => Reply::Empty,
+        Err(ActFault::Full) => Reply::Full,
+        Err(ActFault::Overflow) => Reply::Overflow,
+        Err(ActFault::Failed) => Reply::DeviceFailed,
     }
 }
 
@@ -65,29 +72,53 @@ fn trimmed<A: Allocator + Copy>(alloc: A, decl: &Decl<A>) -> Result<Lean<A>, Out
 }
 
 /// The resource of a declared operation.
-fn resource_at<A: Allocator + Copy>(decl: &Decl<A>, op: OpId) -> ResId
+pub fn resource_at<A: Allocator + Copy>(decl: &Decl<A>, op: OpId) -> ResId
     requires { op.0 < length decl.now.declaration.operations }
     ensures { result.0 ≡ declarations.resource_of decl.now.declaration op.0 }
 {
     resource_of(decl, op).unwrap()
 }
 
-impl<A: Allocator + Copy> Parts<A> {
-    /// The parts before any attempt: the gate at the empty history, nothing live, 0 in each cell. All places are taken
-    /// now. The only error is want of memory.
-    pub fn open(alloc: A, decl: Decl<A>, room: u32) -> Result<Parts<A>, OutOfMemory>
-        ensures { IfOk result (λ parts. AreOpened parts decl.declaration room) }
+/// A gate at the empty history, an empty ledger, and for each resource that its device wasn't asked.
+fn unattempted<A: Allocator + Copy>(
+    alloc: A,
+    decl: &Decl<A>,
+    room: u32,
+) -> Result<(Gate<A>, Ledger<A>, Vec<bool, A>), OutOfMemory>
+    ensures { IfOk result (λ parts. AreFresh parts.0 parts.1 parts.2.items decl.now.declaration room) }
+{
+    let gate = Gate::open(alloc, trimmed(alloc, decl)?)?;
+    let ledger = Ledger::with_room(alloc, room)?;
+    let asked = vec![in alloc; false; counts(decl).resources as usize]?;
+    Ok((gate, ledger, asked))
+}
+
+impl<D: Device, A: Allocator + Copy> Parts<D, A> {
+    /// The parts before any attempt: the gate at the empty history, nothing live, no device asked. All places are taken
+    /// now. It is a `WrongCount` or a `WrongDevice` as of a shelf, or want of memory; the devices then come back.
+    pub fn open(
+        alloc: A,
+        decl: Decl<A>,
+        devices: Vec<D, A>,
+        room: u32,
+    ) -> Result<Parts<D, A>, (OpenFault, Vec<D, A>)>
+        ensures ok { IfOk result (λ parts. AreOpened parts decl.declaration room (map D.state devices.items)) }
+        ensures fault { IfErr result (λ refusal. IsDevicesFault (map D.state devices.items) decl.declaration refusal.0) }
+        ensures back { IfErr result (λ refusal. refusal.1.items ≡ devices.items) }
     {
-        let resources = counts(&decl).resources as usize;
-        let gate = Gate::open(alloc, trimmed(alloc, &decl)?)?;
-        let ledger = Ledger::with_room(alloc, room)?;
-        let cells = vec![in alloc; 0; resources]?;
-        Ok(Parts {
-            decl,
-            gate,
-            ledger,
-            cells,
-        })
+        let Ok((gate, ledger, asked)) = unattempted(alloc, &decl, room) else {
+            return Err((OpenFault::OutOfMemory, devices));
+        };
+        match Shelf::open(devices, &decl) {
+            Ok(shelf) => Ok(Parts {
+                decl,
+                gate,
+                ledger,
+                shelf,
+                asked,
+            }),
+            Err((fault, devices)) => Err((fault.into(), devices)),
+        }
     }
 
     /// The declaration.
@@ -97,12 +128,18 @@ impl<A: Allocator + Copy> Parts<A> {
         &self.decl
     }
 
-    /// The number in the cell of a resource, which is declared.
-    pub fn number_in(&self, resource: ResId) -> u64
-        requires { resource.0 < length self.now.cells }
-        ensures { result ≡ slice_index self.now.cells resource.0 }
+    /// The devices.
+    pub fn shelf(&self) -> &Shelf<D, A>
+        ensures { result.now ≡ self.now.states }
     {
-        self.cells[resource.0 as usize]
+        &self.shelf
+    }
+
+    /// Whether nothing is live.
+    pub fn is_idle(&self) -> bool
+        ensures { IsTrue result ↔ (self.now.book.live ≡ []) }
+    {
+        self.ledger.live().is_empty()
     }
 
     /// A start, which there is room for.
@@ -133,7 +170,8 @@ impl<A: Allocator + Copy> Parts<A> {
                     return Reply::NotYours;
                 }
                 let resource = resource_at(&self.decl, activation.op);
-                act_on(&mut self.cells[resource.0 as usize], verb)
+                self.asked[resource.0 as usize] = true;
+                reply_of(self.shelf.act(resource, verb))
             }
         }
     }

@@ -1,71 +1,60 @@
-//! One system under one journal: starts, uses and finishes, step by step.
+//! One system over devices, under one journal: starts, uses and finishes, step by step.
 
-ghost use Rattle.std.specs.Prelude.{◌≡◌, ◌≢◌, ◌↔◌, ◌+◌, ◌<◌, ◌≤◌, [], ◌∷◌, ◌⊎◌, IsTrue, IsErrOf, IfOk, length, slice_get};
-ghost use Rattle.path_system.specs.declared.system.OpenFault.TheVariants as faults;
-ghost use Rattle.path_system.specs.Accounts.{account_of};
+ghost use Rattle.std.specs.Prelude.{◌≡◌, ◌↔◌, ◌+◌, ◌<◌, ◌≤◌, [], length, map, slice_get, slice_set, IsOk, IfOk, IfErr, OnOk, OnErr, IsTrue};
+ghost use Rattle.path_shelf.specs.States.{laws_of};
+ghost use Rattle.path_shelf.specs.Shelves.{declared_laws};
+ghost use Rattle.path_system.specs.Accounts.{account_of, with_device, StayBut, HasFailed};
+ghost use Rattle.path_system.specs.Faults.{IsOpenFault, IsReplaceFault, MayReplace};
 ghost use Rattle.path_model.specs.declared.journal.Reply.TheVariants as replies;
-ghost use Rattle.path_model.specs.Journals.{with_line};
+ghost use Rattle.path_model.specs.Journals.{live, with_line};
 ghost use Rattle.path_model.specs.Contents.{contents_after};
 ghost use Rattle.path_model.specs.Owed.{Owed, taken};
 ghost use Rattle.path_model.specs.Honest.{IsHonest};
+ghost use Rattle.path_system.specs.Asked.{resource_asked};
 
+use crate::fault::{OpenFault, ReplaceFault};
+use crate::openings::Openings;
 use crate::parts::Parts;
-use path_decl::Decl;
-use path_model::{Attempt, Line, MOST_LINES, OutOfMemory, Reply, ResId};
-use std::alloc::{AllocError, Allocator, Global};
+use path_decl::{Decl, counts};
+use path_model::{Attempt, Line, MOST_LINES, Reply, ResId};
+use path_shelf::Device;
+use std::alloc::{Allocator, Global};
 use std::marker::Model;
-use thiserror::Error;
 
-/// Why a system can't be opened.
-#[derive(Clone, Copy, Debug, PartialEq, Eq, Error)]
-pub enum OpenFault {
-    /// The room is 0 or above 1,048,576 lines.
-    #[error("bad room")]
-    BadRoom,
-    /// A growth of memory was refused.
-    #[error("out of memory")]
-    OutOfMemory,
-}
-
-impl From<OutOfMemory> for OpenFault {
-    ghost from_gives = { λ _ e. e ≡ faults.OutOfMemory };
-
-    fn from(_error: OutOfMemory) -> OpenFault {
-        OpenFault::OutOfMemory
-    }
-}
-
-impl From<AllocError> for OpenFault {
-    ghost from_gives = { λ _ e. e ≡ faults.OutOfMemory };
-
-    fn from(_error: AllocError) -> OpenFault {
-        OpenFault::OutOfMemory
-    }
-}
-
-/// A process system: a declaration with its gate, its ledger and its cells, and the journal of all that was attempted.
-/// Contracts see the declaration, the room, the opening contents and the journal: all else follows from these.
+/// A process system: a declaration with its gate, its ledger and its devices, and the journal of all that was attempted.
+///
+/// Contracts see the declaration, the room, what each device contained when it was taken, the journal, and how often each
+/// device has failed. All else follows from these: what may start, what is live, and what each device contains. To drop a
+/// system is to drop each device.
 #[derive(Drop)]
-pub struct System<A: Allocator + Copy = Global> {
-    parts: Parts<A>,
+pub struct System<D: Device, A: Allocator + Copy = Global> {
+    parts: Parts<D, A>,
+    openings: Openings<A>,
     journal: Vec<Line, A>,
     room: u32,
 }
 
-impl<A: Allocator + Copy> Model for System<A> {
+impl<D: Device, A: Allocator + Copy> Model for System<D, A> {
     ghost use Rattle.std.specs.Prelude.{vec_capacity};
     ghost use Rattle.std.specs.Coded.{codes};
     ghost use Rattle.path_decl.specs.Stored.{declaration_code};
-    ghost use Rattle.path_system.specs.Accounts.{Account, account_of};
+    ghost use Rattle.path_system.specs.Accounts.{Account, failures_of};
+    ghost use Rattle.path_system.specs.Openings.{numbers_of};
     ghost use Rattle.path_system.specs.Parts.{IsTold};
 
     ghost Value = { Account };
 
     ghost coded = { Prim.hlevel (codes, declaration_code) };
 
-    ghost view = { λ s. account_of s.parts.declaration s.room s.journal.items };
+    ghost view = { λ s. record {
+      declaration = s.parts.declaration;
+      room = s.room;
+      openings = numbers_of s.openings;
+      journal = s.journal.items;
+      failures = failures_of s.parts.states;
+    } };
 
-    ghost invariant = { λ s. IsTold s.parts s.room s.journal.items (vec_capacity s.journal) };
+    ghost invariant = { λ s. IsTold s.parts s.room s.openings s.journal.items (vec_capacity s.journal) };
 }
 
 fn is_no_room(reply: Reply) -> bool
@@ -74,22 +63,44 @@ fn is_no_room(reply: Reply) -> bool
     matches!(reply, Reply::NoRoom)
 }
 
-impl<A: Allocator + Copy> System<A> {
-    /// A system of this declaration, in which each resource contains the number 0 and nothing was attempted. Its
-    /// journal has room for so many lines, 1 to [`MOST_LINES`]; it is a `BadRoom` exactly where the number is another. All
-    /// places are taken now, so no later call wants memory. On a refusal the declaration is given up. The cost is that of
-    /// [`Gate::open`](path_gate::Gate::open), and of the places of so many lines and activations.
-    pub fn open(alloc: A, decl: Decl<A>, room: u32) -> Result<System<A>, OpenFault>
-        ensures bad_room { IsErrOf result faults.BadRoom ↔ ((room ≡ 0) ⊎ (MOST_LINES < room)) }
-        ensures ok { IfOk result (λ system. system ≡ account_of decl.declaration room []) }
+impl<D: Device, A: Allocator + Copy> System<D, A> {
+    /// A system of this declaration over these devices, in which nothing was attempted. Its journal has room for so many
+    /// lines, 1 to [`MOST_LINES`].
+    ///
+    /// It is a `BadRoom` exactly where the room is another number, and else a `WrongCount` or a `WrongDevice` as
+    /// [`Shelf::open`](path_shelf::Shelf::open) says; want of memory may come before these two. The devices then come back, in
+    /// their order, and the declaration is given up. All places are taken now, so no later call wants memory. The cost is that
+    /// of [`Gate::open`](path_gate::Gate::open), of one look at each device and at each number in it, and of the places of so
+    /// many lines and activations.
+    pub fn open(
+        alloc: A,
+        decl: Decl<A>,
+        devices: Vec<D, A>,
+        room: u32,
+    ) -> Result<System<D, A>, (OpenFault, Vec<D, A>)>
+        ensures ok { IfOk result (λ system. system ≡ account_of decl.declaration room (map D.state devices.items)) }
+        ensures laws { OnOk result (laws_of (map D.state devices.items) ≡ declared_laws decl.declaration) }
+        ensures fault { IfErr result (λ refusal. IsOpenFault room (map D.state devices.items) decl.declaration refusal.0) }
+        ensures good_room { OnOk result ((1 ≤ room) × (room ≤ MOST_LINES)) }
+        ensures back { IfErr result (λ refusal. refusal.1.items ≡ devices.items) }
     {
         if room == 0 || room > MOST_LINES {
-            return Err(OpenFault::BadRoom);
+            return Err((OpenFault::BadRoom, devices));
         }
-        let parts = Parts::open(alloc, decl, room)?;
-        let journal = Vec::with_capacity(alloc, room as usize)?;
+        let Ok(journal) = Vec::with_capacity(alloc, room as usize) else {
+            return Err((OpenFault::OutOfMemory, devices));
+        };
+        let Ok(mut openings) = Openings::with_places(alloc, &decl) else {
+            return Err((OpenFault::OutOfMemory, devices));
+        };
+        let parts = match Parts::open(alloc, decl, devices, room) {
+            Ok(parts) => parts,
+            Err((fault, devices)) => return Err((fault, devices)),
+        };
+        openings.write_all(counts(parts.decl()).resources, parts.shelf());
         Ok(System {
             parts,
+            openings,
             journal,
             room,
         })
@@ -98,12 +109,21 @@ impl<A: Allocator + Copy> System<A> {
     /// One attempt of a worker. The reply is the one that the journal owes to it, and the journal gains a line with
     /// it; only for want of room it gains none.
     ///
+    /// A use asks the device of the activation's resource. It is `DeviceFailed` only where the law of that device would serve,
+    /// and if its count of failures rose by one in the call or stands at `u64::MAX`. All other counts stay.
+    ///
     /// It takes no memory. The cost is that of the gate for a start or a finish, and of a search among what is live for
-    /// a use or a finish.
+    /// a use or a finish, with the device's own call.
     pub fn step(&mut self, worker: u32, attempt: Attempt) -> Reply
         ensures owed { Owed self.old.declaration self.old.room self.old.openings self.old.journal worker attempt result }
-        ensures journal { self.new ≡ record self.old { journal = with_line self.old.journal worker attempt result } }
-        ensures never_failed { result ≢ replies.DeviceFailed }
+        ensures journal { self.new ≡ record self.old {
+          journal = with_line self.old.journal worker attempt result;
+          failures = self.new.failures;
+        } }
+        ensures failures { StayBut (resource_asked self.old.declaration self.old.journal attempt result)
+            self.old.failures self.new.failures }
+        ensures failed { (result ≡ replies.DeviceFailed) → HasFailed (resource_asked self.old.declaration self.old.journal attempt result)
+            self.old.failures self.new.failures }
     {
         let reply = self
             .parts
@@ -135,12 +155,58 @@ impl<A: Allocator + Copy> System<A> {
         self.parts.decl()
     }
 
+    /// What each device contained when it was taken: by the opening of the system, or in place of another.
+    pub fn openings(&self) -> &[Vec<u64, A>]
+        ensures { map (λ row. row.items) result.now ≡ self.now.openings }
+    {
+        self.openings.rows()
+    }
+
     /// The number at a place of what a resource contains; `None` past the end. The resource is declared.
     pub fn contents(&self, resource: ResId, place: u32) -> Option<u64>
         requires { resource.0 < length self.now.declaration.resources }
         ensures { result ≡ slice_get (contents_after self.now.declaration self.now.openings self.now.journal resource.0) place }
     {
-        let number = self.parts.number_in(resource);
-        if place == 0 { Some(number) } else { None }
+        self.parts.shelf().at(resource, place)
+    }
+
+    /// Puts this device in the place of the resource's own, which is dropped. What it contains is then what the resource
+    /// contained from the opening on, and its count of failures is the resource's; all else stays. The resource is declared.
+    ///
+    /// It is `Busy` where an activation of the resource is live, else `Used` where a line of the journal asked its device, and
+    /// else `OtherLaw` where the device handed in has another law. The device then comes back, and the system is as it was.
+    ///
+    /// It takes no memory. The cost is that of a look at each live activation, and at each number in the device.
+    pub fn replace(&mut self, resource: ResId, device: D) -> Result<(), (ReplaceFault, D)>
+        requires { resource.0 < length self.old.declaration.resources }
+        ensures may { OnOk result (MayReplace self.old.declaration self.old.journal resource.0 (D.state device).law) }
+        ensures replaced { OnOk result (self.new ≡ with_device self.old resource.0 (D.state device)) }
+        ensures fault { IfErr result (λ refusal.
+            IsReplaceFault self.old.declaration self.old.journal resource.0 (D.state device).law refusal.0) }
+        ensures back { IfErr result (λ refusal. refusal.1 ≡ device) }
+        ensures kept { OnErr result (self.new ≡ self.old) }
+    {
+        self.parts.replace(resource, device)?;
+        self.openings.write(resource, self.parts.shelf());
+        Ok(())
+    }
+
+    /// The journal, once nothing is live; each device is then dropped. While an activation is live, the system comes back
+    /// as it was. It takes no memory.
+    pub fn close(self) -> Result<Vec<Line, A>, System<D, A>>
+        ensures closed { IsOk result ↔ (live self.journal ≡ []) }
+        ensures journal { IfOk result (λ journal. journal.items ≡ self.journal) }
+        ensures back { IfErr result (λ system. system ≡ self) }
+    {
+        if !self.parts.is_idle() {
+            return Err(self);
+        }
+        let System {
+            parts: _,
+            openings: _,
+            journal,
+            room: _,
+        } = self;
+        Ok(journal)
     }
 }

@@ -5,7 +5,7 @@ use Rattle.path_system.proofs.parts.Parts.start.Goals as goal
 
 pub returns-in-Ok : goal.returns-in-Ok
 returns-in-Ok g c =
-    let new : PartsValue = record { declaration = c.self.inside.decl.declaration; standing = c.admit.new.self; book = c.begin.new.self; cells = c.self.inside.cells.items } in
+    let new : PartsValue = record { declaration = c.self.inside.decl.declaration; standing = c.admit.new.self; book = c.begin.new.self; states = c.self.inside.shelf; asked = c.self.inside.asked.items } in
     subst (λ x. IsStarted x c.args.worker c.args.op c.begin.result new) c.self.view_is (record {
       declared = omega (arith, c.if-op-counts.false, c.counts.ensures.operations);
       admits = c.in-Ok.ensures.judges;
@@ -13,5 +13,6 @@ returns-in-Ok g c =
       declaration = refl;
       standing = c.in-Ok.ensures.ok;
       book = c.begin.ensures.appended;
-      cells = refl;
+      states = refl;
+      asked = refl;
     })

@@ -1,0 +1,59 @@
+//! Why a system can't be opened, and why a device can't be replaced.
+
+ghost use Rattle.std.specs.Prelude.{◌≡◌};
+ghost use Rattle.path_system.specs.declared.fault.OpenFault.TheVariants as faults;
+ghost use Rattle.path_system.specs.Faults.{as_open_fault};
+
+use path_model::{OutOfMemory, ResId};
+use path_shelf::ShelfFault;
+use thiserror::Error;
+
+/// Why a system can't be opened.
+#[derive(Clone, Copy, Debug, PartialEq, Eq, Error)]
+pub enum OpenFault {
+    /// The room is 0 or above 1,048,576 lines.
+    #[error("bad room")]
+    BadRoom,
+    /// There isn't one device for each resource.
+    #[error("wrong count")]
+    WrongCount,
+    /// This resource is the first whose law its device doesn't have.
+    #[error("wrong device {number}", number = .0.0)]
+    WrongDevice(ResId),
+    /// A growth of memory was refused.
+    #[error("out of memory")]
+    OutOfMemory,
+}
+
+impl From<OutOfMemory> for OpenFault {
+    ghost from_gives = { λ _ e. e ≡ faults.OutOfMemory };
+
+    fn from(_error: OutOfMemory) -> OpenFault {
+        OpenFault::OutOfMemory
+    }
+}
+
+impl From<ShelfFault> for OpenFault {
+    ghost from_gives = { λ fault e. e ≡ as_open_fault fault };
+
+    fn from(fault: ShelfFault) -> OpenFault {
+        match fault {
+            ShelfFault::WrongCount => OpenFault::WrongCount,
+            ShelfFault::WrongDevice(resource) => OpenFault::WrongDevice(resource),
+        }
+    }
+}
+
+/// Why the device of a resource can't be replaced.
+#[derive(Clone, Copy, Debug, PartialEq, Eq, Error)]
+pub enum ReplaceFault {
+    /// An activation of the resource is live.
+    #[error("busy")]
+    Busy,
+    /// A line of the journal asked the device.
+    #[error("used")]
+    Used,
+    /// The device that was handed in has another law.
+    #[error("other law")]
+    OtherLaw,
+}

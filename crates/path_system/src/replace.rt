@@ -1,0 +1,52 @@
+//! Whether the device of a resource may be replaced, and the replacement among the parts.
+
+ghost use Rattle.std.specs.Prelude.{◌≡◌, ◌↔◌, ◌<◌, true, false, Any, IsTrue, length, slice_index_or, slice_set, IfErr, OnErr, OnOk};
+ghost use Rattle.path_model.specs.Declarations as declarations;
+ghost use Rattle.path_system.specs.Parts.{AreReady, IsPartsFault, MayReplacePart, with_state};
+
+use crate::fault::ReplaceFault;
+use crate::parts::{Parts, resource_at};
+use path_decl::Decl;
+use path_ledger::Ledger;
+use path_model::ResId;
+use path_shelf::Device;
+use std::alloc::Allocator;
+
+impl<D: Device, A: Allocator + Copy> Parts<D, A> {
+    /// Whether an activation of the resource is live.
+    fn is_busy(&self, resource: ResId) -> bool
+        requires { AreReady self.now }
+        ensures { IsTrue result ↔ Any (λ a. declarations.resource_of self.now.declaration a.op.0 ≡ resource.0) self.now.book.live }
+    {
+        for activation in self.ledger.live() {
+            if resource_at(&self.decl, activation.op) == resource {
+                return true;
+            }
+        }
+        false
+    }
+
+    /// Puts this device in the place of the resource's own, which is dropped; all else stays. The resource is declared. It
+    /// is refused where an activation of the resource is live, else where its device was asked, and else where the device
+    /// has another law. It then comes back, and the parts are as they were.
+    pub fn replace(&mut self, resource: ResId, device: D) -> Result<(), (ReplaceFault, D)>
+        requires ready { AreReady self.old }
+        requires declared { resource.0 < length self.old.declaration.resources }
+        ensures may { OnOk result (MayReplacePart self.old resource.0 (D.state device).law) }
+        ensures replaced { OnOk result (self.new ≡ with_state self.old resource.0 (D.state device)) }
+        ensures fault { IfErr result (λ refusal. IsPartsFault self.old resource.0 (D.state device).law refusal.0) }
+        ensures back { IfErr result (λ refusal. refusal.1 ≡ device) }
+        ensures kept { OnErr result (self.new ≡ self.old) }
+    {
+        if self.is_busy(resource) {
+            return Err((ReplaceFault::Busy, device));
+        }
+        if self.asked[resource.0 as usize] {
+            return Err((ReplaceFault::Used, device));
+        }
+        match self.shelf.replace(resource, device) {
+            Ok(()) => Ok(()),
+            Err(device) => Err((ReplaceFault::OtherLaw, device)),
+        }
+    }
+}
