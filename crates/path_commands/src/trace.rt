@@ -12,9 +12,9 @@ use crate::fault::{Fault, tell};
 use crate::put::put_text;
 use crate::status::Status;
 use path_decl::Decl;
-use path_read::read;
-use path_lines::{LIMIT, TextFault, fault_at, first_entry, push_reply, read_attempts};
+use path_lines::{LIMIT, TextFault, fault_at, first_entry, push_told, read_attempts};
 use path_model::{Attempt, MOST_LINES};
+use path_read::read;
 use path_system::{OpenFault, System};
 use std::alloc::Allocator;
 use std::io::Write;
@@ -46,9 +46,7 @@ fn answer<A: Allocator + Copy>(
 {
     let reply = system.step(worker, attempt);
     trace.extend_from_slice(line)?;
-    trace.extend_from_slice(b": ")?;
-    push_reply(trace, reply)?;
-    trace.push(b'\n')?;
+    push_told(trace, reply)?;
     Ok(())
 }
 

@@ -3,7 +3,7 @@
 //! Each reader takes a text and answers what it begins with and what follows that, so a line is read in one pass.
 
 ghost use Rattle.std.specs.Prelude.{◌≡◌, ◌≢◌, ◌↔◌, ℕ, ◌<◌, ◌≤◌, ◌^◌, [], ◌∷◌, ◌++◌, List, decimal, length, All, Contains};
-ghost use Rattle.std.specs.Prelude.{Some, slice_get, IfSome, IfNone, IfOk, IfErr, OnErr};
+ghost use Rattle.std.specs.Prelude.{Some, slice_get, IsTrue, IfSome, IfNone, IfOk, IfErr, OnErr};
 ghost use Rattle.path_model.specs.declared.ids.OpId.{OpId};
 ghost use Rattle.path_model.specs.declared.journal.Verb.{Verb};
 ghost use Rattle.path_model.specs.declared.journal.Attempt.{Attempt};
@@ -89,12 +89,19 @@ fn undeclared(text: &[u8], operations: u32) -> Option<OpId>
     Some(OpId(value))
 }
 
+/// Whether all of these bytes are ASCII. Names are short: a plain loop takes less than one over words.
+fn is_ascii(name: &[u8]) -> bool
+    ensures { IsTrue result ↔ All (λ b. b < 128) name.now }
+{
+    name.iter().all(|byte| *byte < 128)
+}
+
 /// The operation with this name. Names are ASCII, so nothing else is looked up.
 fn declared<A: Allocator + Copy>(decl: &Decl<A>, name: &[u8]) -> Option<OpId>
     ensures some { IfSome result (λ a. slice_get (operation_names decl.now.declaration) a.0 ≡ Some name.now) }
     ensures none { IfNone result (Contains (operation_names decl.now.declaration) name.now → ⊥) }
 {
-    if !name.is_ascii() {
+    if !is_ascii(name) {
         return None;
     }
     let name = unsafe { std::str::from_utf8_unchecked(name) };

@@ -6,5 +6,5 @@ mod lines;
 mod texts;
 
 pub use entry::{FirstLine, LineFault, first_entry};
-pub use lines::{push_line, push_reply, write_line};
+pub use lines::{push_line, push_told, write_line};
 pub use texts::{LIMIT, TextFault, fault_at, read_attempts};

@@ -1,11 +1,11 @@
 //! From attempts, replies and lines of a journal to their texts.
 
-ghost use Rattle.std.specs.Prelude.{◌≡◌, ◌++◌, ◌∷◌, IfOk, OnOk};
+ghost use Rattle.std.specs.Prelude.{◌≡◌, ◌++◌, ◌∷◌, [], codes, decimal, IfOk, OnOk};
 ghost use Rattle.std.specs.String.{string_bytes};
 ghost use Rattle.path_lines.specs.LineTexts.{verb_text, operation_text, use_text, attempt_text, line_text};
 ghost use Rattle.path_lines.specs.LineTexts.{digits, reply_text, journal_line_text};
 
-use itoa::Buffer;
+use itoa::write_digits;
 use path_decl::{Decl, op_name};
 use path_model::{ActId, Attempt, Line, OpId, OutOfMemory, Reply, Verb};
 use std::alloc::Allocator;
@@ -84,19 +84,40 @@ fn spelled(reply: Reply) -> (&'static str, Option<u64>)
     }
 }
 
-/// Appends the text of a reply, with its number where it has one. Where memory is wanting, a front of the text may have
-/// been appended. Grows the list only where its capacity doesn't suffice.
-pub fn push_reply<A: Allocator + Copy>(
+/// Appends words, a number and a line feed.
+fn push_numbered<A: Allocator + Copy>(
     out: &mut Vec<u8, A>,
-    reply: Reply,
+    words: &[u8],
+    number: u64,
 ) -> Result<(), OutOfMemory>
-    ensures { OnOk result (out.new.items ≡ out.old.items ++ reply_text reply) }
+    ensures { OnOk result (out.new.items ≡ out.old.items ++ (words.now ++ (decimal number ++ 10 ∷ []))) }
 {
-    let (words, number) = spelled(reply);
-    out.extend_from_slice(words.as_bytes())?;
-    if let Some(number) = number {
-        let mut buffer = Buffer::new();
-        out.extend_from_slice(buffer.format(number).as_bytes())?;
+    let mut line = [b'\n'; 21];
+    let start = write_digits(number, &mut line, 20);
+    out.extend_from_slice(words)?;
+    out.extend_from_slice(&line[start..])?;
+    Ok(())
+}
+
+/// Appends what follows an attempt in its line: `: `, the text of the reply and a line feed. Where memory is wanting, a
+/// front of it may have been appended. Grows the list only where its capacity doesn't suffice.
+pub fn push_told<A: Allocator + Copy>(out: &mut Vec<u8, A>, reply: Reply) -> Result<(), OutOfMemory>
+    ensures { OnOk result (out.new.items ≡ out.old.items ++ (codes ": " ++ (reply_text reply ++ 10 ∷ []))) }
+{
+    match reply {
+        Reply::Started(act) => push_numbered(out, b": started ", act.0)?,
+        Reply::Blocked(path) => push_numbered(out, b": blocked ", u64::from(path.0))?,
+        Reply::UnknownOperation => out.extend_from_slice(b": unknown operation\n")?,
+        Reply::Used(answer) => push_numbered(out, b": used ", answer)?,
+        Reply::NotOffered => out.extend_from_slice(b": not offered\n")?,
+        Reply::Empty => out.extend_from_slice(b": empty\n")?,
+        Reply::Full => out.extend_from_slice(b": full\n")?,
+        Reply::Overflow => out.extend_from_slice(b": overflow\n")?,
+        Reply::DeviceFailed => out.extend_from_slice(b": device failed\n")?,
+        Reply::Finished => out.extend_from_slice(b": finished\n")?,
+        Reply::Stale => out.extend_from_slice(b": stale\n")?,
+        Reply::NotYours => out.extend_from_slice(b": not yours\n")?,
+        Reply::NoRoom => out.extend_from_slice(b": no room\n")?,
     }
     Ok(())
 }

@@ -2,7 +2,7 @@
 
 use crate::declaration::declared;
 use path_decl::Decl;
-use path_lines::{push_reply, write_line};
+use path_lines::{push_told, write_line};
 use path_model::{ActId, Attempt, Line, OpId, OutOfMemory, PathId, Reply, Verb};
 use refusing::Refusing;
 use std::alloc::Global;
@@ -17,9 +17,10 @@ fn is_written_so(rt: &impl Abort, heap: Global, decl: &Decl, line: &Line, want: 
         Err(OutOfMemory) => panic!(rt; "no memory"),
     }
     let mut bytes = Vec::new(heap);
-    assert!(rt; push_reply(&mut bytes, line.reply).is_ok());
+    assert!(rt; push_told(&mut bytes, line.reply).is_ok());
+    assert_eq!(rt; bytes.pop(), Some(b'\n'));
     assert!(rt; want.as_bytes().ends_with(bytes.as_slice()));
-    assert!(rt; want.as_bytes()[..want.len() - bytes.len()].ends_with(b": "));
+    assert!(rt; bytes.as_slice().starts_with(b": "));
 }
 
 #[test]
@@ -128,11 +129,11 @@ fn each_request_of_a_reply_is_refused(rt: HostRuntime) {
     for k in 1..50u64 {
         let refusing = Refusing::new(rt.alloc(), k);
         let mut bytes = Vec::new(&refusing);
-        match push_reply(&mut bytes, Reply::Used(u64::MAX)) {
+        match push_told(&mut bytes, Reply::Used(u64::MAX)) {
             Ok(()) => {
                 assert!(rt; k > 1);
                 assert!(rt; !refusing.has_refused());
-                assert_eq!(rt; bytes.as_slice(), b"used 18446744073709551615".as_slice());
+                assert_eq!(rt; bytes.as_slice(), b": used 18446744073709551615\n".as_slice());
                 return;
             }
             Err(OutOfMemory) => assert!(rt; refusing.has_refused()),
