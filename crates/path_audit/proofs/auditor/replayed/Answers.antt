@@ -1,0 +1,41 @@
+-- Each line that is told goes on; the first that isn't is wrong.
+use Rattle.std.proofs.Common.{◌≡◌, ◌≢◌, ◌<◌, length, get_or, arith, rules}
+use Rattle.path_audit.proofs.Answered.{ready}
+use Rattle.path_audit.proofs.Replayed.{few_lines, few_admitted, line_replayed, line_wrong, line_at, nothing}
+use Rattle.path_model.specs.declared.journal.Line.{Line}
+use Rattle.path_model.specs.declared.journal.Reply.TheVariants.{NoRoom}
+use Rattle.path_audit.proofs.auditor.replayed.Goals as goal
+
+pub answer-requires-clause-ready : goal.answer-requires-clause-ready
+answer-requires-clause-ready g c = ready _ c.args.decl.now.lawful _ _ _ _ c.loop-n.invariant
+
+pub answer-requires-clause-few : goal.answer-requires-clause-few
+answer-requires-clause-few g c =
+    let within : c.loop-n.n < length c.args.lines.now = search rules in
+    few_lines _ c.args.decl.now.lawful _ _ _ c.args.lines.now c.loop-n.n c.loop-n.invariant within
+
+pub answer-requires-clause-admitted : goal.answer-requires-clause-admitted
+answer-requires-clause-admitted g c =
+    let within : c.loop-n.n < length c.args.lines.now = search rules in
+    few_admitted _ c.args.decl.now.lawful _ _ _ c.args.lines.now c.loop-n.n c.loop-n.invariant within
+
+pub overflow_cast-result : goal.overflow_cast-result
+overflow_cast-result g c =
+    let within : c.loop-n.n < length c.args.lines.now = search rules in
+    let few = few_lines _ c.args.decl.now.lawful _ _ _ c.args.lines.now c.loop-n.n c.loop-n.invariant within in
+    omega (arith, few, c.requires.few)
+
+pub returns-then-not-is_told : goal.returns-then-not-is_told
+returns-then-not-is_told g c =
+    let within : c.loop-n.n < length c.args.lines.now = search rules in
+    let line : Line = get_or c.args.lines.now c.loop-n.n nothing in
+    let other : (c.in_ok-owed.owed ≡ line.reply) × (line.reply ≢ NoRoom) → ⊥ = λ told. cc (c.is_told.ensures.1 told, c.if-not-is_told.true) in
+    line_wrong c.args.decl.now.declaration c.args.decl.now.lawful c.loop-n.replay c.args.room _ c.args.lines.now c.loop-n.n c.loop-n.invariant within
+    line (line_at c.args.lines.now c.loop-n.n nothing line within) c.in_ok-owed.owed c.answer.new.self c.in_ok-owed.ensures other
+
+pub loop-n-preserved : goal.loop-n-preserved
+loop-n-preserved g c =
+    let within : c.loop-n.n < length c.args.lines.now = search rules in
+    let line : Line = get_or c.args.lines.now c.loop-n.n nothing in
+    line_replayed c.args.decl.now.declaration c.args.decl.now.lawful c.loop-n.replay c.args.room _ c.args.lines.now c.loop-n.n c.loop-n.invariant within
+    line (line_at c.args.lines.now c.loop-n.n nothing line within) c.in_ok-owed.owed c.answer.new.self c.in_ok-owed.ensures (c.is_told.ensures.0 c.if-not-is_told.false)

@@ -1,0 +1,8 @@
+-- The lines so far are honest, and the replay is what they tell.
+use Rattle.std.proofs.Common.{take}
+use Rattle.std.specs.Prelude.{map}
+use Rattle.path_audit.specs.Replays.{IsReplayOf}
+use Rattle.path_audit.proofs.auditor.replayed.Given as goal
+
+abbrev pub invariant-loop-n : goal.invariant-loop-n
+invariant-loop-n g l = IsReplayOf l.replay l.decl.declaration l.room (map (λ opening. opening.items) l.openings) (take l.n l.lines)

@@ -1,0 +1,5 @@
+pub mod Owners
+pub mod Registers
+pub mod Outcomes
+pub mod Replays
+pub mod Verdicts

@@ -1,0 +1,54 @@
+-- What an audit answers.
+use Rattle.std.specs.Prelude.{◌≡◌, ◌≢◌, ◌⊎◌, ◌+◌, ◌<◌, ◌≤◌, ℕ, List, [], length, take, slice_index_or}
+use Rattle.path_model.specs.declared.journal.TheConstants.{MOST_LINES}
+use Rattle.path_model.specs.declared.journal.Line.{Line}
+use Rattle.path_model.specs.Declarations.{Declaration, law_of}
+use Rattle.path_model.specs.Devices.{Fits}
+use Rattle.path_model.specs.Honest.{IsHonest}
+use Rattle.path_audit.specs.declared.auditor.Verdict.{Verdict}
+use Rattle.path_audit.specs.declared.auditor.Verdict.TheVariants.{Sound, WrongLine}
+use Rattle.path_audit.specs.declared.auditor.AuditFault.{AuditFault}
+use Rattle.path_audit.specs.declared.auditor.AuditFault.TheVariants.{BadRoom, WrongCount, BadOpening, OutOfMemory}
+
+-- the lines before line n are an honest journal, and with it they aren't
+pub record IsFirstWrong (d : Declaration) (room : ℕ) (openings : List (List ℕ)) (lines : List Line) (n : ℕ) : Type 0 where
+  pub within : n < length lines
+  pub honest : IsHonest d room openings (take n lines)
+  pub wrong : IsHonest d room openings (take (n + 1) lines) → ⊥
+
+-- the lines are an honest journal, or this is the first that makes them none
+abbrev pub IsVerdict : Declaration → ℕ → List (List ℕ) → List Line → Verdict → Type 0
+IsVerdict d room openings lines Sound = IsHonest d room openings lines
+IsVerdict d room openings lines (WrongLine n) = IsFirstWrong d room openings lines n
+
+-- a journal may have so much room
+abbrev pub IsRoom : ℕ → Type 0
+IsRoom room = (1 ≤ room) × (room ≤ MOST_LINES)
+
+-- what is listed for the resource r fits its law
+abbrev pub FitsAt : Declaration → List (List ℕ) → ℕ → Type 0
+FitsAt d openings r = Fits (law_of d r) (slice_index_or openings r [])
+
+-- r is the first resource whose opening contents don't fit its law
+pub record IsFirstMisfit (d : Declaration) (openings : List (List ℕ)) (r : ℕ) : Type 0 where
+  pub declared : r < length d.resources
+  pub fit_before : (q : ℕ) → q < r → FitsAt d openings q
+  pub misfit : FitsAt d openings r → ⊥
+
+-- the opening contents of each resource fit its law
+abbrev pub AllFit : Declaration → List (List ℕ) → Type 0
+AllFit d openings = (r : ℕ) → r < length d.resources → FitsAt d openings r
+
+-- a journal of this room that opened so can be audited
+pub record IsAuditable (d : Declaration) (room : ℕ) (openings : List (List ℕ)) : Type 0 where
+  pub in_range : IsRoom room
+  pub counted : length openings ≡ length d.resources
+  pub fit : AllFit d openings
+
+-- the room is another; or there isn't one opening for each resource; or one doesn't fit; the first that applies. Only for want of memory
+-- a journal isn't audited that could be.
+abbrev pub IsAuditFault : Declaration → ℕ → List (List ℕ) → AuditFault → Type 0
+IsAuditFault d room openings BadRoom = (room ≡ 0) ⊎ (MOST_LINES < room)
+IsAuditFault d room openings WrongCount = IsRoom room × (length openings ≢ length d.resources)
+IsAuditFault d room openings (BadOpening r) = IsRoom room × (length openings ≡ length d.resources) × IsFirstMisfit d openings r.0
+IsAuditFault d room openings OutOfMemory = IsAuditable d room openings

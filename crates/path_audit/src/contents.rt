@@ -1,0 +1,142 @@
+//! What a resource contains, and what its law does with it.
+
+ghost use Rattle.std.specs.Prelude.{◌≡◌, [], ◌∷◌, IfOk, OnOk, slice_index};
+ghost use Rattle.path_model.specs.declared.resource.Law.TheVariants as laws;
+ghost use Rattle.path_model.specs.Devices.{outcome_of, contents_left};
+ghost use Rattle.path_audit.specs.Outcomes.{IsAnswer, Acts};
+
+use path_model::{Law, OutOfMemory, Reply, Verb};
+use std::alloc::Allocator;
+use std::collections::VecDeque;
+
+/// The numbers that a resource contains, in order.
+pub type Contents<A> = VecDeque<u64, A>;
+
+/// The first number; 0 where there is none.
+fn first<A: Allocator + Copy>(held: &Contents<A>) -> u64
+    ensures { result ≡ slice_index held.now.items 0 }
+{
+    held.front().copied().unwrap_or(0)
+}
+
+/// What a cell answers.
+fn cell_answer<A: Allocator + Copy>(verb: Verb, held: &Contents<A>) -> Result<u64, Reply>
+    ensures { IsAnswer (outcome_of laws.Cell verb held.now.items) result }
+{
+    match verb {
+        Verb::Put(_) | Verb::Look => Ok(first(held)),
+        Verb::Take | Verb::Add(_) => Err(Reply::NotOffered),
+    }
+}
+
+/// What a tally answers.
+fn tally_answer<A: Allocator + Copy>(verb: Verb, held: &Contents<A>) -> Result<u64, Reply>
+    ensures { IsAnswer (outcome_of laws.Tally verb held.now.items) result }
+{
+    match verb {
+        Verb::Look => Ok(first(held)),
+        Verb::Add(number) => first(held).checked_add(number).ok_or(Reply::Overflow),
+        Verb::Put(_) | Verb::Take => Err(Reply::NotOffered),
+    }
+}
+
+/// What a queue of this capacity answers.
+fn queue_answer<A: Allocator + Copy>(
+    capacity: u32,
+    verb: Verb,
+    held: &Contents<A>,
+) -> Result<u64, Reply>
+    ensures { IsAnswer (outcome_of (laws.Queue capacity) verb held.now.items) result }
+{
+    match verb {
+        Verb::Put(_) => {
+            if held.len() >= capacity as usize {
+                return Err(Reply::Full);
+            }
+            Ok(held.len() as u64 + 1)
+        }
+        Verb::Take | Verb::Look => held.front().copied().ok_or(Reply::Empty),
+        Verb::Add(_) => Err(Reply::NotOffered),
+    }
+}
+
+/// The number with which a law serves a verb, or its refusal.
+fn answer<A: Allocator + Copy>(law: Law, verb: Verb, held: &Contents<A>) -> Result<u64, Reply>
+    ensures { IsAnswer (outcome_of law verb held.now.items) result }
+{
+    match law {
+        Law::Cell => cell_answer(verb, held),
+        Law::Tally => tally_answer(verb, held),
+        Law::Queue(capacity) => queue_answer(capacity, verb, held),
+    }
+}
+
+/// Puts a number in the place of all that is contained.
+fn put_alone<A: Allocator + Copy>(number: u64, held: &mut Contents<A>) -> Result<(), OutOfMemory>
+    ensures { OnOk result (held.new.items ≡ number ∷ []) }
+{
+    held.clear();
+    held.push_back(number)?;
+    Ok(())
+}
+
+/// Changes the contents of a queue of this capacity.
+fn change_queue<A: Allocator + Copy>(
+    capacity: u32,
+    verb: Verb,
+    held: &mut Contents<A>,
+) -> Result<(), OutOfMemory>
+    ensures { OnOk result (held.new.items ≡ contents_left (outcome_of (laws.Queue capacity) verb held.old.items) held.old.items) }
+{
+    match verb {
+        Verb::Put(number) => {
+            if held.len() < capacity as usize {
+                held.push_back(number)?;
+            }
+        }
+        Verb::Take => {
+            held.pop_front();
+        }
+        Verb::Look | Verb::Add(_) => {}
+    }
+    Ok(())
+}
+
+/// Changes contents as a law says. A verb that it refuses changes nothing.
+fn change<A: Allocator + Copy>(
+    law: Law,
+    verb: Verb,
+    held: &mut Contents<A>,
+) -> Result<(), OutOfMemory>
+    ensures { OnOk result (held.new.items ≡ contents_left (outcome_of law verb held.old.items) held.old.items) }
+{
+    match (law, verb) {
+        (Law::Cell, Verb::Put(number)) => put_alone(number, held),
+        (Law::Tally, Verb::Add(number)) => match first(held).checked_add(number) {
+            Some(total) => put_alone(total, held),
+            None => Ok(()),
+        },
+        (Law::Queue(capacity), _) => change_queue(capacity, verb, held),
+        _ => Ok(()),
+    }
+}
+
+/// The reply of a resource of this law to a verb, which changes its contents. A device that fails where its law would serve says so,
+/// and leaves them.
+pub fn act_on<A: Allocator + Copy>(
+    law: Law,
+    verb: Verb,
+    fails: bool,
+    held: &mut Contents<A>,
+) -> Result<Reply, OutOfMemory>
+    ensures { IfOk result (λ reply. Acts (outcome_of law verb held.old.items) fails reply held.old.items held.new.items) }
+{
+    match answer(law, verb, held) {
+        Err(refusal) => Ok(refusal),
+        Ok(_) if fails => Ok(Reply::DeviceFailed),
+        Ok(number) => {
+            change(law, verb, held)?;
+            Ok(Reply::Used(number))
+        }
+    }
+}
