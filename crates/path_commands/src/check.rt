@@ -10,8 +10,8 @@ ghost use Rattle.path_commands.specs.Prints.{IsNoDeclaration, IsPrintOf, IsUndec
 use crate::fault::{Fault, tell};
 use crate::put::put_text;
 use crate::status::Status;
-use path_read::read;
 use path_print::print;
+use path_read::read;
 use std::alloc::Allocator;
 use std::io::Write;
 

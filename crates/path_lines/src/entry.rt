@@ -14,8 +14,8 @@ ghost use Rattle.path_lines.specs.LineTexts.{VerbFits, AttemptFits};
 ghost use Rattle.path_lines.specs.AttemptTexts.{EntryFits, IsAttemptFault, IsFirstLine, IsFirstFault, IsNoRest};
 
 use path_decl::{Decl, counts, operation};
-use path_lex::is_name;
 use path_fields::{at_end, last_number, number, strip, until};
+use path_lex::is_name;
 use path_model::{ActId, Attempt, OpId, Verb};
 use std::alloc::Allocator;
 

@@ -10,7 +10,8 @@ use Rattle.path_model.specs.Declarations.{Resource, Operation, Path, Declaration
 use Rattle.path_read.specs.declared.draft.Draft.{Draft}
 use Rattle.path_decl.specs.Forms.{LawForm, a_cell, a_tally, a_queue}
 use Rattle.path_decl.specs.Numerals.{IsUpTo}
-use Rattle.path_read.specs.Parts.{Saying, a_resource, a_law, an_operation, a_path, a_name, a_sequence, a_selection, an_opening, a_closing, an_end}
+use Rattle.path_read.specs.Parts.{Saying, a_resource, a_law, an_operation, a_path, a_name}
+use Rattle.path_read.specs.Parts.{a_sequence, a_selection, an_opening, a_closing, an_end}
 use Rattle.path_decl.specs.Table.{names_of, name_at, resources_of, operations_of, path_of}
 
 -- what was declared so far, the last resource, and of the path so far the trees, the last first, the names, and how many braces

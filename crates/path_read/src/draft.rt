@@ -5,8 +5,8 @@ ghost use Rattle.path_model.specs.Trees.{shape};
 ghost use Rattle.path_decl.specs.Lawful.{IsDistinct};
 ghost use Rattle.path_decl.specs.LawfulOnce.{IsDistinct-prop};
 ghost use Rattle.path_decl.specs.Table.{names_of};
-ghost use Rattle.path_read.specs.Parts.{law_said, saying, sayings, a_resource, a_law, an_operation, a_path, a_name, a_sequence, a_selection};
-ghost use Rattle.path_read.specs.Parts.{an_opening, a_closing, an_end};
+ghost use Rattle.path_read.specs.Parts.{law_said, saying, sayings, a_resource, a_law, an_operation, a_path, a_name};
+ghost use Rattle.path_read.specs.Parts.{a_sequence, a_selection, an_opening, a_closing, an_end};
 ghost use Rattle.path_read.specs.Reading.{Fails};
 
 use crate::law::law_at;

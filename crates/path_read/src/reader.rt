@@ -37,8 +37,8 @@ fn finish<A: Allocator + Copy>(alloc: A, draft: Draft<A>) -> Result<Decl<A>, Out
 /// or number that is too long; over the whole text the first token that is unexpected, or a parenthesis or brace that is
 /// too deep; then the first token at which a rule is broken or a limit is passed: by a name that is declared twice,
 /// undeclared or repeated, by a brace inside open braces, by the capacity of a queue that begins with the digit 0 or is
-/// greater than 1,024, by the bound of braces that begins with the digit 0 or is greater than 65,535, or by one too many. Want of memory may come at any point. Takes time in proportion to the text, and memory
-/// in proportion to its tokens.
+/// greater than 1,024, by the bound of braces that begins with the digit 0 or is greater than 65,535, or by one too many. Want
+/// of memory may come at any point. Takes time in proportion to the text, and memory in proportion to its tokens.
 pub fn read<A: Allocator + Copy>(alloc: A, text: &[u8]) -> Result<Decl<A>, DeclFault>
     // What is read is what the text declares.
     ensures ok { IfOk result (λ d. IsDeclarationText text.now d.declaration) }

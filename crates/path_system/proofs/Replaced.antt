@@ -46,7 +46,7 @@ module _ (old : PartsValue) (room : ℕ) (openings : List (List ℕ)) (journal :
   pub true_replaced : (state : State) → r < length openings → MayReplacePart old r state.law → AreTrueTo (with_state old r state) room (set openings r state.contents) journal
   true_replaced state opened may =
       let law = unasked_devices_may_be_replaced old.declaration room openings (set openings r state.contents) journal r
-          (λ q other. get_or-set_other openings r q state.contents _ other) s.honest (unasked_is may.0.1) in
+      (λ q other. get_or-set_other openings r q state.contents _ other) s.honest (unasked_is may.0.1) in
       let count = states_count old room openings journal s in
       let here : r < length old.states = omega (arith, count, within) in
       record {

@@ -93,8 +93,8 @@ all_written rows states same written =
     let k = length-map states (λ (x : State). x.contents) in
     ext_get_or [] (numbers_of rows) (contents_of states) (omega (arith, e, k, same))
     (λ r within. let here : r < length rows = omega (arith, e, within) in
-        get_or-map (λ (x : Row). x.numbers) rows r no_row [] here ∙ written r here
-        ∙ sym (get_or-map (λ (x : State). x.contents) states r _ [] (omega (arith, here, same))))
+    get_or-map (λ (x : Row). x.numbers) rows r no_row [] here ∙ written r here
+    ∙ sym (get_or-map (λ (x : State). x.contents) states r _ [] (omega (arith, here, same))))
 
 -- the law that a declaration tells
 pub law_found : (d : Declaration) (r : ℕ) (law : Law) → option_map (λ (x : Resource). x.law) (slice_get d.resources r) ≡ Some law → law_of d r ≡ law

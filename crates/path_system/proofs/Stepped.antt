@@ -118,6 +118,7 @@ true_opened parts d room states o =
         let k = length-map d.resources (λ (x : Resource). x.law) in
         let l = ap length o.laws in
         omega (arith, e, k, l, within)
+
     none : (r : ℕ) → r < length d.resources → get_or parts.asked r false ≡ true → ⊥
     none r within e =
         let k : get_or parts.asked r false ≡ false = ap (λ xs. get_or xs r false) o.fresh.unasked ∙ get_or-replicate (length d.resources) r false false within in

@@ -133,12 +133,12 @@ module _ (d : Declaration) (r : ℕ) where
         (λ h. elim h [
           | inl e ↦ inl (inl e)
           | inr later ↦ elim (more.0 later) [
-              | inl x ↦ inl (inr x)
-              | inr e ↦ inr (subst (λ b. resource_asked d b l.attempt l.reply ≡ Some r) here e)
-            ]
+            | inl x ↦ inl (inr x)
+            | inr e ↦ inr (subst (λ b. resource_asked d b l.attempt l.reply ≡ Some r) here e)
+          ]
         ]),
         (λ h. elim h [
-          | inl first ↦ elim first [ | inl e ↦ inl e | inr x ↦ inr (more.1 (inl x)) ]
+          | inl first ↦ elim first [ inl e ↦ inl e | inr x ↦ inr (more.1 (inl x)) ]
           | inr e ↦ inr (more.1 (inr (subst (λ b. resource_asked d b l.attempt l.reply ≡ Some r) (sym here) e)))
         ]),
       )

@@ -55,7 +55,7 @@ module _ (old : PartsValue) (room : ℕ) (openings : List (List ℕ)) (journal :
       let more = asked_more old.declaration r journal l in
       let so_far = s.asked r within in (
         (λ e. more.1 (inl (so_far.0 e))),
-        (λ k. elim (more.0 k) [ | inl before ↦ so_far.1 before | inr now ↦ absurd (no_resource (sym none ∙ now)) ]),
+        (λ k. elim (more.0 k) [ inl before ↦ so_far.1 before | inr now ↦ absurd (no_resource (sym none ∙ now)) ]),
       )
     where
       no_resource : ◌≡◌ {A = Option ℕ} None (Some r) → ⊥
@@ -164,15 +164,15 @@ module _ (old : PartsValue) (room : ℕ) (openings : List (List ℕ)) (journal :
         let more = asked_more old.declaration q journal (line_of w (Apply n verb) (as_reply answer)) in
         elim (cases_eq q r) [
           | inl same ↦ (
-              (λ e. more.1 (inr (asked_this ∙ ap Some (sym same)))),
-              (λ k. ap (λ p. get_or (set old.asked r true) p false) same
-                  ∙ get_or-set_same old.asked r true false (let k = s.asked_count in let l = resource_in old room openings journal s n a is in omega (arith, k, l))),
-            )
+            (λ e. more.1 (inr (asked_this ∙ ap Some (sym same)))),
+            (λ k. ap (λ p. get_or (set old.asked r true) p false) same
+                ∙ get_or-set_same old.asked r true false (let k = s.asked_count in let l = resource_in old room openings journal s n a is in omega (arith, k, l))),
+          )
           | inr other ↦
               let stays = get_or-set_other old.asked r q true false other in
               let so_far = s.asked q within in (
                 (λ e. more.1 (inl (so_far.0 (sym stays ∙ e)))),
-                (λ k. elim (more.0 k) [ | inl before ↦ stays ∙ so_far.1 before | inr now ↦ absurd (other (one_resource q r (sym now ∙ asked_this))) ]),
+                (λ k. elim (more.0 k) [ inl before ↦ stays ∙ so_far.1 before | inr now ↦ absurd (other (one_resource q r (sym now ∙ asked_this))) ]),
               )
         ]
       where
@@ -269,4 +269,3 @@ module _ (old : PartsValue) (room : ℕ) (openings : List (List ℕ)) (journal :
       go true is = true_moved w attempt reply new (answers.inside is)
           (honest_more old.declaration room openings journal (line_of w attempt reply) s.honest (owed_is old room openings journal s w attempt reply new answers) some)
       go false is = absurd (some ((answers.outside is).0))
-

@@ -3,8 +3,8 @@
 use crate::writers::{Failing, Full, Interrupted, Unflushed};
 use path_commands::{ROOM, Status, trace_to};
 use path_lex::DeclFault;
-use path_read::read;
 use path_model::MOST_LINES;
+use path_read::read;
 use refusing::Refusing;
 use std::alloc::Allocator;
 use std::io::{ErrorKind, Write};

@@ -1,10 +1,13 @@
 //! Texts, and what is read of them.
 
 use crate::in_turn::refuse_in_turn;
-use path_decl::{Decl, counts, law_of, op_name, operation, path_resource, paths_of, resource, resource_name, resource_of, tree_of};
+use path_decl::{
+    Decl, counts, law_of, op_name, operation, path_resource, paths_of, resource, resource_name,
+    resource_of, tree_of,
+};
 use path_lex::{DeclFault, is_name};
-use path_read::read;
 use path_model::{Expr, Law, OpId, PathId, ResId};
+use path_read::read;
 use refusing::Refusing;
 use std::alloc::{AllocError, Global};
 use std::process::Abort;

@@ -1,10 +1,10 @@
 //! Gates over worked examples: which starts each lets through, and which path it names.
 
 use path_code::translate;
-use path_lex::DeclFault;
-use path_read::read;
 use path_gate::Gate;
+use path_lex::DeclFault;
 use path_model::{OpId, OutOfMemory, PathId};
+use path_read::read;
 use path_trim::trim;
 use refusing::Refusing;
 use std::alloc::Allocator;

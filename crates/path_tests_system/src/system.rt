@@ -2,8 +2,8 @@
 
 use path_decl::{Decl, counts};
 use path_lex::DeclFault;
-use path_read::read;
 use path_model::{ActId, Attempt, OpId, OutOfMemory, PathId, Reply, ResId, Verb};
+use path_read::read;
 use path_system::{OpenFault, System};
 use refusing::Refusing;
 use std::alloc::Allocator;

@@ -133,7 +133,10 @@ fn each_request_of_a_reply_is_refused(rt: HostRuntime) {
             Ok(()) => {
                 assert!(rt; k > 1);
                 assert!(rt; !refusing.has_refused());
-                assert_eq!(rt; bytes.as_slice(), b": used 18446744073709551615\n".as_slice());
+                assert_eq!(rt;
+                    bytes.as_slice(),
+                    b": used 18446744073709551615\n".as_slice()
+                );
                 return;
             }
             Err(OutOfMemory) => assert!(rt; refusing.has_refused()),

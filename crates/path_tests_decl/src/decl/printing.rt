@@ -2,9 +2,9 @@
 
 use crate::in_turn::refuse_in_turn;
 use path_decl::Decl;
-use path_read::read;
 use path_model::OutOfMemory;
 use path_print::print;
+use path_read::read;
 use refusing::Refusing;
 use std::alloc::Global;
 use std::process::Abort;
@@ -91,15 +91,11 @@ fn prints_in_turn(rt: &impl Abort, heap: Global, text: &str) {
         let printed = print(refusing, &decl)?;
         Ok(printed.as_str() == text)
     });
-    let decl = declared(&rt, rt.alloc(), LAWS);
-    refuse_in_turn(&rt, rt.alloc(), OutOfMemory, |heap: &Refusing<Global>| {
-        let text = print(heap, &decl)?;
-        Ok(text.as_str() == LAWS)
-    });
 }
 
 #[test]
 fn printing_wants_memory(rt: HostRuntime) {
     prints_in_turn(&rt, rt.alloc(), OTHER_TREES);
     prints_in_turn(&rt, rt.alloc(), POOL);
+    prints_in_turn(&rt, rt.alloc(), LAWS);
 }

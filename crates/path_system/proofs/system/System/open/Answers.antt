@@ -17,7 +17,7 @@ returns-then-room-eq0-clause-fault g c =
 pub returns-in-Err-clause-fault : goal.returns-in-Err-clause-fault
 returns-in-Err-clause-fault g c =
     open_fault c.args.room (map g.D.Device.state c.args.devices.items) c.args.decl.declaration c.in-Err.fault
-    (λ bad. elim bad [ | inl e ↦ absurd (let k = c.if-room-eq0.false in omega (arith, k, e)) | inr l ↦ absurd (let k = c.if-room-gt-MOST_LINES.false in omega (arith, k, l)) ])
+    (λ bad. elim bad [ inl e ↦ absurd (let k = c.if-room-eq0.false in omega (arith, k, e)) | inr l ↦ absurd (let k = c.if-room-gt-MOST_LINES.false in omega (arith, k, l)) ])
     c.in-Err.ensures.fault
 
 pub write_all-requires-clause-devices : goal.write_all-requires-clause-devices

@@ -22,8 +22,8 @@ returns-in_err-replace-clause-fault g c =
     let within : c.args.resource.0 < length c.self.inside.parts.declaration.resources = subst (λ (a : Account). c.args.resource.0 < length a.declaration.resources) (sym c.self.view_is) c.requires in
     let law = (g.D.Device.state c.args.device).law in
     rw (← c.self.view_is) (IfErr-weaker c.from_residual.result (λ refusal. IsPartsFault c.self.inside.parts c.args.resource.0 law refusal.0) _
-        (λ refusal is. replace_fault c.self.inside.parts c.self.inside.room (numbers_of c.self.inside.openings) c.self.inside.journal.items c.self.invariant.told c.args.resource.0 within law refusal.0 is)
-        (grind (arith, common_steps)))
+    (λ refusal is. replace_fault c.self.inside.parts c.self.inside.room (numbers_of c.self.inside.openings) c.self.inside.journal.items c.self.invariant.told c.args.resource.0 within law refusal.0 is)
+    (grind (arith, common_steps)))
 
 within_of : (g : Over) (c : After-shelf g) → c.args.resource.0 < length c.self.inside.parts.declaration.resources
 within_of g c = subst (λ (a : Account). c.args.resource.0 < length a.declaration.resources) (sym c.self.view_is) c.requires

@@ -84,4 +84,3 @@ returns-else-not-is_no_room-clause-failures g c = rw (← c.self.view_is) ((coun
 
 pub returns-else-not-is_no_room-clause-failed : goal.returns-else-not-is_no_room-clause-failed
 returns-else-not-is_no_room-clause-failed g c = rw (← c.self.view_is) ((counts_of g ((goal.at.returns-else-not-is_no_room-clause-failed g c).After-is_no_room)).failed)
-
