@@ -3,3 +3,5 @@ pub mod InputLemmas
 pub mod PutLemmas
 pub mod FaultLemmas
 pub mod TraceLemmas
+pub mod FailLemmas
+pub mod OwnLemmas

@@ -4,8 +4,8 @@ use Rattle.path_lex.specs.declared.fault.DeclFault.{DeclFault}
 use Rattle.path_lex.specs.declared.fault.DeclFault.TheVariants as declarations
 use Rattle.path_lines.specs.declared.texts.TextFault.{TextFault}
 use Rattle.path_lines.specs.declared.texts.TextFault.TheVariants as texts
-use Rattle.path_system.specs.declared.system.OpenFault.{OpenFault}
-use Rattle.path_system.specs.declared.system.OpenFault.TheVariants as openings
+use Rattle.path_system.specs.declared.fault.OpenFault.{OpenFault}
+use Rattle.path_system.specs.declared.fault.OpenFault.TheVariants as openings
 use Rattle.path_commands.specs.declared.status.Status.{Status}
 use Rattle.path_commands.specs.declared.status.Status.TheVariants as statuses
 use Rattle.path_commands.specs.declared.fault.Fault.{Fault}
@@ -27,8 +27,8 @@ declaration_status fault = statuses.DeclarationRefused
 
 -- the status of a system that can't be opened
 abbrev pub open_status : OpenFault → Status
-open_status openings.BadRoom = statuses.CommandRefused
 open_status openings.OutOfMemory = statuses.NoMemory
+open_status fault = statuses.CommandRefused
 
 -- the status of a refused text of attempts
 abbrev pub text_status : TextFault → Status

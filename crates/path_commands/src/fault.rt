@@ -76,7 +76,7 @@ impl<'a> Fault<'a> {
             | Fault::Text(TextFault::OutOfMemory)
             | Fault::OutOfMemory => Status::NoMemory,
             Fault::Declaration(_) => Status::DeclarationRefused,
-            Fault::Arguments | Fault::Open(OpenFault::BadRoom) => Status::CommandRefused,
+            Fault::Arguments | Fault::Open(_) => Status::CommandRefused,
             Fault::Unreadable(_) | Fault::TooLong(_) | Fault::Unwritable => Status::StreamFailed,
             Fault::Text(_) => Status::TextRefused,
         }

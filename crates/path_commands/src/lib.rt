@@ -5,6 +5,7 @@ mod check;
 mod compile;
 mod fault;
 mod input;
+mod own;
 mod put;
 mod status;
 mod trace;

@@ -1,20 +1,25 @@
 //! The theorem from bytes to bytes: attempts in, each with its reply out.
 
-ghost use Rattle.std.specs.Prelude.{◌≡◌, ◌≢◌, ◌+◌, ◌≤◌, length, drop, IfOk, IfErr, IfSome, IfNone, OnOk};
+ghost use Rattle.std.specs.Prelude.{◌≡◌, ◌≢◌, ◌+◌, ◌≤◌, length, map, drop, IfOk, IfErr, IfSome, IfNone, OnOk};
 ghost use Rattle.std.specs.Io.KnownBytes.{Keeps};
+ghost use Rattle.path_shelf.specs.States.{MayFail, laws_of};
+ghost use Rattle.path_shelf.specs.Shelves.{declared_laws};
+ghost use Rattle.path_system.specs.Faults.{IsBadRoom, IsOpenFault};
 ghost use Rattle.path_commands.specs.Statuses.{status_of};
 ghost use Rattle.path_commands.specs.Writes.{AppendsSome, IsFrontOf};
 ghost use Rattle.path_commands.specs.Prints.{IsNoDeclaration};
-ghost use Rattle.path_commands.specs.Traces.{IsAnswered, IsTraceBy, IsTraceOf, IsTraceOfTexts};
-ghost use Rattle.path_commands.specs.Traces.{IsBadRoom, IsBadText, IsBadTextUnder, IsRefused};
+ghost use Rattle.path_commands.specs.Traces.{IsAnswered, IsTraceBy, IsTraceOf, IsTraceOfTexts, own_states};
+ghost use Rattle.path_commands.specs.Traces.{IsBadAttempts, IsBadText, IsBadTextUnder, IsRefused, IsUnopened};
 
 use crate::fault::{Fault, tell};
+use crate::own::own_devices;
 use crate::put::put_text;
 use crate::status::Status;
 use path_decl::Decl;
 use path_lines::{LIMIT, TextFault, fault_at, first_entry, push_told, read_attempts};
 use path_model::{Attempt, MOST_LINES};
 use path_read::read;
+use path_shelf::{Device, shelf_fault};
 use path_system::{OpenFault, System};
 use std::alloc::Allocator;
 use std::io::Write;
@@ -34,14 +39,14 @@ fn longest_trace(attempts: &[u8]) -> usize {
 }
 
 /// Steps the system, and appends the attempt's own line with its reply and a line feed.
-fn answer<A: Allocator + Copy>(
-    system: &mut System<A>,
+fn answer<D: Device, A: Allocator + Copy>(
+    system: &mut System<D, A>,
     worker: u32,
     attempt: Attempt,
     line: &[u8],
     trace: &mut Vec<u8, A>,
 ) -> Result<(), Fault<'static>>
-    ensures ok { OnOk result (IsAnswered system.old system.new worker attempt line.now trace.old.items trace.new.items) }
+    ensures ok { OnOk result (IsAnswered (MayFail D.state) system.old system.new worker attempt line.now trace.old.items trace.new.items) }
     ensures memory { IfErr result (λ fault. fault ≡ Fault.OutOfMemory) }
 {
     let reply = system.step(worker, attempt);
@@ -63,14 +68,14 @@ fn behind(text: &[u8], length: usize) -> &[u8]
 
 /// The system's answers to the attempts of a text, one line each. One pass over the text: each line is read, answered and
 /// copied.
-fn answers<A: Allocator + Copy>(
+fn answers<D: Device, A: Allocator + Copy>(
     alloc: A,
-    system: &mut System<A>,
+    system: &mut System<D, A>,
     attempts: &[u8],
 ) -> Result<Vec<u8, A>, Fault<'static>>
     requires { length attempts.now ≤ LIMIT }
-    ensures ok { IfOk result (λ bytes. IsTraceBy system.old attempts.now bytes.items) }
-    ensures err { IfErr result (λ fault. IsRefused system.old.declaration system.old.room attempts.now (status_of fault)) }
+    ensures ok { IfOk result (λ bytes. IsTraceBy (MayFail D.state) system.old attempts.now bytes.items) }
+    ensures err { IfErr result (λ fault. IsBadAttempts system.old.declaration attempts.now (status_of fault)) }
 {
     let mut trace = Vec::with_capacity(alloc, longest_trace(attempts))?;
     let mut rest = attempts;
@@ -88,57 +93,113 @@ fn answers<A: Allocator + Copy>(
     Ok(trace)
 }
 
-/// Why no system of this room traces a text, where one can tell before it is opened: the text is too long, or no system has
-/// the room. A text that is at fault counts before the room.
-fn refusal<A: Allocator + Copy>(
+/// Why no system of this room is opened over the devices.
+fn open_fault<D: Device, A: Allocator + Copy>(
+    decl: &Decl<A>,
+    devices: &[D],
+    room: u32,
+) -> Option<OpenFault>
+    ensures some { IfSome result (λ fault. (fault ≢ OpenFault.OutOfMemory)
+        × IsOpenFault room (map D.state devices.now) decl.now.declaration fault) }
+    ensures none { IfNone result ((IsBadRoom room → ⊥) × (laws_of (map D.state devices.now) ≡ declared_laws decl.now.declaration)) }
+{
+    if room == 0 || room > MOST_LINES {
+        return Some(OpenFault::BadRoom);
+    }
+    match shelf_fault(devices, decl) {
+        Some(fault) => Some(OpenFault::from(fault)),
+        None => None,
+    }
+}
+
+/// Why no system of this room over the devices traces a text, where one can tell before it is opened: the text is too long, or
+/// none is opened so. A text that is at fault counts before that.
+fn refusal<D: Device, A: Allocator + Copy>(
     alloc: A,
     decl: &Decl<A>,
+    devices: &[D],
     room: u32,
     attempts: &[u8],
 ) -> Option<Fault<'static>>
-    ensures some { IfSome result (λ fault. IsRefused decl.now.declaration room attempts.now (status_of fault)) }
-    ensures none { IfNone result ((length attempts.now ≤ LIMIT) × (IsBadRoom room → ⊥)) }
+    ensures some { IfSome result (λ fault.
+        IsRefused decl.now.declaration (map D.state devices.now) room attempts.now (status_of fault)) }
+    ensures none { IfNone result ((length attempts.now ≤ LIMIT) × (IsBadRoom room → ⊥)
+        × (laws_of (map D.state devices.now) ≡ declared_laws decl.now.declaration)) }
 {
     if attempts.len() > LIMIT {
         return Some(Fault::Text(TextFault::TooLong));
     }
-    if room != 0 && room <= MOST_LINES {
-        return None;
-    }
+    let fault = open_fault(decl, devices, room)?;
     match read_attempts(alloc, decl, attempts) {
-        Ok(_) => Some(Fault::Open(OpenFault::BadRoom)),
+        Ok(_) => Some(Fault::Open(fault)),
         Err(fault) => Some(Fault::Text(fault)),
     }
 }
 
-/// What a system of this room answers to the attempts of a text.
-fn traced<A: Allocator + Copy>(
+/// What a system of this room over the devices answers to the attempts of a text.
+fn traced<D: Device, A: Allocator + Copy>(
     alloc: A,
     decl: Decl<A>,
+    devices: Vec<D, A>,
     room: u32,
     attempts: &[u8],
 ) -> Result<Vec<u8, A>, Fault<'static>>
-    ensures ok { IfOk result (λ bytes. IsTraceOf decl.declaration room attempts.now bytes.items) }
-    ensures room { OnOk result (IsBadRoom room → ⊥) }
-    ensures err { IfErr result (λ fault. IsRefused decl.declaration room attempts.now (status_of fault)) }
+    ensures ok { IfOk result (λ bytes.
+        IsTraceOf decl.declaration (map D.state devices.items) (MayFail D.state) room attempts.now bytes.items) }
+    ensures opened { OnOk result ((IsBadRoom room → ⊥) × (laws_of (map D.state devices.items) ≡ declared_laws decl.declaration)) }
+    ensures err { IfErr result (λ fault.
+        IsRefused decl.declaration (map D.state devices.items) room attempts.now (status_of fault)) }
 {
-    if let Some(fault) = refusal(alloc, &decl, room, attempts) {
+    if let Some(fault) = refusal(alloc, &decl, &devices, room, attempts) {
         return Err(fault);
     }
-    match System::open(alloc, decl, room) {
+    match System::open(alloc, decl, devices, room) {
         Ok(mut system) => answers(alloc, &mut system, attempts),
-        Err(fault) => Err(Fault::Open(fault)),
+        Err((fault, _)) => Err(Fault::Open(fault)),
     }
 }
 
-/// Reads attempts, steps a system through them, and writes each with its reply, one line each. Nothing is written before
-/// the whole text was read. Each cell opens with 0, and the journal has room for so many lines; an attempt without room is
+/// Reads attempts, steps a system over the devices through them, and writes each with its reply, one line each. Nothing is
+/// written before the whole text was read. The journal has room for so many lines; an attempt without room is
 /// answered so. The cost is that of the text, of the system's opening, and of a step for each attempt.
 ///
-/// `CommandRefused`: the room is 0 or above [`MOST_LINES`]. `TextRefused`: the text is refused, which counts before the
-/// room. `StreamFailed`: a writer failed, and what it took is unknown. `NoMemory`: memory is wanting, and a front of the
-/// trace was written. A fault is one line on `err`.
-pub fn trace_to<A: Allocator + Copy, O: Write, E: Write>(
+/// `CommandRefused`: the room is 0 or above [`MOST_LINES`], or the devices aren't those of the declaration, one for each
+/// resource and of its law. `TextRefused`: the text is refused, which counts before these. `StreamFailed`: a writer failed, and
+/// what it took is unknown. `NoMemory`: memory is wanting, and a front of the trace was written. A fault is one line on `err`.
+pub fn trace_to<D: Device, A: Allocator + Copy, O: Write, E: Write>(
+    alloc: A,
+    decl: Decl<A>,
+    devices: Vec<D, A>,
+    room: u32,
+    attempts: &[u8],
+    out: &mut O,
+    err: &mut E,
+) -> Status
+    // Each attempt of the text was written with a reply owed after the lines so far, and nothing else was.
+    ensures done { result ≡ Status.Done → AppendsSome (O.contents out.old) (O.contents out.new)
+        (IsTraceOf decl.declaration (map D.state devices.items) (MayFail D.state) room attempts.now) }
+    // Nothing is done in a room that no system has, nor over devices of other laws.
+    ensures room { IsBadRoom room → result ≢ Status.Done }
+    ensures laws { result ≡ Status.Done → laws_of (map D.state devices.items) ≡ declared_laws decl.declaration }
+    // No system is opened so, and nothing was written.
+    ensures unopened { result ≡ Status.CommandRefused
+        → Keeps (O.contents out.old) (O.contents out.new) × IsUnopened decl.declaration (map D.state devices.items) room }
+    // The text is too long or tells no attempts, and nothing was written.
+    ensures refused { result ≡ Status.TextRefused
+        → Keeps (O.contents out.old) (O.contents out.new) × IsBadText decl.declaration attempts.now }
+    // Only a front of those lines was written.
+    ensures memory { result ≡ Status.NoMemory → AppendsSome (O.contents out.old) (O.contents out.new)
+        (IsFrontOf (IsTraceOf decl.declaration (map D.state devices.items) (MayFail D.state) room attempts.now)) }
+    ensures statuses { result ≢ Status.DeclarationRefused }
+{
+    match traced(alloc, decl, devices, room, attempts) {
+        Ok(trace) => put_text(out, err, trace.as_slice()),
+        Err(fault) => tell(err, fault),
+    }
+}
+
+/// [`trace_to`] over the program's own devices.
+fn trace_own<A: Allocator + Copy, O: Write, E: Write>(
     alloc: A,
     decl: Decl<A>,
     room: u32,
@@ -146,28 +207,24 @@ pub fn trace_to<A: Allocator + Copy, O: Write, E: Write>(
     out: &mut O,
     err: &mut E,
 ) -> Status
-    // Each attempt of the text was written with a reply owed after the lines so far, and nothing else was.
-    ensures done { result ≡ Status.Done
-        → AppendsSome (O.contents out.old) (O.contents out.new) (IsTraceOf decl.declaration room attempts.now) }
-    // Nothing is done in a room that no system has.
+    ensures done { result ≡ Status.Done → AppendsSome (O.contents out.old) (O.contents out.new)
+        (IsTraceOf decl.declaration (own_states decl.declaration) ⊥ room attempts.now) }
     ensures room { IsBadRoom room → result ≢ Status.Done }
-    // No system has the room, and nothing was written.
     ensures bad_room { result ≡ Status.CommandRefused → Keeps (O.contents out.old) (O.contents out.new) × IsBadRoom room }
-    // The text is too long or tells no attempts, and nothing was written.
     ensures refused { result ≡ Status.TextRefused
         → Keeps (O.contents out.old) (O.contents out.new) × IsBadText decl.declaration attempts.now }
-    // Only a front of those lines was written.
-    ensures memory { result ≡ Status.NoMemory
-        → AppendsSome (O.contents out.old) (O.contents out.new) (IsFrontOf (IsTraceOf decl.declaration room attempts.now)) }
+    ensures memory { result ≡ Status.NoMemory → AppendsSome (O.contents out.old) (O.contents out.new)
+        (IsFrontOf (IsTraceOf decl.declaration (own_states decl.declaration) ⊥ room attempts.now)) }
     ensures statuses { result ≢ Status.DeclarationRefused }
 {
-    match traced(alloc, decl, room, attempts) {
-        Ok(trace) => put_text(out, err, trace.as_slice()),
-        Err(fault) => tell(err, fault),
+    match own_devices(alloc, &decl) {
+        Ok(devices) => trace_to(alloc, decl, devices, room, attempts, out, err),
+        Err(_) => tell(err, Fault::OutOfMemory),
     }
 }
 
-/// Reads a declaration, and writes each attempt with its reply, as [`trace_to`] does and at its cost.
+/// Reads a declaration, and writes each attempt with its reply, as [`trace_to`] does and at its cost. The devices are
+/// [`OwnDevice`](path_shelf::OwnDevice)s: each cell and tally contains 0 at first, each queue is empty, and none fails.
 ///
 /// `DeclarationRefused`: the declaration is refused. `TextRefused`: the attempts are. `CommandRefused`: the room is. At
 /// these nothing was written. `StreamFailed`: a writer failed, and what it took is unknown. `NoMemory`: memory is wanting,
@@ -198,7 +255,7 @@ pub fn trace_bytes<A: Allocator + Copy, O: Write, E: Write>(
         → AppendsSome (O.contents out.old) (O.contents out.new) (IsFrontOf (IsTraceOfTexts declaration.now room attempts.now)) }
 {
     match read(alloc, declaration) {
-        Ok(decl) => trace_to(alloc, decl, room, attempts, out, err),
+        Ok(decl) => trace_own(alloc, decl, room, attempts, out, err),
         Err(fault) => tell(err, Fault::Declaration(fault)),
     }
 }

@@ -1,14 +1,16 @@
 -- The devices of a shelf as their states: one acts, and one more has the law of its resource.
-use Rattle.std.proofs.Common.{◌≡◌, ℕ, ◌+◌, ◌<◌, List, [], length, get_or, take, refl, sym, ap, ◌∙◌, Result, arith}
+use Rattle.std.proofs.Common.{◌≡◌, ℕ, ◌+◌, ◌<◌, List, [], length, get_or, take, refl, sym, ap, ◌∙◌, Result, Err, inl, inr, arith}
 use Rattle.std.proofs.Math.ListN.{set}
-use Rattle.std.specs.Prelude.{map}
+use Rattle.std.specs.Prelude.{map, IfErr}
 use Rattle.std.proofs.lemmas.List.{map-set, get_or-map, get_or-set_same, length-map, take_more_same}
 use Rattle.path_model.specs.declared.resource.Law.{Law}
 use Rattle.path_model.specs.declared.resource.Law.TheVariants.{Cell}
 use Rattle.path_model.specs.declared.journal.Verb.{Verb}
 use Rattle.path_model.specs.Declarations.{Resource, Declaration, law_of}
+use Rattle.path_model.specs.Devices.{outcome_of}
 use Rattle.path_shelf.specs.declared.device.ActFault.{ActFault}
-use Rattle.path_shelf.specs.States.{State, Acts, ActsAt, state_at, laws_of}
+use Rattle.path_shelf.specs.declared.device.ActFault.TheVariants.{Failed}
+use Rattle.path_shelf.specs.States.{State, Acts, ActsAt, IsOwedFault, MayFail, state_at, laws_of}
 use Rattle.path_shelf.specs.Shelves.{declared_laws}
 
 -- the state past the end
@@ -28,6 +30,13 @@ acts_at f xs i a b verb r h acts =
     let after : state_at (set (map f xs) i (f b)) i ≡ f b = get_or-set_same (map f xs) i (f b) nothing within in
     let put : map f (set xs i b) ≡ set (map f xs) i (f b) = map-set f xs i b in
     rw put (record { acts = rw (before, after) acts; others = rw after refl })
+
+-- one that failed has counted it
+pub acts_failed : {A : Type 0} (f : A → State) (a b : A) (verb : Verb) (r : Result ℕ ActFault) → Acts (f a) verb r (f b) → r ≡ Err Failed → MayFail f
+acts_failed f a b verb r acts e =
+    let owed : IfErr r (λ fault. IsOwedFault (outcome_of (f a).law verb (f a).contents) fault (f a).failures (f b).failures) = acts.fault in
+    let counted = (rw e at owed).1 in
+    (b, elim counted [ inl more ↦ omega (arith, more) | inr last ↦ omega (arith, last) ])
 
 -- the law of what stands at a place
 law_at-map : {A : Type 0} (f : A → State) (xs : List A) (i : ℕ) (a : A) (d : Law) → i < length xs → get_or (laws_of (map f xs)) i d ≡ (f (get_or xs i a)).law

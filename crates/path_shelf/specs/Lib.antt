@@ -1,2 +1,4 @@
 pub mod States
 pub mod Shelves
+pub mod Openings
+pub mod Own

@@ -1,5 +1,5 @@
 -- What contracts see of devices, and how a verb changes them.
-use Rattle.std.specs.Prelude.{◌≡◌, ◌⊎◌, ◌+◌, ◌^◌, ℕ, List, [], map, slice_index_or, slice_set, Result, IfOk, IfErr, OnErr}
+use Rattle.std.specs.Prelude.{◌≡◌, ◌⊎◌, ◌+◌, ◌<◌, ◌^◌, ℕ, List, [], map, slice_index_or, slice_set, Result, IfOk, IfErr, OnErr}
 use Rattle.path_model.specs.declared.resource.Law.{Law}
 use Rattle.path_model.specs.declared.resource.Law.TheVariants.{Cell}
 use Rattle.path_model.specs.declared.journal.Verb.{Verb}
@@ -47,6 +47,10 @@ state_at states i = slice_index_or states i (record { law = Cell; contents = [];
 pub record ActsAt (old : List State) (i : ℕ) (verb : Verb) (result : Result ℕ ActFault) (new : List State) : Type 0 where
   pub acts : Acts (state_at old i) verb result (state_at new i)
   pub others : new ≡ slice_set old i (state_at new i)
+
+-- some device of the type has failed
+abbrev pub MayFail : {D : Type 0} → (D → State) → Type 0
+MayFail {D} state = (d : D) × (0 < (state d).failures)
 
 -- the laws of a shelf's devices
 abbrev pub laws_of : List State → List Law

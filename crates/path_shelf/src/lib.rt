@@ -6,12 +6,14 @@
 mod boxed;
 mod cell;
 mod device;
+mod own;
 mod queue;
 mod shelf;
 mod tally;
 
 pub use cell::Cell;
 pub use device::{ActFault, Device};
+pub use own::OwnDevice;
 pub use queue::Queue;
-pub use shelf::{Shelf, ShelfFault};
+pub use shelf::{Shelf, ShelfFault, shelf_fault};
 pub use tally::Tally;

@@ -1,9 +1,9 @@
 //! One device for each resource of a declaration.
 
-ghost use Rattle.std.specs.Prelude.{◌≡◌, ◌<◌, ◌↔◌, length, map, slice_get, slice_set, IsOk, IsTrue, IfOk, IfErr, OnOk, OnErr, MatchOption};
+ghost use Rattle.std.specs.Prelude.{◌≡◌, ◌<◌, ◌↔◌, length, map, slice_get, slice_set, IsOk, IsTrue, IsErrOf, IfOk, IfErr, OnOk, OnErr, MatchOption};
 ghost use Rattle.path_model.specs.Declarations as declarations;
 ghost use Rattle.path_model.specs.Devices.{Fits};
-ghost use Rattle.path_shelf.specs.States.{ActsAt, state_at, laws_of};
+ghost use Rattle.path_shelf.specs.States.{ActsAt, MayFail, state_at, laws_of};
 ghost use Rattle.path_shelf.specs.Shelves.{IsShelfFault, declared_laws};
 
 use crate::device::{ActFault, Device};
@@ -58,7 +58,9 @@ impl<D: Device, A: Allocator + Copy> Shelf<D, A> {
     /// that of the device's own call, as for the next three.
     pub fn act(&mut self, resource: ResId, verb: Verb) -> Result<u64, ActFault>
         requires { resource.0 < length self.old }
-        ensures { ActsAt self.old resource.0 verb result self.new }
+        ensures acts { ActsAt self.old resource.0 verb result self.new }
+        // A failure was counted.
+        ensures failed { IsErrOf result ActFault.Failed → MayFail D.state }
     {
         self.devices[resource.0 as usize].act(verb)
     }
@@ -116,8 +118,11 @@ fn has_its_law<D: Device, A: Allocator + Copy>(device: &D, decl: &Decl<A>, resou
     law_of(decl, resource) == Some(device.law())
 }
 
-/// Why these devices make no shelf, if they don't.
-fn shelf_fault<D: Device, A: Allocator + Copy>(devices: &[D], decl: &Decl<A>) -> Option<ShelfFault>
+/// Why these devices make no shelf of the declaration, where [`Shelf::open`] refuses them. The cost is one look at each.
+pub fn shelf_fault<D: Device, A: Allocator + Copy>(
+    devices: &[D],
+    decl: &Decl<A>,
+) -> Option<ShelfFault>
     ensures { MatchOption result (laws_of (map D.state devices.now) ≡ declared_laws decl.now.declaration)
         (IsShelfFault (map D.state devices.now) decl.now.declaration) }
 {

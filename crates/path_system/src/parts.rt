@@ -1,8 +1,10 @@
 //! The parts of a system. They fit one another, and know no journal.
 
-ghost use Rattle.std.specs.Prelude.{◌≡◌, ◌+◌, ◌<◌, ◌≤◌, [], ◌↔◌, IsTrue, length, map, replicate, false, IfOk, IfErr};
+ghost use Rattle.std.specs.Prelude.{◌≡◌, ◌≢◌, ◌+◌, ◌<◌, ◌≤◌, [], ◌↔◌, IsTrue, length, map, replicate, false, IfOk, IfErr};
+ghost use Rattle.path_model.specs.declared.journal.Reply.TheVariants as replies;
 ghost use Rattle.path_model.specs.Declarations as declarations;
 ghost use Rattle.path_model.specs.Journals.{activation_of};
+ghost use Rattle.path_shelf.specs.States.{MayFail};
 ghost use Rattle.path_system.specs.Faults.{IsDevicesFault};
 ghost use Rattle.path_system.specs.Parts.{Answers, AreFresh, AreOpened, AreReady, MovesFinish, MovesStart, MovesUse, as_reply};
 
@@ -147,7 +149,8 @@ impl<D: Device, A: Allocator + Copy> Parts<D, A> {
         requires room { length self.old.book.live < self.old.book.room }
         requires number { self.old.book.begun < 4294967295 }
         requires admitted { self.old.standing.admitted < 4294967295 }
-        ensures { MovesStart self.old worker op result self.new }
+        ensures moves { MovesStart self.old worker op result self.new }
+        ensures never_failed { result ≢ replies.DeviceFailed }
     {
         if op.0 >= counts(&self.decl).operations {
             return Reply::UnknownOperation;
@@ -161,7 +164,8 @@ impl<D: Device, A: Allocator + Copy> Parts<D, A> {
     /// A use, which there is room for.
     fn apply(&mut self, worker: u32, act: ActId, verb: Verb) -> Reply
         requires { AreReady self.old }
-        ensures { MovesUse self.old worker verb (activation_of act self.old.book.live) result self.new }
+        ensures moves { MovesUse self.old worker verb (activation_of act self.old.book.live) result self.new }
+        ensures failed { (result ≡ replies.DeviceFailed) → MayFail D.state }
     {
         match self.ledger.find(act) {
             None => Reply::Stale,
@@ -179,7 +183,8 @@ impl<D: Device, A: Allocator + Copy> Parts<D, A> {
     /// A finish, which there is room for or which needs none. The activation is looked for once.
     fn finish(&mut self, worker: u32, act: ActId) -> Reply
         requires { AreReady self.old }
-        ensures { MovesFinish self.old worker act (activation_of act self.old.book.live) result self.new }
+        ensures moves { MovesFinish self.old worker act (activation_of act self.old.book.live) result self.new }
+        ensures never_failed { result ≢ replies.DeviceFailed }
     {
         match self.ledger.end_own(worker, act) {
             Err(EndFault::Stale) => Reply::Stale,
@@ -199,7 +204,8 @@ impl<D: Device, A: Allocator + Copy> Parts<D, A> {
         requires places { self.old.book.room ≡ room }
         requires number { self.old.book.begun ≤ lines }
         requires admitted { self.old.standing.admitted ≤ lines }
-        ensures { Answers self.old room lines worker attempt result self.new }
+        ensures moves { Answers self.old room lines worker attempt result self.new }
+        ensures failed { (result ≡ replies.DeviceFailed) → MayFail D.state }
     {
         let taken = lines + self.ledger.live().len();
         let room = room as usize;

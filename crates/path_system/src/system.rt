@@ -1,7 +1,7 @@
 //! One system over devices, under one journal: starts, uses and finishes, step by step.
 
 ghost use Rattle.std.specs.Prelude.{◌≡◌, ◌↔◌, ◌+◌, ◌<◌, ◌≤◌, [], length, map, slice_get, slice_set, IsOk, IfOk, IfErr, OnOk, OnErr, IsTrue};
-ghost use Rattle.path_shelf.specs.States.{laws_of};
+ghost use Rattle.path_shelf.specs.States.{MayFail, laws_of};
 ghost use Rattle.path_shelf.specs.Shelves.{declared_laws};
 ghost use Rattle.path_system.specs.Accounts.{account_of, with_device, StayBut, HasFailed};
 ghost use Rattle.path_system.specs.Faults.{IsOpenFault, IsReplaceFault, MayReplace};
@@ -124,6 +124,8 @@ impl<D: Device, A: Allocator + Copy> System<D, A> {
             self.old.failures self.new.failures }
         ensures failed { (result ≡ replies.DeviceFailed) → HasFailed (resource_asked self.old.declaration self.old.journal attempt result)
             self.old.failures self.new.failures }
+        // Where no device of the type ever fails, none is said to have failed.
+        ensures may_fail { (result ≡ replies.DeviceFailed) → MayFail D.state }
     {
         let reply = self
             .parts

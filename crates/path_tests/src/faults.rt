@@ -3,6 +3,7 @@
 use path_commands::{Fault, Status, tell};
 use path_lex::DeclFault;
 use path_lines::TextFault;
+use path_model::ResId;
 use path_system::OpenFault;
 use std::alloc::Global;
 use std::process::Abort;
@@ -31,6 +32,8 @@ fn tells_each_fault(rt: HostRuntime) {
         ),
         (Fault::Arguments, 2, "arguments: cannot read\n"),
         (Fault::Open(OpenFault::BadRoom), 2, "open: bad room\n"),
+        (Fault::Open(OpenFault::WrongCount), 2, "open: wrong count\n"),
+        (Fault::Open(OpenFault::WrongDevice(ResId(63))), 2, "open: wrong device 63\n"),
         (Fault::Open(OpenFault::OutOfMemory), 6, "out of memory\n"),
         (Fault::Unreadable("slot"), 3, "file: slot: cannot read\n"),
         (

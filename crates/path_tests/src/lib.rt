@@ -6,6 +6,8 @@ mod commands;
 #[cfg(test)]
 mod compile;
 #[cfg(test)]
+mod devices;
+#[cfg(test)]
 mod faults;
 #[cfg(test)]
 mod input;

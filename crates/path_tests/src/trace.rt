@@ -2,9 +2,11 @@
 
 use crate::writers::{Failing, Full, Interrupted, Unflushed};
 use path_commands::{ROOM, Status, trace_to};
+use path_decl::counts;
 use path_lex::DeclFault;
 use path_model::MOST_LINES;
 use path_read::read;
+use path_shelf::Cell;
 use refusing::Refusing;
 use std::alloc::Allocator;
 use std::io::{ErrorKind, Write};
@@ -18,7 +20,7 @@ const FORK: &str = "resource r cell operation a, b, c path a ; b end path a ; c 
 
 const TWIN: &str = "resource r cell operation a, b path a ; b end path ( a ; b ) end end";
 
-// Traces the attempts into the writers; none where the declaration wants memory.
+// Traces the attempts over cells into the writers; none where the declaration or the cells want memory.
 fn try_trace<A: Allocator + Copy, O: Write, E: Write>(
     alloc: A,
     declaration: &str,
@@ -28,7 +30,11 @@ fn try_trace<A: Allocator + Copy, O: Write, E: Write>(
     err: &mut E,
 ) -> Result<Status, DeclFault> {
     let decl = read(alloc, declaration.as_bytes())?;
-    Ok(trace_to(alloc, decl, room, attempts.as_bytes(), out, err))
+    let mut cells = Vec::new(alloc);
+    for _ in 0..counts(&decl).resources {
+        cells.push(Cell::new(0))?;
+    }
+    Ok(trace_to(alloc, decl, cells, room, attempts.as_bytes(), out, err))
 }
 
 // The status of a trace, and what it wrote on its output and on standard error.

@@ -1,13 +1,18 @@
 -- The system that was opened answers.
-use Rattle.std.proofs.Common.{ap, Err}
-use Rattle.path_commands.proofs.FaultLemmas.{refuses_opening}
+use Rattle.std.specs.Prelude.{map}
+use Rattle.std.proofs.lemmas.Result.{IfErr-weaker}
+use Rattle.path_commands.specs.Statuses.{status_of}
+use Rattle.path_commands.proofs.FaultLemmas.{refuses_attempts, refuses_opening}
 use Rattle.path_commands.proofs.trace.traced.Goals as goal
 
 pub returns-in-Ok-clause-ok : goal.returns-in-Ok-clause-ok
 returns-in-Ok-clause-ok g c = rw c.in-Ok.ensures.ok at c.answers.ensures.ok
 
 pub returns-in-Ok-clause-err : goal.returns-in-Ok-clause-err
-returns-in-Ok-clause-err g c = rw c.in-Ok.ensures.ok at c.answers.ensures.err
+returns-in-Ok-clause-err g c =
+    IfErr-weaker c.answers.result _ _
+    (λ fault bad. refuses_attempts c.args.decl.declaration (map g.D.Device.state c.args.devices.items) c.args.room c.args.attempts.now (status_of fault) bad)
+    (rw c.in-Ok.ensures.ok at c.answers.ensures.err)
 
-pub returns-in-Err-clause-err : goal.returns-in-Err-clause-err
-returns-in-Err-clause-err g c = refuses_opening c.args.decl.declaration c.args.room c.args.attempts.now c.in-Err.fault (λ e. c.in-Err.ensures.bad_room.0 (ap Err e))
+pub returns-clause-err : goal.returns-clause-err
+returns-clause-err g c = refuses_opening c.args.decl.declaration (map g.D.Device.state c.args.devices.items) c.args.room c.args.attempts.now c.in-Err.fault c.in-Err.ensures.fault

@@ -28,7 +28,7 @@ answer-reply-requires-clause-admitted g c = let k = admitted_few _ _ _ _ c.self.
 answered : (g : Over) (c : After-is_no_room g) → Answers c.self.inside.parts c.self.inside.room (length c.self.inside.journal.items) c.args.worker c.args.attempt c.answer-reply.result c.answer-reply.new.self
 answered g c =
     let e : c.len.result ≡ length c.self.inside.journal.items = c.len.ensures ∙ c.self.inside.journal.ok.0 in
-    subst (λ (n : ℕ). Answers c.self.inside.parts c.self.inside.room n c.args.worker c.args.attempt c.answer-reply.result c.answer-reply.new.self) e c.answer-reply.ensures
+    subst (λ (n : ℕ). Answers c.self.inside.parts c.self.inside.room n c.args.worker c.args.attempt c.answer-reply.result c.answer-reply.new.self) e c.answer-reply.ensures.moves
 
 pub push_reserved-requires : goal.push_reserved-requires
 push_reserved-requires g c =
