@@ -2,8 +2,12 @@
 #![tactic(auto)]
 
 #[cfg(test)]
+mod devices;
+#[cfg(test)]
 mod gate;
 #[cfg(test)]
 mod ledger;
+#[cfg(test)]
+mod own;
 #[cfg(test)]
 mod system;

@@ -4,7 +4,8 @@ use path_decl::{Decl, counts};
 use path_lex::DeclFault;
 use path_model::{ActId, Attempt, OpId, OutOfMemory, PathId, Reply, ResId, Verb};
 use path_read::read;
-use path_system::{OpenFault, System};
+use path_shelf::Cell;
+use path_system::{OpenFault, ReplaceFault, System};
 use refusing::Refusing;
 use std::alloc::Allocator;
 use std::process::Abort;
@@ -39,12 +40,14 @@ fn after<A: Allocator + Copy>(
     alloc: A,
     room: u32,
     steps: &[(u32, Attempt, Reply)],
-) -> Result<System<A>, OutOfMemory> {
+) -> Result<System<Cell, A>, OutOfMemory> {
     let decl = declared(rt, alloc, SLOT)?;
-    let mut system = match System::open(alloc, decl, room) {
+    let devices = Vec::from_array(alloc, [Cell::new(0)])?;
+    let mut system = match System::open(alloc, decl, devices, room) {
         Ok(system) => system,
-        Err(fault) => {
+        Err((fault, back)) => {
             assert_eq!(rt; fault, OpenFault::OutOfMemory);
+            assert_eq!(rt; back.len(), 1);
             return Err(OutOfMemory);
         }
     };
@@ -55,7 +58,7 @@ fn after<A: Allocator + Copy>(
 }
 
 // What the slot contains, and how many lines there are.
-fn seen<A: Allocator + Copy>(rt: &impl Abort, system: &System<A>) -> (Option<u64>, usize) {
+fn seen<A: Allocator + Copy>(rt: &impl Abort, system: &System<Cell, A>) -> (Option<u64>, usize) {
     assert_eq!(rt; counts(system.decl()).resources, 1);
     assert_eq!(rt; system.contents(ResId(0), 1), None);
     (system.contents(ResId(0), 0), system.journal().len())
@@ -169,9 +172,15 @@ fn rooms_are_refused_at_the_limit(rt: HostRuntime) {
         let Ok(decl) = declared(&rt, rt.alloc(), SLOT) else {
             panic!(rt; "out of memory");
         };
-        match System::open(rt.alloc(), decl, room) {
+        let Ok(devices) = Vec::from_array(rt.alloc(), [Cell::new(3)]) else {
+            panic!(rt; "out of memory");
+        };
+        match System::open(rt.alloc(), decl, devices, room) {
             Ok(system) => assert!(rt; want && system.journal().is_empty()),
-            Err(fault) => assert!(rt; !want && fault == OpenFault::BadRoom),
+            Err((fault, back)) => {
+                assert!(rt; !want && fault == OpenFault::BadRoom);
+                assert_eq!(rt; back.len(), 1);
+            }
         }
     }
 }
@@ -180,7 +189,23 @@ fn rooms_are_refused_at_the_limit(rt: HostRuntime) {
 fn faults_are_told(rt: HostRuntime) {
     for (fault, want) in [
         (OpenFault::BadRoom, "bad room"),
+        (OpenFault::WrongCount, "wrong count"),
+        (OpenFault::WrongDevice(ResId(63)), "wrong device 63"),
         (OpenFault::OutOfMemory, "out of memory"),
+    ] {
+        let Ok(text) = format!(in rt.alloc(); "{fault}") else {
+            panic!(rt; "out of memory");
+        };
+        assert_eq!(rt; text.as_str(), want);
+    }
+}
+
+#[test]
+fn faults_of_replacing_are_told(rt: HostRuntime) {
+    for (fault, want) in [
+        (ReplaceFault::Busy, "busy"),
+        (ReplaceFault::Used, "used"),
+        (ReplaceFault::OtherLaw, "other law"),
     ] {
         let Ok(text) = format!(in rt.alloc(); "{fault}") else {
             panic!(rt; "out of memory");
