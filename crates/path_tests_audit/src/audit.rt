@@ -1,0 +1,234 @@
+//! Verdicts on journals.
+
+ghost use Rattle.std.specs.Prelude.{◌<◌, length};
+
+use crate::in_turn::refuse_in_turn;
+use path_audit::{AuditFault, Verdict, audit};
+use path_journal::read_journal;
+use path_lex::DeclFault;
+use path_lines::TextFault;
+use path_model::{ActId, Line, OutOfMemory, PathId, Reply, ResId};
+use path_read::read;
+use refusing::Refusing;
+use std::alloc::{Allocator, Global};
+use std::test::Fail;
+
+// One resource, in which every deposit is followed by a remove.
+const SLOT: &[u8] = b"resource slot cell operation deposit, remove path deposit ; remove end end";
+
+// A deposit of 7 and its removal, with an attempt to remove too early.
+const DEPOSITED: &str =
+    "1 start deposit: started 0\n2 start remove: blocked 0\n1 use 0 put 7: used 0\n\
+    1 finish 0: finished\n2 start remove: started 1\n2 use 1 look: used 7\n";
+
+// Why there is no verdict.
+#[derive(Clone, Copy, Debug, PartialEq, Eq)]
+enum Want {
+    Decl(DeclFault),
+    Text(TextFault),
+    Audit(AuditFault),
+    Memory,
+}
+
+// The verdict on the text of a journal of the slot, in which the resource opens with these numbers.
+fn verdict<A: Allocator + Copy>(
+    alloc: A,
+    room: u32,
+    opening: &[u64],
+    text: &str,
+) -> Result<Verdict, Want> {
+    let decl = read(alloc, SLOT).map_err(Want::Decl)?;
+    let journal = read_journal(alloc, &decl, text.as_bytes()).map_err(Want::Text)?;
+    let mut numbers = Vec::new(alloc);
+    for number in opening {
+        numbers.push(*number).map_err(|_| Want::Memory)?;
+    }
+    let mut openings = Vec::new(alloc);
+    openings.push(numbers).map_err(|_| Want::Memory)?;
+    audit(alloc, &decl, room, &openings, &journal.lines).map_err(Want::Audit)
+}
+
+#[test]
+fn audits_rows(rt: HostRuntime) {
+    let second_first =
+        "1 start deposit: started 0\n2 start remove: started 1\n1 use 0 put 7: used 0\n\
+        1 finish 0: finished\n2 start remove: started 1\n2 use 1 look: used 7\n";
+    let failed_put =
+        "1 start deposit: started 0\n2 start remove: blocked 0\n1 use 0 put 7: device failed\n\
+        1 finish 0: finished\n2 start remove: started 1\n2 use 1 look: used 7\n";
+    let failed_put_seen =
+        "1 start deposit: started 0\n2 start remove: blocked 0\n1 use 0 put 7: device failed\n\
+        1 finish 0: finished\n2 start remove: started 1\n2 use 1 look: used 0\n";
+    let failed_look =
+        "1 start deposit: started 0\n2 start remove: blocked 0\n1 use 0 put 7: used 0\n\
+        1 finish 0: finished\n2 start remove: started 1\n2 use 1 look: device failed\n";
+    let failed_take = "1 start deposit: started 0\n1 use 0 take: device failed\n";
+    let two_places = "1 start deposit: started 0\n1 use 0 look: used 0\n";
+    let rows = [
+        ("", 1, Verdict::Sound),
+        (DEPOSITED, 4096, Verdict::Sound),
+        (DEPOSITED, 1_048_576, Verdict::Sound),
+        (DEPOSITED, 7, Verdict::Sound),
+        (DEPOSITED, 6, Verdict::WrongLine(5)),
+        (DEPOSITED, 5, Verdict::WrongLine(4)),
+        (second_first, 4096, Verdict::WrongLine(1)),
+        (failed_put, 4096, Verdict::WrongLine(5)),
+        (failed_put_seen, 4096, Verdict::Sound),
+        (failed_look, 4096, Verdict::Sound),
+        (failed_take, 4096, Verdict::WrongLine(1)),
+        (two_places, 2, Verdict::WrongLine(1)),
+        ("1 start deposit: no room\n", 1, Verdict::WrongLine(0)),
+        (
+            "1 start deposit: started 0\n1 finish 0: finished\n",
+            2,
+            Verdict::Sound,
+        ),
+        (
+            "1 start deposit: started 0\n1 finish 0: finished\n",
+            1,
+            Verdict::WrongLine(0),
+        ),
+        (
+            "1 start deposit: started 0\n1 finish 0: finished\n1 finish 0: stale\n",
+            4,
+            Verdict::Sound,
+        ),
+        (
+            "1 start deposit: started 0\n2 finish 0: not yours\n1 finish 0: finished\n1 finish 0: finished\n",
+            9,
+            Verdict::WrongLine(3),
+        ),
+        ("1 start #2: unknown operation\n", 9, Verdict::Sound),
+    ];
+    for (text, room, expected) in rows {
+        assert_eq!(rt;
+            verdict(rt.alloc(), room, &[0], text),
+            Ok(expected),
+            "{text}"
+        );
+    }
+}
+
+#[test]
+fn refuses_rooms_and_openings(rt: HostRuntime) {
+    let rows: [(u32, &[u64], AuditFault); 5] = [
+        (0, &[0], AuditFault::BadRoom),
+        (1_048_577, &[0], AuditFault::BadRoom),
+        (0, &[1, 2], AuditFault::BadRoom),
+        (4096, &[1, 2], AuditFault::BadOpening(ResId(0))),
+        (4096, &[], AuditFault::BadOpening(ResId(0))),
+    ];
+    for (room, opening, fault) in rows {
+        assert_eq!(rt;
+            verdict(rt.alloc(), room, opening, DEPOSITED),
+            Err(Want::Audit(fault))
+        );
+    }
+    let Ok(decl) = read(rt.alloc(), SLOT) else {
+        panic!(rt; "no declaration");
+    };
+    assert_eq!(rt;
+        audit(rt.alloc(), &decl, 4096, &[], &[]),
+        Err(AuditFault::WrongCount)
+    );
+    assert_eq!(rt;
+        audit(rt.alloc(), &decl, 0, &[], &[]),
+        Err(AuditFault::BadRoom)
+    );
+}
+
+#[test]
+fn spells_faults(rt: HostRuntime) {
+    let rows = [
+        (AuditFault::BadRoom, "bad room"),
+        (AuditFault::WrongCount, "wrong count"),
+        (AuditFault::BadOpening(ResId(3)), "bad opening 3"),
+        (AuditFault::OutOfMemory, "out of memory"),
+    ];
+    for (fault, expected) in rows {
+        let Ok(text) = format!(in rt.alloc(); "{fault}") else {
+            panic!(rt; "no memory");
+        };
+        assert_eq!(rt; text.as_str(), expected);
+    }
+}
+
+// Each reply, with three numbers where it has one.
+const REPLIES: [Reply; 19] = [
+    Reply::Started(ActId(0)),
+    Reply::Started(ActId(1)),
+    Reply::Started(ActId(8)),
+    Reply::Blocked(PathId(0)),
+    Reply::Blocked(PathId(1)),
+    Reply::Blocked(PathId(8)),
+    Reply::UnknownOperation,
+    Reply::Used(0),
+    Reply::Used(1),
+    Reply::Used(8),
+    Reply::NotOffered,
+    Reply::Empty,
+    Reply::Full,
+    Reply::Overflow,
+    Reply::DeviceFailed,
+    Reply::Finished,
+    Reply::Stale,
+    Reply::NotYours,
+    Reply::NoRoom,
+];
+
+// What is found where line n tells this reply in place of its own: that line is wrong; but a device that failed to put leaves the 0, so
+// that the last line is, and after one that failed to look nothing is.
+fn forged(lines: &[Line], n: usize, reply: Reply) -> Verdict
+    requires { n < length lines.now }
+{
+    if lines[n].reply == reply {
+        return Verdict::Sound;
+    }
+    match (n, reply) {
+        (2, Reply::DeviceFailed) => Verdict::WrongLine(5),
+        (5, Reply::DeviceFailed) => Verdict::Sound,
+        _ => Verdict::WrongLine(n as u32),
+    }
+}
+
+#[test]
+fn finds_each_forged_reply(rt: HostRuntime) {
+    let Ok(decl) = read(rt.alloc(), SLOT) else {
+        panic!(rt; "no declaration");
+    };
+    let Ok(mut journal) = read_journal(rt.alloc(), &decl, DEPOSITED.as_bytes()) else {
+        panic!(rt; "no journal");
+    };
+    let Ok(opening) = vec![in rt.alloc(); 0u64; 1] else {
+        panic!(rt; "no memory");
+    };
+    let Ok(openings) = vec![in rt.alloc(); opening] else {
+        panic!(rt; "no memory");
+    };
+    for n in 0..6usize {
+        for reply in REPLIES {
+            let expected = forged(&journal.lines, n, reply);
+            let told = journal.lines[n].reply;
+            journal.lines[n].reply = reply;
+            let found = audit(rt.alloc(), &decl, 4096, &openings, &journal.lines);
+            assert_eq!(rt; found, Ok(expected), "line {n}: {reply:?}");
+            journal.lines[n].reply = told;
+        }
+    }
+}
+
+#[test]
+fn each_request_is_refused(rt: HostRuntime) {
+    refuse_in_turn(&rt, rt.alloc(), OutOfMemory, |heap: &Refusing<Global>| {
+        match verdict(heap, 4096, &[0], DEPOSITED) {
+            Ok(verdict) => Ok(verdict == Verdict::Sound),
+            Err(
+                Want::Decl(DeclFault::OutOfMemory)
+                | Want::Text(TextFault::OutOfMemory)
+                | Want::Audit(AuditFault::OutOfMemory)
+                | Want::Memory,
+            ) => Err(OutOfMemory),
+            Err(_) => Ok(false),
+        }
+    });
+}

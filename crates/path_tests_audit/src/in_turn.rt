@@ -1,0 +1,35 @@
+//! Each request for memory refused in turn.
+
+use refusing::Refusing;
+use std::alloc::Global;
+use std::fmt::Debug;
+use std::process::Abort;
+
+/// More requests than any call of these tests makes.
+const ENOUGH: u64 = 1_000;
+
+/// Refuses the first request of a call, then the second, and so on until the call passes. At least one request has to
+/// be refused, each refusal has to answer `wanting`, and where none is left to refuse the call has to answer `true`.
+pub(crate) fn refuse_in_turn<E, F>(rt: &impl Abort, heap: Global, wanting: E, call: F)
+where
+    E: Copy + Debug + PartialEq,
+    F: Fn(&Refusing<Global>) -> Result<bool, E> + Drop,
+    requires { F.IsAlwaysCallable call }
+{
+    for number in 1..ENOUGH {
+        let refusing = Refusing::new(heap, number);
+        match call(&refusing) {
+            Ok(is_right) => {
+                assert!(rt; is_right, "with {number}");
+                assert!(rt; !refusing.has_refused());
+                assert!(rt; number > 1);
+                return;
+            }
+            Err(fault) => {
+                assert_eq!(rt; fault, wanting, "at {number}");
+                assert!(rt; refusing.has_refused());
+            }
+        }
+    }
+    panic!(rt; "never passed");
+}

@@ -1,0 +1,7 @@
+//! Tests of the audit of journals. The crate has no other code, so that no library is proved twice.
+#![tactic(auto)]
+
+#[cfg(test)]
+mod audit;
+#[cfg(test)]
+mod in_turn;
