@@ -8,3 +8,4 @@ pub mod Counted
 pub mod Rows
 pub mod Opened
 pub mod Replaced
+pub mod Reported

@@ -5,7 +5,9 @@ mod fault;
 mod openings;
 mod parts;
 mod replace;
+mod report;
 mod system;
 
 pub use fault::{OpenFault, ReplaceFault};
+pub use report::Report;
 pub use system::System;

@@ -4,6 +4,7 @@ ghost use Rattle.std.specs.Prelude.{◌≡◌, ◌↔◌, ◌+◌, ◌<◌, ◌�
 ghost use Rattle.path_shelf.specs.States.{MayFail, laws_of};
 ghost use Rattle.path_shelf.specs.Shelves.{declared_laws};
 ghost use Rattle.path_system.specs.Accounts.{account_of, with_device, StayBut, HasFailed};
+ghost use Rattle.path_system.specs.Reports.{IsReport};
 ghost use Rattle.path_system.specs.Faults.{IsOpenFault, IsReplaceFault, MayReplace};
 ghost use Rattle.path_model.specs.declared.journal.Reply.TheVariants as replies;
 ghost use Rattle.path_model.specs.Journals.{live, with_line};
@@ -15,8 +16,9 @@ ghost use Rattle.path_system.specs.Asked.{resource_asked};
 use crate::fault::{OpenFault, ReplaceFault};
 use crate::openings::Openings;
 use crate::parts::Parts;
+use crate::report::Report;
 use path_decl::{Decl, counts};
-use path_model::{Attempt, Line, MOST_LINES, Reply, ResId};
+use path_model::{Attempt, Line, MOST_LINES, OutOfMemory, Reply, ResId};
 use path_shelf::Device;
 use std::alloc::{Allocator, Global};
 use std::marker::Model;
@@ -155,6 +157,18 @@ impl<D: Device, A: Allocator + Copy> System<D, A> {
         ensures { result.now.declaration ≡ self.now.declaration }
     {
         self.parts.decl()
+    }
+
+    /// Which declared operations can be started, and which not and why, in the order of the file; what is live, in order of start; and
+    /// whether nothing can be started and nothing is live. Room plays no part in it.
+    ///
+    /// Nothing changes. The only error is want of memory. The cost is one look at a prologue for each operation and each path that
+    /// names it, and a place for each operation and each live activation.
+    pub fn report(&self, alloc: A) -> Result<Report<A>, OutOfMemory>
+        ensures { IfOk result (λ report. IsReport self.now.declaration self.now.journal
+            report.startable.items report.blocked.items report.live.items report.frozen) }
+    {
+        self.parts.report(alloc)
     }
 
     /// What each device contained when it was taken: by the opening of the system, or in place of another.

@@ -1,0 +1,10 @@
+-- The parts are what the journal tells.
+use Rattle.std.proofs.Common.{refl}
+use Rattle.path_system.proofs.Reported.{reported, if_ok}
+use Rattle.path_system.proofs.system.System.report.Goals as goal
+
+pub returns : goal.returns
+returns g c =
+    rw (← c.self.view_is) (if_ok _ _ c.report.result
+    (λ report told. reported c.self.inside.parts c.self.inside.room _ c.self.inside.journal.items c.self.invariant.told _ report.startable.items report.blocked.items report.live.items report.frozen refl told)
+    c.report.ensures)
