@@ -16,6 +16,10 @@ use std::test::Fail;
 // One resource, in which every deposit is followed by a remove.
 const SLOT: &[u8] = b"resource slot cell operation deposit, remove path deposit ; remove end end";
 
+const QUEUE: &[u8] = b"resource q queue 2 operation a end";
+
+const TALLY: &[u8] = b"resource t tally operation a end";
+
 // A deposit of 7 and its removal, with an attempt to remove too early.
 const DEPOSITED: &str =
     "1 start deposit: started 0\n2 start remove: blocked 0\n1 use 0 put 7: used 0\n\
@@ -30,14 +34,15 @@ enum Want {
     Memory,
 }
 
-// The verdict on the text of a journal of the slot, in which the resource opens with these numbers.
+// The verdict on the text of a journal of a declaration with one resource, which opens with these numbers.
 fn verdict<A: Allocator + Copy>(
     alloc: A,
+    declaration: &[u8],
     room: u32,
     opening: &[u64],
     text: &str,
 ) -> Result<Verdict, Want> {
-    let decl = read(alloc, SLOT).map_err(Want::Decl)?;
+    let decl = read(alloc, declaration).map_err(Want::Decl)?;
     let journal = read_journal(alloc, &decl, text.as_bytes()).map_err(Want::Text)?;
     let mut numbers = Vec::new(alloc);
     for number in opening {
@@ -102,10 +107,37 @@ fn audits_rows(rt: HostRuntime) {
     ];
     for (text, room, expected) in rows {
         assert_eq!(rt;
-            verdict(rt.alloc(), room, &[0], text),
+            verdict(rt.alloc(), SLOT, room, &[0], text),
             Ok(expected),
             "{text}"
         );
+    }
+}
+
+#[test]
+fn audits_each_law(rt: HostRuntime) {
+    let queued =
+        "1 start a: started 0\n1 use 0 look: used 5\n1 use 0 put 6: used 2\n1 use 0 put 7: full\n1 use 0 take: used 5\n\
+        1 use 0 take: used 6\n1 use 0 take: empty\n1 use 0 look: empty\n1 use 0 add 1: not offered\n";
+    let failed_full = "1 start a: started 0\n1 use 0 put 6: used 2\n1 use 0 put 7: device failed\n";
+    let last_first = "1 start a: started 0\n1 use 0 put 6: used 2\n1 use 0 take: used 6\n";
+    let totalled =
+        "1 start a: started 0\n1 use 0 add 1: used 18446744073709551615\n1 use 0 add 1: overflow\n\
+        1 use 0 look: used 18446744073709551615\n1 use 0 put 1: not offered\n1 use 0 take: not offered\n";
+    let wrapped = "1 start a: started 0\n1 use 0 add 2: used 0\n";
+    let rows: [(&[u8], &[u64], &str, Result<Verdict, AuditFault>); 8] = [
+        (QUEUE, &[5], queued, Ok(Verdict::Sound)),
+        (QUEUE, &[5], failed_full, Ok(Verdict::WrongLine(2))),
+        (QUEUE, &[5], last_first, Ok(Verdict::WrongLine(2))),
+        (QUEUE, &[5, 6], "", Ok(Verdict::Sound)),
+        (QUEUE, &[5, 6, 7], "", Err(AuditFault::BadOpening(ResId(0)))),
+        (TALLY, &[u64::MAX - 1], totalled, Ok(Verdict::Sound)),
+        (TALLY, &[u64::MAX - 1], wrapped, Ok(Verdict::WrongLine(1))),
+        (TALLY, &[], "", Err(AuditFault::BadOpening(ResId(0)))),
+    ];
+    for (declaration, opening, text, expected) in rows {
+        let found = verdict(rt.alloc(), declaration, 64, opening, text);
+        assert_eq!(rt; found, expected.map_err(Want::Audit), "{text}");
     }
 }
 
@@ -120,7 +152,7 @@ fn refuses_rooms_and_openings(rt: HostRuntime) {
     ];
     for (room, opening, fault) in rows {
         assert_eq!(rt;
-            verdict(rt.alloc(), room, opening, DEPOSITED),
+            verdict(rt.alloc(), SLOT, room, opening, DEPOSITED),
             Err(Want::Audit(fault))
         );
     }
@@ -220,7 +252,7 @@ fn finds_each_forged_reply(rt: HostRuntime) {
 #[test]
 fn each_request_is_refused(rt: HostRuntime) {
     refuse_in_turn(&rt, rt.alloc(), OutOfMemory, |heap: &Refusing<Global>| {
-        match verdict(heap, 4096, &[0], DEPOSITED) {
+        match verdict(heap, SLOT, 4096, &[0], DEPOSITED) {
             Ok(verdict) => Ok(verdict == Verdict::Sound),
             Err(
                 Want::Decl(DeclFault::OutOfMemory)

@@ -10,4 +10,6 @@ mod ledger;
 #[cfg(test)]
 mod own;
 #[cfg(test)]
+mod report;
+#[cfg(test)]
 mod system;
