@@ -1,10 +1,9 @@
 -- Devices that never fail are never told to have failed.
-use Rattle.std.proofs.Common.{◌≡◌, ℕ, List, [], ◌++◌, inl, inr}
+use Rattle.std.proofs.Common.{ℕ, List}
 use Rattle.path_model.specs.declared.journal.Line.{Line}
 use Rattle.path_model.specs.Declarations.{Declaration}
 use Rattle.path_lines.specs.AttemptTexts.{Entry}
 use Rattle.path_system.specs.Accounts.{Account}
-use Rattle.path_commands.specs.Writes.{IsFrontOf}
 use Rattle.path_commands.specs.Traces.{Traced, at_end, answers, IsTraceBy}
 
 -- what is traced so is traced so wherever devices may fail
@@ -15,8 +14,3 @@ traced_so so (answers owed failed rest) = answers owed (λ e. so (failed e)) (tr
 
 pub trace_so : (may might : Type 0) (system : Account) (text bytes : List ℕ) → (may → might) → IsTraceBy may system text bytes → IsTraceBy might system text bytes
 trace_so may might system text bytes so t = record { entries = t.entries; attempts = t.attempts; traced = traced_so so t.traced }
-
--- what breaks off so does where what it was is also otherwise
-pub front_so : (P Q : List ℕ → Type 0) (front : List ℕ) → ((bytes : List ℕ) → P bytes → Q bytes) → IsFrontOf P front → IsFrontOf Q front
-front_so P Q front so (inl none) = inl none
-front_so P Q front so (inr (rest, is)) = inr (rest, so (front ++ rest) is)

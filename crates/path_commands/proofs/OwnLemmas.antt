@@ -1,8 +1,7 @@
 -- The program's own devices fit their declaration, and never fail.
-use Rattle.std.proofs.Common.{◌≡◌, ℕ, ◌+◌, ◌<◌, ◌≤◌, List, [], ◌∷◌, ◌++◌, length, take, get_or, refl, sym, ap, ◌∙◌, arith}
+use Rattle.std.proofs.Common.{◌≡◌, ℕ, ◌+◌, ◌<◌, ◌≤◌, List, [], ◌∷◌, ◌++◌, length, take, get_or, refl, sym, ap, ◌∙◌, inl, inr, arith}
 use Rattle.std.specs.Prelude.{map}
 use Rattle.std.proofs.lemmas.List.{get_or-map, length-map, take_more, take_all, map-append}
-use Rattle.path_model.specs.declared.resource.Law.{Law}
 use Rattle.path_model.specs.declared.resource.Law.TheVariants.{Cell}
 use Rattle.path_model.specs.Declarations.{Resource, Declaration, law_of}
 use Rattle.path_shelf.specs.declared.own.OwnDevice.{OwnDevice}
@@ -12,7 +11,10 @@ use Rattle.path_shelf.specs.Openings.{opening_state}
 use Rattle.path_shelf.specs.Own.{own_state}
 use Rattle.path_system.specs.declared.fault.OpenFault.TheVariants.{BadRoom, WrongCount, WrongDevice, OutOfMemory}
 use Rattle.path_system.specs.Faults.{IsBadRoom}
-use Rattle.path_commands.specs.Traces.{IsUnopened, own_states}
+use Rattle.path_system.specs.Accounts.{account_of}
+use Rattle.path_commands.specs.Writes.{IsFrontOf}
+use Rattle.path_commands.specs.Traces.{IsTraceOf, IsUnopened, own_states}
+use Rattle.path_commands.proofs.FailLemmas.{trace_so}
 
 abbrev pub undeclared : Resource
 undeclared = record { name = []; law = Cell }
@@ -45,5 +47,15 @@ never_failed (kinds.Tally t) = refl
 never_failed (kinds.Queue q) = refl
 
 -- none of them has ever failed
-pub unfailing : {Y : Type 0} → MayFail (own_state {Y}) → ⊥
+pub unfailing : {Y : Type 0} → MayFail (own_state {Y = Y}) → ⊥
 unfailing (d, some) = let zero = never_failed d in omega (arith, zero, some)
+
+-- so their trace says of none that it failed
+pub own_trace : {Y : Type 0} (d : Declaration) (room : ℕ) (text bytes : List ℕ)
+    → IsTraceOf d (own_states d) (MayFail (own_state {Y = Y})) room text bytes → IsTraceOf d (own_states d) ⊥ room text bytes
+own_trace {Y} d room text bytes t = trace_so (MayFail (own_state {Y = Y})) ⊥ (account_of d room (own_states d)) text bytes unfailing t
+
+pub own_front : {Y : Type 0} (d : Declaration) (room : ℕ) (text front : List ℕ)
+    → IsFrontOf (IsTraceOf d (own_states d) (MayFail (own_state {Y = Y})) room text) front → IsFrontOf (IsTraceOf d (own_states d) ⊥ room text) front
+own_front d room text front (inl none) = inl none
+own_front d room text front (inr (rest, is)) = inr (rest, own_trace d room text (front ++ rest) is)

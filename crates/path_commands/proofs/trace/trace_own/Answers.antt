@@ -1,12 +1,14 @@
 -- The own devices fit, and never fail.
-use Rattle.path_commands.proofs.OwnLemmas.{only_room, unfailing}
-use Rattle.path_commands.proofs.FailLemmas.{trace_so, front_so}
+use Rattle.std.proofs.Common.{◌≡◌, refl}
+use Rattle.path_commands.specs.declared.status.Status.TheVariants.{Done, DeclarationRefused, TextRefused, NoMemory}
+use Rattle.path_commands.proofs.FaultLemmas.{told}
+use Rattle.path_commands.proofs.OwnLemmas.{only_room, own_trace, own_front}
 use Rattle.path_commands.proofs.trace.trace_own.Goals as goal
 
 pub returns-in-Ok-clause-done : goal.returns-in-Ok-clause-done
 returns-in-Ok-clause-done g c = λ e.
     let wrote = rw c.in-Ok.ensures at c.trace_to.ensures.done e in
-    (wrote.0, trace_so _ _ _ _ _ unfailing wrote.1, wrote.2)
+    (wrote.0, own_trace c.args.decl.declaration c.args.room c.args.attempts.now wrote.0 wrote.1, wrote.2)
 
 pub returns-in-Ok-clause-bad_room : goal.returns-in-Ok-clause-bad_room
 returns-in-Ok-clause-bad_room g c = λ e.
@@ -16,4 +18,16 @@ returns-in-Ok-clause-bad_room g c = λ e.
 pub returns-in-Ok-clause-memory : goal.returns-in-Ok-clause-memory
 returns-in-Ok-clause-memory g c = λ e.
     let wrote = rw c.in-Ok.ensures at c.trace_to.ensures.memory e in
-    (wrote.0, front_so _ _ _ (λ bytes t. trace_so _ _ _ _ _ unfailing t) wrote.1, wrote.2)
+    (wrote.0, own_front c.args.decl.declaration c.args.room c.args.attempts.now wrote.0 wrote.1, wrote.2)
+
+pub returns-in-Err-clause-done : goal.returns-in-Err-clause-done
+returns-in-Err-clause-done g c = λ e. absurd (let k : Done ≡ NoMemory = told (λ s. s ≡ NoMemory) NoMemory c.tell.result Done refl c.tell.ensures (λ h. cc) e in cc)
+
+pub returns-in-Err-clause-room : goal.returns-in-Err-clause-room
+returns-in-Err-clause-room g c = λ bad e. let k : Done ≡ NoMemory = told (λ s. s ≡ NoMemory) NoMemory c.tell.result Done refl c.tell.ensures (λ h. cc) e in cc
+
+pub returns-in-Err-clause-refused : goal.returns-in-Err-clause-refused
+returns-in-Err-clause-refused g c = λ e. absurd (let k : TextRefused ≡ NoMemory = told (λ s. s ≡ NoMemory) NoMemory c.tell.result TextRefused refl c.tell.ensures (λ h. cc) e in cc)
+
+pub returns-in-Err-clause-statuses : goal.returns-in-Err-clause-statuses
+returns-in-Err-clause-statuses g c = λ e. let k : DeclarationRefused ≡ NoMemory = told (λ s. s ≡ NoMemory) NoMemory c.tell.result DeclarationRefused refl c.tell.ensures (λ h. cc) e in cc
