@@ -2,7 +2,7 @@
 
 ghost use Rattle.std.specs.Prelude.{◌≡◌, ◌<◌, length, map, IfOk};
 ghost use Rattle.path_model.specs.Declarations as declarations;
-ghost use Rattle.path_shelf.specs.Openings.{CanOpen};
+ghost use Rattle.path_decl.specs.Lawful.{CapacityFits};
 ghost use Rattle.path_shelf.specs.Own.{own_state};
 ghost use Rattle.path_commands.specs.Traces.{own_states};
 
@@ -15,7 +15,7 @@ use std::alloc::Allocator;
 fn law_at<A: Allocator + Copy>(decl: &Decl<A>, resource: ResId) -> Law
     requires { resource.0 < length decl.now.declaration.resources }
     ensures law { result ≡ declarations.law_of decl.now.declaration resource.0 }
-    ensures opens { CanOpen result }
+    ensures fits { CapacityFits result }
 {
     law_of(decl, resource).unwrap()
 }

@@ -1,14 +1,8 @@
 -- How a device opens that nothing was put into.
-use Rattle.std.specs.Prelude.{ℕ, ◌≤◌, List, [], ◌∷◌}
+use Rattle.std.specs.Prelude.{ℕ, List, [], ◌∷◌}
 use Rattle.path_model.specs.declared.resource.Law.{Law}
 use Rattle.path_model.specs.declared.resource.Law.TheVariants.{Cell, Tally, Queue}
 use Rattle.path_shelf.specs.States.{State}
-
--- a queue has 1 to 1,024 places
-abbrev pub CanOpen : Law → Type 0
-CanOpen Cell = Unit {0}
-CanOpen Tally = Unit {0}
-CanOpen (Queue n) = (1 ≤ n) × (n ≤ 1024)
 
 -- a cell and a tally open with 0, a queue is empty
 abbrev pub opening_numbers : Law → List ℕ

@@ -1,7 +1,8 @@
 //! Devices of one type for all laws.
 
 ghost use Rattle.std.specs.Prelude.{◌≡◌, IfOk};
-ghost use Rattle.path_shelf.specs.Openings.{CanOpen, opening_state};
+ghost use Rattle.path_decl.specs.Lawful.{CapacityFits};
+ghost use Rattle.path_shelf.specs.Openings.{opening_state};
 ghost use Rattle.path_shelf.specs.Own.{own_state};
 
 use crate::cell::Cell;
@@ -26,7 +27,7 @@ impl<A: Allocator + Copy> OwnDevice<A> {
     /// The device of this law before any use: a cell or a tally that contains 0, or an empty queue, all of whose places are
     /// taken now. The only error is want of memory.
     pub fn new(alloc: A, law: Law) -> Result<OwnDevice<A>, OutOfMemory>
-        requires { CanOpen law }
+        requires { CapacityFits law }
         ensures { IfOk result (λ device. own_state device ≡ opening_state law) }
     {
         match law {
