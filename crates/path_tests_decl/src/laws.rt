@@ -133,9 +133,8 @@ fn capacity_of_one_resource_too_many(rt: HostRuntime) -> Result<(), Fail> {
         text.push_str(&resource)?;
     }
     expect_read(&rt, heap, text.as_bytes());
-    let name = text.len() as u32 + 9;
     text.push_str("resource q queue 0 operation a end")?;
-    expect_faults(&rt, heap, &[(text.as_str(), DeclFault::TooMany(name))]);
+    expect_faults(&rt, heap, &[(text.as_str(), DeclFault::TooMany(2485))]);
     Ok(())
 }
 
