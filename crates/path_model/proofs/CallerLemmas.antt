@@ -16,6 +16,7 @@ pub use Rattle.path_model.proofs.MachineOwes.{the_machine_owes_the_same, honest_
 pub use Rattle.path_model.proofs.Progress.{legal_kept as each_honest_journal_is_legal, room_kept as each_honest_journal_has_room, progress_counts as live_activations_are_in_progress}
 pub use Rattle.path_model.proofs.OwedReplies.{each_attempt_is_owed_a_reply, one_reply_is_owed}
 pub use Rattle.path_model.proofs.StuckStates.{frozen_stays_frozen, startables_may_start, live_activations_may_finish, finishes_come_between}
+pub use Rattle.path_model.proofs.Unasked.{unasked_devices_may_be_replaced}
 -- the names of a tree, and the path above a name
 pub use Rattle.path_model.proofs.Upward.{has_names, names_has, path_left, path_right, path_one, path_other}
 -- lists of paths with numbers, and the values of all paths as those of each
@@ -32,5 +33,6 @@ pub use Rattle.path_model.proofs.FlatNumbers.{none_counted}
 pub use Rattle.path_model.proofs.Flat.{plain_openings}
 -- one more line of a journal
 pub use Rattle.path_model.proofs.JournalLists.{begun_more, begun_quiet, live_quiet, history_quiet, contents_more, quiet_use, quiet_reply}
+pub use Rattle.path_model.proofs.Unasked.{asked_by_own, asked_more}
 pub use Rattle.path_model.proofs.HonestJournals.{line_of, honest_more, live_started, live_finished, live_found}
 pub use Rattle.path_model.proofs.Progress.{history_started, history_finished, live_in_progress, begun_lines}

@@ -38,4 +38,5 @@ pub mod Admission
 pub mod Examples
 pub mod LabelExamples
 pub mod JournalExamples
+pub mod Unasked
 pub mod CallerLemmas

@@ -22,4 +22,5 @@ pub mod Journals
 pub mod Contents
 pub mod Owed
 pub mod Honest
+pub mod Asked
 pub mod Stuck

@@ -15,6 +15,7 @@ ghost use Rattle.path_model.specs.Honest.{FrontsAreHonest, TheMachineOwesTheSame
 ghost use Rattle.path_model.specs.Honest.{EachHonestJournalIsLegal, EachHonestJournalHasRoom, EachLiveActivationIsFound};
 ghost use Rattle.path_model.specs.Honest.{LiveActivationsAreInProgress, EachAttemptIsOwedAReply};
 ghost use Rattle.path_model.specs.Owed.{OneReplyIsOwed};
+ghost use Rattle.path_model.specs.Asked.{UnaskedDevicesMayBeReplaced};
 ghost use Rattle.path_model.specs.Stuck.{FrozenStaysFrozen, StartablesMayStart, LiveActivationsMayFinish, FinishesComeBetween};
 
 /// After every history of a path's behaviour the semaphores let an operation begin or end exactly where the behaviour does.
@@ -170,6 +171,11 @@ pub fn each_attempt_is_owed_a_reply()
 /// One reply at most is owed to an attempt, but that a device may fail where its law would serve.
 pub fn one_reply_is_owed()
     ensures { OneReplyIsOwed }
+{}
+
+/// While no line asked the device of a resource, its opening contents may be others.
+pub fn unasked_devices_may_be_replaced()
+    ensures { UnaskedDevicesMayBeReplaced }
 {}
 
 /// After a journal where nothing is live and nothing can be started, nothing is admitted any more.

@@ -1,6 +1,7 @@
 //! One device for each resource of a declaration.
 
-ghost use Rattle.std.specs.Prelude.{◌≡◌, ◌<◌, ◌↔◌, length, map, slice_get, slice_set, IsOk, IsTrue, IsErrOf, IfOk, IfErr, OnOk, OnErr, MatchOption};
+ghost use Rattle.std.specs.Prelude.{◌≡◌, ◌<◌, ◌↔◌, length, map, slice_get, slice_set};
+ghost use Rattle.std.specs.Prelude.{IsOk, IsTrue, IsErrOf, IfOk, IfErr, OnOk, OnErr, MatchOption};
 ghost use Rattle.path_model.specs.Declarations as declarations;
 ghost use Rattle.path_model.specs.Devices.{Fits};
 ghost use Rattle.path_shelf.specs.States.{ActsAt, MayFail, state_at, laws_of};

@@ -1,4 +1,3 @@
-pub mod Unasked
 pub mod Tested
 pub mod Answered
 pub mod Written

@@ -1,12 +1,11 @@
 -- Why a system isn't opened.
-use Rattle.std.proofs.Common.{◌≡◌, ℕ, ◌+◌, ◌<◌, ◌≤◌, List, [], length, get_or, refl, ap, sym, ◌∙◌, arith, subst, Option, Some, None}
+use Rattle.std.proofs.Common.{◌≡◌, ℕ, ◌<◌, List, length, ap, arith}
 use Rattle.std.specs.Prelude.{map}
 use Rattle.std.proofs.lemmas.List.{length-map}
-use Rattle.path_model.specs.declared.resource.Law.{Law}
-use Rattle.path_model.specs.Declarations.{Declaration, Resource, law_of}
+use Rattle.path_model.specs.Declarations.{Declaration, Resource}
 use Rattle.path_shelf.specs.declared.shelf.ShelfFault.{ShelfFault}
 use Rattle.path_shelf.specs.declared.shelf.ShelfFault.TheVariants as shelf
-use Rattle.path_shelf.specs.States.{State, state_at, laws_of}
+use Rattle.path_shelf.specs.States.{State, laws_of}
 use Rattle.path_shelf.specs.Shelves.{IsShelfFault, declared_laws}
 use Rattle.path_shelf.proofs.CallerLemmas.{law_at}
 use Rattle.path_system.specs.declared.fault.OpenFault.{OpenFault}

@@ -1,5 +1,5 @@
 -- Another device for a resource that nothing live uses, and whose device no line asked.
-use Rattle.std.proofs.Common.{◌≡◌, ◌≢◌, ℕ, ◌<◌, ◌≤◌, Bool, true, false, List, length, get_or, arith, refl, ap, sym, subst, ◌∙◌, inl, inr}
+use Rattle.std.proofs.Common.{◌≡◌, ℕ, ◌<◌, ◌≤◌, false, List, length, get_or, arith, ap, sym, subst, ◌∙◌, inl, inr}
 use Rattle.std.specs.Prelude.{Any}
 use Rattle.std.proofs.Math.ListN.{set}
 use Rattle.std.proofs.lemmas.Bool.{cases_eq}
@@ -9,14 +9,14 @@ use Rattle.path_model.specs.declared.journal.Line.{Line}
 use Rattle.path_model.specs.declared.journal.Activation.{Activation}
 use Rattle.path_model.specs.Declarations.{resource_of, law_of}
 use Rattle.path_model.specs.Contents.{contents_after}
-use Rattle.path_system.specs.Asked.{IsAsked}
-use Rattle.path_system.proofs.Unasked.{unasked_devices_may_be_replaced}
+use Rattle.path_model.specs.Asked.{IsAsked}
+use Rattle.path_model.proofs.CallerLemmas.{unasked_devices_may_be_replaced}
 use Rattle.path_shelf.specs.States.{State, state_at}
 use Rattle.path_shelf.proofs.CallerLemmas.{laws_replaced, others_replaced}
 use Rattle.path_system.specs.declared.fault.ReplaceFault.{ReplaceFault}
 use Rattle.path_system.specs.declared.fault.ReplaceFault.TheVariants.{Busy, Used, OtherLaw}
 use Rattle.path_system.specs.Faults.{IsBusy, IsUntouched, IsReplaceFault, MayReplace}
-use Rattle.path_system.specs.Openings.{Row, AreFor, row_at, places_of, numbers_of}
+use Rattle.path_system.specs.Openings.{Row, row_at, places_of, numbers_of}
 use Rattle.path_system.specs.Parts.{PartsValue, AreTrueTo, IsTold, IsLiveAt, IsFreeAt, IsPartsFault, MayReplacePart, with_state}
 use Rattle.path_system.proofs.Answered.{states_count, law_is}
 use Rattle.path_system.proofs.Rows.{places_written}

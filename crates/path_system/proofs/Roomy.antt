@@ -1,5 +1,5 @@
 -- Where there is room no attempt is told that there is none, and without room all stays.
-use Rattle.std.proofs.Common.{◌≡◌, ◌≢◌, ℕ, Bool, true, false, sym, ◌∙◌, refl, Option, Some, None, Result, Ok, Err, inl, inr, List, [], ◌∷◌, ◌++◌}
+use Rattle.std.proofs.Common.{◌≡◌, ◌≢◌, ℕ, Bool, true, false, sym, ◌∙◌, refl, Option, Some, None, Result, Ok, Err, inl, inr}
 use Rattle.std.proofs.lemmas.Bool.{cases_eq}
 use Rattle.path_model.specs.declared.ids.OpId.{OpId}
 use Rattle.path_model.specs.declared.ids.ActId.{ActId}
@@ -7,11 +7,9 @@ use Rattle.path_model.specs.declared.journal.Verb.{Verb}
 use Rattle.path_model.specs.declared.journal.Attempt.{Attempt}
 use Rattle.path_model.specs.declared.journal.Attempt.TheVariants.{Start, Apply, Finish}
 use Rattle.path_model.specs.declared.journal.Reply.{Reply}
-use Rattle.path_model.specs.declared.journal.Reply.TheVariants.{Started, Blocked, UnknownOperation, Finished, Stale, NotYours, NoRoom}
-use Rattle.path_model.specs.declared.journal.Line.{Line}
+use Rattle.path_model.specs.declared.journal.Reply.TheVariants.{Started, Blocked, UnknownOperation, NoRoom}
 use Rattle.path_model.specs.declared.journal.Activation.{Activation}
-use Rattle.path_model.specs.Journals.{activation_of, with_line}
-use Rattle.path_model.proofs.CallerLemmas.{line_of}
+use Rattle.path_model.specs.Journals.{activation_of}
 use Rattle.path_shelf.specs.declared.device.ActFault.{ActFault}
 use Rattle.path_shelf.specs.declared.device.ActFault.TheVariants as faults
 use Rattle.path_system.specs.Parts.{PartsValue, as_reply, MovesStart, MovesUse, MovesFinish, Moves, has_room, Answers}

@@ -1,34 +1,25 @@
 -- One step of a system, in the form that its journal asks.
-use Rattle.std.proofs.Common.{◌≡◌, ◌≢◌, ℕ, ◌+◌, ◌<◌, ◌≤◌, Bool, true, false, List, [], ◌∷◌, ◌++◌, All, length, get_or, arith, refl, ap, sym, subst, ◌∙◌, Option, Some, None, Result, Ok, Err, inl, inr}
-use Rattle.std.specs.Prelude.{map, slice_set, slice_index}
-use Rattle.std.proofs.Math.ListN.{set}
+use Rattle.std.proofs.Common.{◌≡◌, ◌≢◌, ℕ, ◌+◌, ◌<◌, ◌≤◌, Bool, true, false, List, [], ◌∷◌, ◌++◌, All, length, get_or, arith, refl, ap, sym, subst, ◌∙◌, Option, Some, None, inl, inr}
 use Rattle.std.proofs.lemmas.Bool.{cases_eq}
-use Rattle.std.proofs.lemmas.List.{length-append, length-replicate, get_or-replicate, get_or-map, map-set, length-map}
+use Rattle.std.proofs.lemmas.List.{length-append, length-replicate, get_or-replicate, get_or-map, length-map}
 use Rattle.path_model.specs.declared.ids.OpId.{OpId}
 use Rattle.path_model.specs.declared.ids.ActId.{ActId}
 use Rattle.path_model.specs.declared.journal.Verb.{Verb}
 use Rattle.path_model.specs.declared.journal.Attempt.{Attempt}
 use Rattle.path_model.specs.declared.journal.Attempt.TheVariants.{Start, Apply, Finish}
 use Rattle.path_model.specs.declared.journal.Reply.{Reply}
-use Rattle.path_model.specs.declared.journal.Reply.TheVariants.{Started, Blocked, UnknownOperation, DeviceFailed, NoRoom}
+use Rattle.path_model.specs.declared.journal.Reply.TheVariants.{Started, Blocked, UnknownOperation, NoRoom}
 use Rattle.path_model.specs.declared.journal.Line.{Line}
 use Rattle.path_model.specs.declared.journal.Activation.{Activation}
-use Rattle.path_model.specs.Declarations.{Declaration, Resource, paths_of, resource_of}
+use Rattle.path_model.specs.Declarations.{Declaration, Resource}
 use Rattle.path_model.specs.Journals.{activation_of}
 use Rattle.path_model.proofs.CallerLemmas.{line_of, each_honest_journal_has_room, begun_lines}
-use Rattle.path_model.specs.Owed.{IsOwn}
-use Rattle.path_system.specs.Asked.{resource_asked, IsAsked}
-use Rattle.path_shelf.specs.declared.device.ActFault.{ActFault}
-use Rattle.path_shelf.specs.declared.device.ActFault.TheVariants as faults
-use Rattle.path_shelf.specs.States.{State, ActsAt, state_at}
-use Rattle.path_shelf.proofs.CallerLemmas.{count_acted}
-use Rattle.path_system.specs.Accounts.{contents_of, failures_of, StayBut, HasFailed}
-use Rattle.path_decl.specs.Lawful.{Lawful}
+use Rattle.path_shelf.specs.States.{State}
+use Rattle.path_system.specs.Accounts.{contents_of}
 use Rattle.path_ledger.specs.Ledgers.{Book}
-use Rattle.path_system.specs.Parts.{PartsValue, as_reply, IsUse, AreOpened, MovesStart, MovesUse, MovesFinish, Moves, has_room, Answers, AreTrueTo}
-use Rattle.path_system.proofs.Unasked.{asked_by_own}
-use Rattle.path_system.proofs.Answered.{taken_is, found_live, resource_in, states_count}
-use Rattle.path_system.proofs.Written.{answer_is_device, true_line}
+use Rattle.path_system.specs.Parts.{PartsValue, AreOpened, MovesStart, MovesUse, MovesFinish, Moves, has_room, Answers, AreTrueTo}
+use Rattle.path_system.proofs.Answered.{taken_is}
+use Rattle.path_system.proofs.Written.{true_line}
 use Rattle.path_system.proofs.Roomy.{stays}
 
 -- no attempt changes the declaration

@@ -14,14 +14,13 @@ use Rattle.path_model.specs.declared.journal.Reply.{Reply}
 use Rattle.path_model.specs.declared.journal.Reply.TheVariants.{Started, Blocked, UnknownOperation, Used, Finished, Stale, NotYours, NoRoom}
 use Rattle.path_model.specs.declared.journal.Line.{Line}
 use Rattle.path_model.specs.declared.journal.Activation.{Activation}
-use Rattle.path_model.specs.Declarations.{resource_of, law_of}
-use Rattle.path_model.specs.Devices.{serves, outcome_of, contents_left}
+use Rattle.path_model.specs.Declarations.{resource_of}
+use Rattle.path_model.specs.Devices.{outcome_of, contents_left}
 use Rattle.path_model.specs.Journals.{IsQuiet, activation_of, admitted_history, without}
 use Rattle.path_model.specs.Contents.{contents_after, line_applied, verb_applied}
 use Rattle.path_model.specs.Honest.{IsHonest}
-use Rattle.path_system.specs.Asked.{is_device_reply, resource_asked, IsAsked}
-use Rattle.path_model.proofs.CallerLemmas.{begun_more, begun_quiet, live_quiet, history_quiet, contents_more, quiet_use, quiet_reply, line_of, honest_more, live_started, live_finished, live_found, history_started, history_finished}
-use Rattle.path_system.proofs.Unasked.{asked_by_own, asked_more}
+use Rattle.path_model.specs.Asked.{is_device_reply, resource_asked, IsAsked}
+use Rattle.path_model.proofs.CallerLemmas.{begun_more, begun_quiet, live_quiet, history_quiet, contents_more, quiet_use, quiet_reply, line_of, honest_more, live_started, live_finished, live_found, history_started, history_finished, asked_by_own, asked_more}
 use Rattle.path_gate.specs.Standings.{IsAt}
 use Rattle.path_ledger.specs.Ledgers.{Book}
 use Rattle.path_shelf.specs.declared.device.ActFault.{ActFault}

@@ -5,7 +5,7 @@ use Rattle.path_model.specs.declared.journal.Line.{Line}
 use Rattle.path_model.specs.declared.resource.Law.{Law}
 use Rattle.path_model.specs.Declarations.{Declaration, resource_of, law_of}
 use Rattle.path_model.specs.Journals.{live}
-use Rattle.path_system.specs.Asked.{IsAsked}
+use Rattle.path_model.specs.Asked.{IsAsked}
 use Rattle.path_shelf.specs.declared.shelf.ShelfFault.{ShelfFault}
 use Rattle.path_shelf.specs.declared.shelf.ShelfFault.TheVariants as shelf
 use Rattle.path_shelf.specs.States.{State}

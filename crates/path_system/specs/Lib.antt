@@ -1,4 +1,3 @@
-pub mod Asked
 pub mod Accounts
 pub mod Faults
 pub mod Openings

@@ -23,7 +23,7 @@ use Rattle.path_model.specs.Honest.{IsHonest}
 use Rattle.path_decl.specs.Lawful.{Lawful}
 use Rattle.path_gate.specs.Standings.{Standing, IsNamed, IsAt, Admitted, Released}
 use Rattle.path_ledger.specs.Ledgers.{Book}
-use Rattle.path_system.specs.Asked.{IsAsked}
+use Rattle.path_model.specs.Asked.{IsAsked}
 use Rattle.path_shelf.specs.declared.device.ActFault.{ActFault}
 use Rattle.path_shelf.specs.declared.device.ActFault.TheVariants as faults
 use Rattle.path_shelf.specs.States.{State, ActsAt, state_at, laws_of}

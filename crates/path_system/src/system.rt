@@ -1,6 +1,7 @@
 //! One system over devices, under one journal: starts, uses and finishes, step by step.
 
-ghost use Rattle.std.specs.Prelude.{◌≡◌, ◌↔◌, ◌+◌, ◌<◌, ◌≤◌, [], length, map, slice_get, slice_set, IsOk, IfOk, IfErr, OnOk, OnErr, IsTrue};
+ghost use Rattle.std.specs.Prelude.{◌≡◌, ◌↔◌, ◌+◌, ◌<◌, ◌≤◌, [], length};
+ghost use Rattle.std.specs.Prelude.{map, slice_get, slice_set, IsOk, IfOk, IfErr, OnOk, OnErr, IsTrue};
 ghost use Rattle.path_shelf.specs.States.{MayFail, laws_of};
 ghost use Rattle.path_shelf.specs.Shelves.{declared_laws};
 ghost use Rattle.path_system.specs.Accounts.{account_of, with_device, StayBut, HasFailed};
@@ -11,7 +12,7 @@ ghost use Rattle.path_model.specs.Journals.{live, with_line};
 ghost use Rattle.path_model.specs.Contents.{contents_after};
 ghost use Rattle.path_model.specs.Owed.{Owed, taken};
 ghost use Rattle.path_model.specs.Honest.{IsHonest};
-ghost use Rattle.path_system.specs.Asked.{resource_asked};
+ghost use Rattle.path_model.specs.Asked.{resource_asked};
 
 use crate::fault::{OpenFault, ReplaceFault};
 use crate::openings::Openings;

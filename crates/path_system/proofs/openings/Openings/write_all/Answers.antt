@@ -1,5 +1,5 @@
 -- One row more is written, and then all are.
-use Rattle.std.proofs.Common.{◌<◌, length, ap, ◌∙◌, arith}
+use Rattle.std.proofs.Common.{length, ap, ◌∙◌, arith}
 use Rattle.std.specs.Prelude.{map}
 use Rattle.std.proofs.lemmas.List.{length-set}
 use Rattle.path_shelf.specs.States.{state_at}

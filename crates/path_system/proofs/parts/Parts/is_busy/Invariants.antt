@@ -1,5 +1,5 @@
 -- None so far is of the resource.
-use Rattle.std.proofs.Common.{◌≡◌, ◌≢◌}
+use Rattle.std.proofs.Common.{◌≢◌}
 use Rattle.std.specs.List.{AllWithin}
 use Rattle.path_model.specs.Declarations as declarations
 use Rattle.path_system.proofs.parts.Parts.is_busy.Given as goal

@@ -1,5 +1,5 @@
 -- The room is tested first, and then the parts are those of the empty journal.
-use Rattle.std.proofs.Common.{◌≡◌, refl, ap, sym, subst, ◌∙◌, rules, inl, inr, arith, length}
+use Rattle.std.proofs.Common.{◌≡◌, ap, sym, subst, ◌∙◌, rules, inl, inr, arith, length}
 use Rattle.std.specs.Prelude.{map}
 use Rattle.path_model.specs.Declarations.{Declaration}
 use Rattle.path_shelf.specs.States.{laws_of}

@@ -1,9 +1,7 @@
 -- Lines that ask a resource's device, and what stays while none does.
-use Rattle.std.proofs.Common.{◌≡◌, ◌≢◌, ◌⊎◌, ◌↔◌, ◌+◌, ℕ, Bool, true, false, cond, List, [], ◌∷◌, ◌++◌, get_or, Option, Some, None, refl, sym, ap, ◌∙◌, subst, inl, inr, eq-eqb, ne_eqb, append-nil, append_assoc}
-use Rattle.std.specs.Prelude.{◌==◌, nat_lt}
-use Rattle.std.proofs.lemmas.Bool.{cases_eq, cond-true, cond-false}
+use Rattle.std.proofs.Common.{◌≡◌, ◌≢◌, ◌⊎◌, ◌↔◌, ℕ, Bool, true, false, cond, List, [], ◌∷◌, ◌++◌, get_or, Some, None, refl, sym, ap, ◌∙◌, subst, inl, inr, ne_eqb, append-nil, append_assoc}
+use Rattle.std.proofs.lemmas.Bool.{cond-false}
 use Rattle.path_model.specs.declared.ids.ActId.{ActId}
-use Rattle.path_model.specs.declared.ids.OpId.{OpId}
 use Rattle.path_model.specs.declared.resource.Law.{Law}
 use Rattle.path_model.specs.declared.resource.Law.TheVariants.{Cell, Tally, Queue}
 use Rattle.path_model.specs.declared.journal.Verb.{Verb}
@@ -11,16 +9,16 @@ use Rattle.path_model.specs.declared.journal.Verb.TheVariants.{Put, Take, Look, 
 use Rattle.path_model.specs.declared.journal.Attempt.{Attempt}
 use Rattle.path_model.specs.declared.journal.Attempt.TheVariants.{Start, Apply, Finish}
 use Rattle.path_model.specs.declared.journal.Reply.{Reply}
-use Rattle.path_model.specs.declared.journal.Reply.TheVariants.{Used, NotOffered, Empty, Full, Overflow, DeviceFailed, NoRoom}
+use Rattle.path_model.specs.declared.journal.Reply.TheVariants.{Used, Full, Overflow, DeviceFailed, NoRoom}
 use Rattle.path_model.specs.declared.journal.Line.{Line}
 use Rattle.path_model.specs.declared.journal.Activation.{Activation}
 use Rattle.path_model.specs.Declarations.{Declaration, resource_of, law_of}
 use Rattle.path_model.specs.Devices.{Outcome, serves, refuses, first_taken, first_seen, outcome_of}
 use Rattle.path_model.specs.Journals.{starts, live, activation_of}
 use Rattle.path_model.specs.Contents.{contents_after, line_applied, verb_applied}
-use Rattle.path_model.specs.Owed.{IsOwn, outcome_for, OwedToStart, OwedToUse, OwedToFinish, Owed}
+use Rattle.path_model.specs.Owed.{IsOwn, outcome_for, OwedToUse, Owed}
 use Rattle.path_model.specs.Honest.{IsHonest}
-use Rattle.path_system.specs.Asked.{is_device_reply, its_resource, resource_asked, IsAskedFrom, IsAsked, UnaskedDevicesMayBeReplaced}
+use Rattle.path_model.specs.Asked.{is_device_reply, its_resource, resource_asked, IsAskedFrom, IsAsked, UnaskedDevicesMayBeReplaced}
 use Rattle.path_model.proofs.JournalLists.{contents_more}
 use Rattle.path_model.proofs.HonestJournals.{honest_more, live_found, honest_induction}
 
