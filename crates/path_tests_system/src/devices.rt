@@ -2,11 +2,10 @@
 
 use crate::own::{Counted, FailingCell};
 use path_decl::{Decl, counts};
-use path_model::{ActId, Attempt, OpId, OutOfMemory, PathId, Reply, ResId, Verb};
+use path_model::{ActId, Attempt, OpId, PathId, Reply, ResId, Verb};
 use path_read::read;
 use path_shelf::{Cell, Device, Queue, Tally};
-use path_system::{OpenFault, ReplaceFault, System};
-use refusing::Refusing;
+use path_system::{ReplaceFault, System};
 use std::alloc::{Allocator, Global};
 use std::process::Abort;
 use std::sync::Arc;
@@ -14,7 +13,8 @@ use std::sync::atomic::{AtomicU32, Ordering};
 use std::test::Fail;
 
 /// One resource, in which every deposit is followed by a remove.
-const SLOT: &[u8] = b"resource slot cell operation deposit, remove path deposit ; remove end end";
+pub(crate) const SLOT: &[u8] =
+    b"resource slot cell operation deposit, remove path deposit ; remove end end";
 
 /// A queue of two places, filled and emptied in turns.
 const BUFFER: &[u8] =
@@ -27,7 +27,7 @@ const BAG: &[u8] = b"resource q queue 1 operation a end";
 /// A tally.
 const SUM: &[u8] = b"resource t tally operation a end";
 
-const ONLY: ResId = ResId(0);
+pub(crate) const ONLY: ResId = ResId(0);
 
 const DEPOSIT: Attempt = Attempt::Start(OpId(0));
 
@@ -41,7 +41,7 @@ fn finished(act: u64) -> Attempt {
     Attempt::Finish(ActId(act))
 }
 
-fn declared<A: Allocator + Copy>(rt: &impl Abort, alloc: A, text: &[u8]) -> Decl<A> {
+pub(crate) fn declared<A: Allocator + Copy>(rt: &impl Abort, alloc: A, text: &[u8]) -> Decl<A> {
     read(alloc, text).expect(rt, "it is a declaration")
 }
 
@@ -198,67 +198,6 @@ fn closing_drops_each_device_once(rt: HostRuntime) -> Result<(), Fail> {
     Ok(())
 }
 
-// These devices make no system of the slot, and come back: each shows its number.
-fn refused<D: Device>(
-    rt: &impl Abort,
-    alloc: Global,
-    devices: Vec<D>,
-    room: u32,
-    want: OpenFault,
-    numbers: &[u64],
-) {
-    match System::open(alloc, declared(rt, alloc, SLOT), devices, room) {
-        Ok(_) => panic!(rt; "it was opened"),
-        Err((fault, back)) => {
-            assert_eq!(rt; fault, want);
-            assert_eq!(rt; back.len(), numbers.len());
-            for (device, number) in back.iter().zip(numbers) {
-                assert_eq!(rt; device.at(0), Some(*number));
-            }
-        }
-    }
-}
-
-#[test]
-fn open_refusals(rt: HostRuntime) -> Result<(), Fail> {
-    let alloc = rt.alloc();
-    refused(
-        &rt,
-        alloc,
-        Vec::from_array(alloc, [Cell::new(7)])?,
-        0,
-        OpenFault::BadRoom,
-        &[7],
-    );
-    refused(
-        &rt,
-        alloc,
-        Vec::from_array(alloc, [Tally::new(7), Tally::new(8)])?,
-        0,
-        OpenFault::BadRoom,
-        &[7, 8],
-    );
-    let none: Vec<Cell> = Vec::new(alloc);
-    refused(&rt, alloc, none, 4096, OpenFault::WrongCount, &[]);
-    refused(
-        &rt,
-        alloc,
-        Vec::from_array(alloc, [Tally::new(7), Tally::new(8)])?,
-        4096,
-        OpenFault::WrongCount,
-        &[7, 8],
-    );
-    refused(
-        &rt,
-        alloc,
-        Vec::from_array(alloc, [Tally::new(7)])?,
-        4096,
-        OpenFault::WrongDevice(ONLY),
-        &[7],
-    );
-    Ok(())
-}
-
 #[test]
 fn bounded_buffer(rt: HostRuntime) -> Result<(), Fail> {
     let devices = Vec::from_array(rt.alloc(), [Queue::new(rt.alloc(), 2)?])?;
@@ -399,48 +338,4 @@ fn replaces_used(
     };
     replaces(rt, system, cell, Err(ReplaceFault::Used));
     Ok(())
-}
-
-// Whether a slot over one cell was opened; where memory was wanting for that, the cell has come back.
-fn opens(rt: &impl Abort, refusing: &Refusing<Global>) -> Result<bool, OutOfMemory> {
-    let decl = match read(refusing, SLOT) {
-        Ok(decl) => decl,
-        Err(_) => return Err(OutOfMemory),
-    };
-    let devices = Vec::from_array(refusing, [Cell::new(5)])?;
-    match System::open(refusing, decl, devices, 4096) {
-        Ok(system) => {
-            assert!(rt; system.journal().is_empty());
-            Ok(true)
-        }
-        Err((fault, back)) => {
-            assert_eq!(rt; fault, OpenFault::OutOfMemory);
-            assert_eq!(rt; back.len(), 1);
-            for device in &back {
-                assert_eq!(rt; device.at(0), Some(5));
-            }
-            Ok(false)
-        }
-    }
-}
-
-#[test]
-fn each_request_of_open_is_refused(rt: HostRuntime) {
-    let mut refused = 0u32;
-    for number in 1..1000u64 {
-        let refusing = Refusing::new(rt.alloc(), number);
-        match opens(&rt, &refusing) {
-            Ok(true) => {
-                assert!(rt; !refusing.has_refused());
-                assert!(rt; refused > 5);
-                return;
-            }
-            Ok(false) => {
-                assert!(rt; refusing.has_refused());
-                refused = refused.saturating_add(1);
-            }
-            Err(OutOfMemory) => assert!(rt; refusing.has_refused()),
-        }
-    }
-    panic!(rt; "never passed");
 }

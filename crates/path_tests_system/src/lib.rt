@@ -8,6 +8,8 @@ mod gate;
 #[cfg(test)]
 mod ledger;
 #[cfg(test)]
+mod opening;
+#[cfg(test)]
 mod own;
 #[cfg(test)]
 mod report;
