@@ -8,7 +8,9 @@ ghost use Rattle.path_decl.specs.Text.{IsDeclarationText};
 ghost use Rattle.path_print.specs.Printed.{head_pieces, law_pieces, names_pieces, tree_pieces, paths_pieces, printed};
 ghost use Rattle.path_print.specs.PrintedSteps.{names_here, operations_after, trees_here, paths_after, Writes, joined};
 
-use path_decl::{Decl, counts, law_of, op_name, path_resource, resource_name, resource_of, tree_of};
+use path_decl::{
+    Decl, counts, law_of, op_name, path_resource, resource_name, resource_of, tree_of,
+};
 use path_model::{Expr, Law, OpId, OutOfMemory, PathId, ResId};
 use std::alloc::Allocator;
 

@@ -75,7 +75,15 @@ fn traces_over<D: Device, R: Abort + AllocGlobal>(
         panic!(rt; "no declaration");
     };
     let attempts = attempts.as_bytes();
-    let status = trace_to(rt.alloc(), decl, devices, room, attempts, &mut out, &mut err);
+    let status = trace_to(
+        rt.alloc(),
+        decl,
+        devices,
+        room,
+        attempts,
+        &mut out,
+        &mut err,
+    );
     assert_eq!(rt; status, want.0);
     assert_eq!(rt; out.as_slice(), want.1.as_bytes());
     assert_eq!(rt; err.as_slice(), want.2.as_bytes());

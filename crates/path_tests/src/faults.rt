@@ -33,7 +33,11 @@ fn tells_each_fault(rt: HostRuntime) {
         (Fault::Arguments, 2, "arguments: cannot read\n"),
         (Fault::Open(OpenFault::BadRoom), 2, "open: bad room\n"),
         (Fault::Open(OpenFault::WrongCount), 2, "open: wrong count\n"),
-        (Fault::Open(OpenFault::WrongDevice(ResId(63))), 2, "open: wrong device 63\n"),
+        (
+            Fault::Open(OpenFault::WrongDevice(ResId(63))),
+            2,
+            "open: wrong device 63\n",
+        ),
         (Fault::Open(OpenFault::OutOfMemory), 6, "out of memory\n"),
         (Fault::Unreadable("slot"), 3, "file: slot: cannot read\n"),
         (
