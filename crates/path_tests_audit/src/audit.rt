@@ -1,13 +1,11 @@
 //! Verdicts on journals.
 
-ghost use Rattle.std.specs.Prelude.{◌<◌, length};
-
 use crate::in_turn::refuse_in_turn;
 use path_audit::{AuditFault, Verdict, audit};
 use path_journal::read_journal;
 use path_lex::DeclFault;
 use path_lines::TextFault;
-use path_model::{ActId, Line, OutOfMemory, PathId, Reply, ResId};
+use path_model::{ActId, OutOfMemory, PathId, Reply, ResId};
 use path_read::read;
 use refusing::Refusing;
 use std::alloc::{Allocator, Global};
@@ -210,16 +208,14 @@ const REPLIES: [Reply; 19] = [
 
 // What is found where line n tells this reply in place of its own: that line is wrong; but a device that failed to put leaves the 0, so
 // that the last line is, and after one that failed to look nothing is.
-fn forged(lines: &[Line], n: usize, reply: Reply) -> Verdict
-    requires { n < length lines.now }
-{
-    if lines[n].reply == reply {
+fn forged(told: Reply, n: u32, reply: Reply) -> Verdict {
+    if told == reply {
         return Verdict::Sound;
     }
     match (n, reply) {
         (2, Reply::DeviceFailed) => Verdict::WrongLine(5),
         (5, Reply::DeviceFailed) => Verdict::Sound,
-        _ => Verdict::WrongLine(n as u32),
+        _ => Verdict::WrongLine(n),
     }
 }
 
@@ -237,14 +233,14 @@ fn finds_each_forged_reply(rt: HostRuntime) {
     let Ok(openings) = vec![in rt.alloc(); opening] else {
         panic!(rt; "no memory");
     };
-    for n in 0..6usize {
+    for n in 0..6u32 {
+        let place = n as usize;
         for reply in REPLIES {
-            let expected = forged(&journal.lines, n, reply);
-            let told = journal.lines[n].reply;
-            journal.lines[n].reply = reply;
+            let told = journal.lines[place].reply;
+            journal.lines[place].reply = reply;
             let found = audit(rt.alloc(), &decl, 4096, &openings, &journal.lines);
-            assert_eq!(rt; found, Ok(expected), "line {n}: {reply:?}");
-            journal.lines[n].reply = told;
+            assert_eq!(rt; found, Ok(forged(told, n, reply)), "line {n}: {reply:?}");
+            journal.lines[place].reply = told;
         }
     }
 }
