@@ -5,7 +5,7 @@ use path_audit::{AuditFault, Verdict, audit};
 use path_journal::read_journal;
 use path_lex::DeclFault;
 use path_lines::TextFault;
-use path_model::{ActId, OutOfMemory, PathId, Reply, ResId};
+use path_model::{OutOfMemory, ResId};
 use path_read::read;
 use refusing::Refusing;
 use std::alloc::{Allocator, Global};
@@ -180,68 +180,6 @@ fn spells_faults(rt: HostRuntime) {
             panic!(rt; "no memory");
         };
         assert_eq!(rt; text.as_str(), expected);
-    }
-}
-
-// Each reply, with three numbers where it has one.
-const REPLIES: [Reply; 19] = [
-    Reply::Started(ActId(0)),
-    Reply::Started(ActId(1)),
-    Reply::Started(ActId(8)),
-    Reply::Blocked(PathId(0)),
-    Reply::Blocked(PathId(1)),
-    Reply::Blocked(PathId(8)),
-    Reply::UnknownOperation,
-    Reply::Used(0),
-    Reply::Used(1),
-    Reply::Used(8),
-    Reply::NotOffered,
-    Reply::Empty,
-    Reply::Full,
-    Reply::Overflow,
-    Reply::DeviceFailed,
-    Reply::Finished,
-    Reply::Stale,
-    Reply::NotYours,
-    Reply::NoRoom,
-];
-
-// What is found where line n tells this reply in place of its own: that line is wrong; but a device that failed to put leaves the 0, so
-// that the last line is, and after one that failed to look nothing is.
-fn forged(told: Reply, n: u32, reply: Reply) -> Verdict {
-    if told == reply {
-        return Verdict::Sound;
-    }
-    match (n, reply) {
-        (2, Reply::DeviceFailed) => Verdict::WrongLine(5),
-        (5, Reply::DeviceFailed) => Verdict::Sound,
-        _ => Verdict::WrongLine(n),
-    }
-}
-
-#[test]
-fn finds_each_forged_reply(rt: HostRuntime) {
-    let Ok(decl) = read(rt.alloc(), SLOT) else {
-        panic!(rt; "no declaration");
-    };
-    let Ok(mut journal) = read_journal(rt.alloc(), &decl, DEPOSITED.as_bytes()) else {
-        panic!(rt; "no journal");
-    };
-    let Ok(opening) = vec![in rt.alloc(); 0u64; 1] else {
-        panic!(rt; "no memory");
-    };
-    let Ok(openings) = vec![in rt.alloc(); opening] else {
-        panic!(rt; "no memory");
-    };
-    for n in 0..6u32 {
-        let place = n as usize;
-        for reply in REPLIES {
-            let told = journal.lines[place].reply;
-            journal.lines[place].reply = reply;
-            let found = audit(rt.alloc(), &decl, 4096, &openings, &journal.lines);
-            assert_eq!(rt; found, Ok(forged(told, n, reply)), "line {n}: {reply:?}");
-            journal.lines[place].reply = told;
-        }
     }
 }
 
