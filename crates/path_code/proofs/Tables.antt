@@ -4,7 +4,7 @@ use Rattle.std.specs.Prelude.{slice_get, option_map, IsSome}
 use Rattle.path_model.specs.declared.ids.ResId.{ResId}
 use Rattle.std.proofs.lemmas.List.{take_more}
 use Rattle.std.proofs.lemmas.Option.{slice_get-get_or}
-use Rattle.path_model.specs.Trees.{Tree, op, WellFormed, shape}
+use Rattle.path_model.specs.Trees.{Tree, op, FewAtOnce, WellFormed, shape}
 use Rattle.path_model.specs.Legal.{Every, numbered}
 use Rattle.path_model.specs.Machine.{braces}
 use Rattle.path_model.specs.Flat.{semaphores_in, Sited, sited}
@@ -99,6 +99,9 @@ length_taken (p ∷ ps) (suc n) = let r = length_taken ps n in omega (arith, r)
 module _ (ps : List Path) (L : LawfulPaths ps) (n : ℕ) where
   pub path_formed : (s : Tree) → Some s ≡ option_map (λ p. p.tree) (slice_get ps n) → WellFormed s
   path_formed s is = every_at WellFormed ps 0 n s L.well_formed is
+
+  pub path_bounded : (s : Tree) → Some s ≡ option_map (λ p. p.tree) (slice_get ps n) → FewAtOnce s
+  path_bounded s is = every_at FewAtOnce ps 0 n s L.few_at_once is
 
   pub path_small : (s : Tree) → Some s ≡ option_map (λ p. p.tree) (slice_get ps n) → IsSmall s
   path_small s is = every_at IsSmall ps 0 n s (each_path_small ps L) is

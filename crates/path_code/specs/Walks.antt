@@ -1,5 +1,5 @@
 -- How a tree is walked as it is compiled: the numbers that its parts get, and what each walk writes.
-use Rattle.std.specs.Prelude.{◌≡◌, ◌≤◌, ◌+◌, ℕ, List, [], ◌∷◌, ◌++◌, slice_set, slice_index_or, Option, Some, None}
+use Rattle.std.specs.Prelude.{◌≡◌, ◌<◌, ◌≤◌, ◌+◌, ◌^◌, ℕ, List, [], ◌∷◌, ◌++◌, slice_set, slice_index_or, Option, Some, None}
 use Rattle.path_model.specs.Trees.{any, most, Tree, op, seq, alt, burst}
 use Rattle.path_model.specs.Machine.{semicolons, braces}
 use Rattle.path_model.specs.Flat.{counted_braces}
@@ -15,9 +15,12 @@ use Rattle.path_code.specs.declared.substitution.Numbers.{Numbers}
 abbrev pub parts : Tree → ℕ
 parts s = names_count s + semicolons s + braces s + counted_braces s
 
--- no number that its parts get is above this, where these come first
-abbrev pub reach : Tree → Numbers → ℕ
-reach s n = parts s + n.place + n.semicolon + n.brace + n.bound
+-- the numbers of its parts, and those after them, have 16 bits, where these come first
+pub record FitsFrom (s : Tree) (n : Numbers) : Type 0 where
+  pub place : names_count s + n.place < 2 ^ 16
+  pub semicolon : semicolons s + n.semicolon < 2 ^ 16
+  pub brace : braces s + n.brace < 2 ^ 16
+  pub bound : counted_braces s + n.bound < 2 ^ 16
 
 -- so many parts have numbers below these
 pub record FitsBelow (s : Tree) (n : Numbers) : Type 0 where

@@ -18,9 +18,9 @@ pub struct PathCode<'d, A: Allocator + Copy = Global> {
     pub tree: &'d Expr<A>,
     /// The numbers of the semaphores, ascending, each with the value at which it opens: the path's own (1), one for each `;` from
     /// left to right (0), and one for each bound by the place of its `{` (the bound).
-    pub semaphores: Vec<(u32, u32), A>,
+    pub semaphores: Vec<(u16, u16), A>,
     /// The numbers of the pairs of braces, ascending, by the place of their `{`. The counter of each opens at 0 and its mutex at 1.
-    pub braces: Vec<u32, A>,
+    pub braces: Vec<u16, A>,
     /// What stands before and after each operation, in the order of their places in the path.
     pub ops: Vec<OpCode, A>,
 }

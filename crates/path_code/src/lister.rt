@@ -102,7 +102,7 @@ pub fn push_header<A: Allocator + Copy, B: Allocator + Copy>(
 /// a front of the text may have been appended then. The cost is that of the text.
 pub fn push_semaphores<B: Allocator + Copy>(
     out: &mut String<B>,
-    semaphores: &[(u32, u32)],
+    semaphores: &[(u16, u16)],
 ) -> Result<(), OutOfMemory>
     ensures { OnOk result (string_bytes out.new ≡ string_bytes out.old ++ lines_text (map semaphore_line semaphores.now)) }
 {
@@ -116,7 +116,7 @@ pub fn push_semaphores<B: Allocator + Copy>(
 /// appended then. The cost is that of the text.
 pub fn push_counters<B: Allocator + Copy>(
     out: &mut String<B>,
-    counters: &[u32],
+    counters: &[u16],
 ) -> Result<(), OutOfMemory>
     ensures { OnOk result (string_bytes out.new ≡ string_bytes out.old ++ lines_text (map counter_line counters.now)) }
 {
@@ -129,7 +129,7 @@ pub fn push_counters<B: Allocator + Copy>(
 /// Appends a line for each mutex.
 fn push_mutexes<B: Allocator + Copy>(
     out: &mut String<B>,
-    mutexes: &[u32],
+    mutexes: &[u16],
 ) -> Result<(), OutOfMemory>
     ensures { OnOk result (string_bytes out.new ≡ string_bytes out.old ++ lines_text (map mutex_line mutexes.now)) }
 {

@@ -1,33 +1,33 @@
 //! The substitution into one tree, from its root downwards: from left to right what stands before each name, and back what stands
 //! after it.
 
-ghost use Rattle.std.specs.Prelude.{◌≡◌, ◌+◌, ◌<◌, ◌≤◌, ◌++◌, ◌^◌, length, OnOk};
-ghost use Rattle.path_model.specs.Trees.{shape};
+ghost use Rattle.std.specs.Prelude.{◌≡◌, ◌+◌, ◌≤◌, ◌++◌, length, OnOk};
+ghost use Rattle.path_model.specs.Trees.{shape, FewAtOnce};
 ghost use Rattle.path_model.specs.Machine.{semicolons, braces};
 ghost use Rattle.path_model.specs.Flat.{counted_braces};
 ghost use Rattle.path_decl.specs.Lawful.{names_count};
-ghost use Rattle.path_code.specs.Walks.{parts, reach, FitsBelow, IsFlat, start_within, end_within, starts_in, bounds_from, ended};
+ghost use Rattle.path_code.specs.Walks.{FitsFrom, FitsBelow, IsFlat, start_within, end_within, starts_in, bounds_from, ended};
 
 use crate::terms::{Epilogue, OpCode, Prologue};
 use path_model::{Expr, OutOfMemory};
 use std::alloc::Allocator;
 
 /// How many names, semicolons, pairs of braces and bounds there are, or the numbers of the next ones.
-#[derive(Clone, Copy, Debug, PartialEq, Eq)]
+#[derive(Clone, Copy)]
 pub(crate) struct Numbers {
     /// The place of a name among all names.
-    pub(crate) place: u32,
+    pub(crate) place: u16,
     /// The semaphore of a `;`.
-    pub(crate) semicolon: u32,
+    pub(crate) semicolon: u16,
     /// A pair of braces.
-    pub(crate) brace: u32,
+    pub(crate) brace: u16,
     /// The semaphore of a bound.
-    pub(crate) bound: u32,
+    pub(crate) bound: u16,
 }
 
 /// Adds to a count what stands in a tree. The cost is one walk over it.
 pub(crate) fn count_parts<A: Allocator + Copy>(tree: &Expr<A>, count: &mut Numbers)
-    requires few { reach (shape tree.now) count.old < 2 ^ 32 }
+    requires few { FitsFrom (shape tree.now) count.old }
     ensures place { count.new.place ≡ count.old.place + names_count (shape tree.now) }
     ensures semicolon { count.new.semicolon ≡ count.old.semicolon + semicolons (shape tree.now) }
     ensures brace { count.new.brace ≡ count.old.brace + braces (shape tree.now) }
@@ -57,7 +57,7 @@ pub(crate) fn count_parts<A: Allocator + Copy>(tree: &Expr<A>, count: &mut Numbe
 }
 
 /// What stands before the names within a pair of braces, where this stands before the braces.
-fn starting_within(prologue: Prologue, brace: u32, bound: Option<u32>) -> Prologue
+fn starting_within(prologue: Prologue, brace: u16, bound: Option<u16>) -> Prologue
     ensures { result ≡ start_within brace bound prologue }
 {
     match (prologue, bound) {
@@ -68,7 +68,7 @@ fn starting_within(prologue: Prologue, brace: u32, bound: Option<u32>) -> Prolog
 }
 
 /// What stands after the names within a pair of braces, where this stands after the braces.
-fn ending_within(epilogue: Epilogue, brace: u32, bound: Option<u32>) -> Epilogue
+fn ending_within(epilogue: Epilogue, brace: u16, bound: Option<u16>) -> Epilogue
     ensures { result ≡ end_within brace bound epilogue }
 {
     match (epilogue, bound) {
@@ -83,12 +83,13 @@ fn ending_within(epilogue: Epilogue, brace: u32, bound: Option<u32>) -> Epilogue
 /// begin with `next`, which becomes those after them; after a refusal its numbers mean nothing.
 pub(crate) fn add_starts<A: Allocator + Copy, B: Allocator + Copy>(
     ops: &mut Vec<OpCode, B>,
-    semaphores: &mut Vec<(u32, u32), B>,
+    semaphores: &mut Vec<(u16, u16), B>,
     tree: &Expr<A>,
     next: &mut Numbers,
     prologue: Prologue,
 ) -> Result<(), OutOfMemory>
-    requires few { reach (shape tree.now) next.old < 2 ^ 32 }
+    requires few { FitsFrom (shape tree.now) next.old }
+    requires bounded { FewAtOnce (shape tree.now) }
     ensures place { OnOk result (next.new.place ≡ next.old.place + names_count (shape tree.now)) }
     ensures semicolon { OnOk result (next.new.semicolon ≡ next.old.semicolon + semicolons (shape tree.now)) }
     ensures brace { OnOk result (next.new.brace ≡ next.old.brace + braces (shape tree.now)) }
@@ -122,7 +123,7 @@ pub(crate) fn add_starts<A: Allocator + Copy, B: Allocator + Copy>(
             add_starts(ops, semaphores, inner, next, start)?;
         }
         Expr::Counted(inner, most) => {
-            semaphores.push((next.bound, *most))?;
+            semaphores.push((next.bound, *most as u16))?;
             let start = starting_within(prologue, next.brace, Some(next.bound));
             next.brace += 1;
             next.bound += 1;

@@ -1,7 +1,7 @@
 //! From a declaration to prologues and epilogues.
 
 ghost use Rattle.std.specs.Prelude.{◌≡◌, ◌+◌, ◌-◌, ◌*◌, ◌<◌, ◌≤◌, ◌∷◌, ◌^◌, replicate, IfOk};
-ghost use Rattle.path_model.specs.Trees.{shape, WellFormed};
+ghost use Rattle.path_model.specs.Trees.{shape, FewAtOnce, WellFormed};
 ghost use Rattle.path_model.specs.Machine.{semicolons, braces};
 ghost use Rattle.path_model.specs.Flat.{semaphores_in};
 ghost use Rattle.path_code.specs.PathCodes.{IsPathCode, numbered_values, numbers_from};
@@ -18,10 +18,10 @@ use std::alloc::Allocator;
 /// `end` and open at 0. There is room for so many more.
 fn first_semaphores<A: Allocator + Copy>(
     alloc: A,
-    own: u32,
-    end: u32,
-    more: u32,
-) -> Result<Vec<(u32, u32), A>, OutOfMemory>
+    own: u16,
+    end: u16,
+    more: u16,
+) -> Result<Vec<(u16, u16), A>, OutOfMemory>
     requires { own < end }
     ensures { IfOk result (λ v. v.items ≡ (own, 1) ∷ numbered_values (own + 1) (replicate (end - (own + 1)) 0)) }
 {
@@ -35,7 +35,7 @@ fn first_semaphores<A: Allocator + Copy>(
 }
 
 /// The numbers from `first` up to `end`.
-fn numbers<A: Allocator + Copy>(alloc: A, first: u32, end: u32) -> Result<Vec<u32, A>, OutOfMemory>
+fn numbers<A: Allocator + Copy>(alloc: A, first: u16, end: u16) -> Result<Vec<u16, A>, OutOfMemory>
     requires { first ≤ end }
     ensures { IfOk result (λ v. v.items ≡ numbers_from first (end - first)) }
 {
@@ -52,11 +52,12 @@ fn path_code<'d, A: Allocator + Copy>(
     alloc: A,
     resource: ResId,
     tree: &'d Expr<A>,
-    own: u32,
-    brace: u32,
+    own: u16,
+    brace: u16,
 ) -> Result<PathCode<'d, A>, OutOfMemory>
     requires formed { WellFormed (shape tree.now) }
-    requires few { 2 * parts (shape tree.now) + 2 * own + brace + 2 < 2 ^ 32 }
+    requires bounded { FewAtOnce (shape tree.now) }
+    requires few { parts (shape tree.now) + own + brace + 2 < 2 ^ 16 }
     ensures code { IfOk result (IsPathCode (record { tree = shape tree.now; own = own; first = brace })) }
     ensures resource { IfOk result (λ code. code.resource ≡ resource) }
 {
@@ -110,8 +111,8 @@ pub fn translate<'d, A: Allocator + Copy>(
         let resource = path_resource(decl, path).unwrap();
         let tree = tree_of(decl, path).unwrap();
         let code = path_code(alloc, resource, tree, semaphore, brace)?;
-        semaphore += code.semaphores.len() as u32;
-        brace += code.braces.len() as u32;
+        semaphore += code.semaphores.len() as u16;
+        brace += code.braces.len() as u16;
         paths.push(code)?;
     }
     Ok(Code { decl, paths })

@@ -15,7 +15,7 @@ ghost use Rattle.path_gate.specs.Soundness.{IsLaidOut, runs_of};
 
 mod table;
 
-use crate::gate::table::{add_path, in_one_list, no_counts, no_terms};
+use crate::gate::table::{add_path, in_one_list, no_counts, no_terms, places_for};
 use path_code::{Epilogue, Prologue};
 use path_model::{OpId, OutOfMemory, PathId};
 use path_trim::{Lean, kept};
@@ -35,7 +35,7 @@ struct Term {
 }
 
 /// Whether an execution of braces may begin: one is under way already, or the semaphore lets the first one in.
-fn is_open(semaphores: &[u64], counters: &[u64], counter: u32, semaphore: u32) -> bool
+fn is_open(semaphores: &[u64], counters: &[u64], counter: u16, semaphore: u16) -> bool
     requires { (counter < length counters.now) × (semaphore < length semaphores.now) }
     ensures { result ≡ spec.is_open counter semaphore (levels semaphores.now counters.now) }
 {
@@ -58,7 +58,7 @@ fn can_pass(semaphores: &[u64], counters: &[u64], prologue: Option<Prologue>) ->
 }
 
 /// Counts one execution more of braces, the first of which takes one from the semaphore.
-fn enter(semaphores: &mut [u64], counters: &mut [u64], counter: u32, semaphore: u32)
+fn enter(semaphores: &mut [u64], counters: &mut [u64], counter: u16, semaphore: u16)
     requires within { (counter < length counters.old) × (semaphore < length semaphores.old) }
     requires can { CanEnter counter semaphore (levels semaphores.old counters.old) }
     ensures { levels semaphores.new counters.new ≡ spec.entered counter semaphore (levels semaphores.old counters.old) }
@@ -70,7 +70,7 @@ fn enter(semaphores: &mut [u64], counters: &mut [u64], counter: u32, semaphore: 
 }
 
 /// Counts one execution less of braces, the last of which gives one to the semaphore.
-fn leave(semaphores: &mut [u64], counters: &mut [u64], counter: u32, semaphore: u32)
+fn leave(semaphores: &mut [u64], counters: &mut [u64], counter: u16, semaphore: u16)
     requires within { (counter < length counters.old) × (semaphore < length semaphores.old) }
     requires can { CanLeave counter semaphore (levels semaphores.old counters.old) }
     ensures { levels semaphores.new counters.new ≡ spec.left counter semaphore (levels semaphores.old counters.old) }
@@ -221,22 +221,25 @@ impl<A: Allocator + Copy> Gate<A> {
     /// A gate over trimmed paths, with nothing in progress and nothing admitted.
     ///
     /// The only error is want of memory; nothing is kept then. All memory of the gate is taken here. The cost is one look at each
-    /// semaphore, counter and operation of the paths that are kept, and a place for each operation.
+    /// semaphore and counter of the paths that are kept, three at each of their operations, and a place for each operation.
     pub fn open(alloc: A, lean: Lean<A>) -> Result<Gate<A>, OutOfMemory>
         ensures paths { IfOk result (λ gate. gate.paths ≡ legal.numbered 0 lean.trees) }
         ensures opened { IfOk result (λ gate. IsAt gate []) }
         ensures admitted { IfOk result (λ gate. gate.admitted ≡ 0) }
     {
-        let mut semaphores = Vec::new(alloc);
-        let mut counters = Vec::new(alloc);
-        let mut by_op = no_terms(alloc)?;
+        let places = places_for(kept(&lean));
+        let mut semaphores = Vec::with_capacity(alloc, places.semaphores)?;
+        let mut counters = Vec::with_capacity(alloc, places.counters)?;
+        let mut by_op = no_terms(alloc, kept(&lean))?;
         for path in kept(&lean) {
             add_path(&mut semaphores, &mut counters, &mut by_op, path)?;
         }
+        let opened = Snapshot::of(&lean);
+        drop(lean); // so that the list of all terms takes its place
         let (terms, bounds) = in_one_list(alloc, &by_op)?;
         let in_progress = no_counts(alloc)?;
         Ok(Gate {
-            lean: Snapshot::of(&lean),
+            lean: opened,
             terms,
             bounds,
             semaphores,

@@ -77,7 +77,7 @@ fn copied<T: Copy, A: Allocator + Copy>(alloc: A, values: &[T]) -> Result<Vec<T,
 }
 
 /// The semaphores that are left: where braces are the whole path, all but the first.
-fn semaphores_left(whole: bool, semaphores: &[(u32, u32)]) -> &[(u32, u32)]
+fn semaphores_left(whole: bool, semaphores: &[(u16, u16)]) -> &[(u16, u16)]
     ensures { let left = if whole then drop 1 semaphores.now else semaphores.now in result.now ≡ left }
 {
     match semaphores.split_first() {
@@ -87,7 +87,7 @@ fn semaphores_left(whole: bool, semaphores: &[(u32, u32)]) -> &[(u32, u32)]
 }
 
 /// The counters that are left: where braces are the whole path, none.
-fn counters_left(whole: bool, braces: &[u32]) -> &[u32]
+fn counters_left(whole: bool, braces: &[u16]) -> &[u16]
     ensures { let left = if whole then [] else braces.now in result.now ≡ left }
 {
     if whole { &[] } else { braces }
@@ -129,7 +129,7 @@ fn note_whole<A: Allocator + Copy>(
 /// Notes that the mutexes of these pairs of braces are removed.
 fn note_mutexes<A: Allocator + Copy>(
     removed: &mut Vec<Removed, A>,
-    braces: &[u32],
+    braces: &[u16],
 ) -> Result<(), OutOfMemory>
     ensures { OnOk result (removed.new.items ≡ removed.old.items ++ map (λ m. Mutex m) braces.now) }
 {

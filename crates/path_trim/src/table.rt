@@ -21,9 +21,9 @@ pub struct LeanPath<A: Allocator + Copy = Global> {
     /// The path.
     pub path: PathId,
     /// The numbers and the opening values of the semaphores that are kept, ascending.
-    pub semaphores: Vec<(u32, u32), A>,
+    pub semaphores: Vec<(u16, u16), A>,
     /// The numbers of the counters that are kept, ascending.
-    pub counters: Vec<u32, A>,
+    pub counters: Vec<u16, A>,
     /// Its operations, in the order of its names.
     pub ops: Vec<LeanOp, A>,
 }
@@ -32,11 +32,11 @@ pub struct LeanPath<A: Allocator + Copy = Global> {
 #[derive(Clone, Copy, Debug, PartialEq, Eq)]
 pub enum Removed {
     /// The own semaphore of a path that is one pair of braces.
-    Semaphore(u32),
+    Semaphore(u16),
     /// The counter of such braces.
-    Counter(u32),
+    Counter(u16),
     /// The mutex of a pair of braces.
-    Mutex(u32),
+    Mutex(u16),
     /// The first path, since the second, which stands earlier and is the first such, has an equal tree.
     SamePath(PathId, PathId),
 }

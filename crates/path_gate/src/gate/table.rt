@@ -14,6 +14,28 @@ use std::alloc::Allocator;
 /// The numbers of operations are below this.
 const OPERATIONS: u32 = 256;
 
+/// How many places are reserved for values; more are taken where they don't do.
+#[derive(Clone, Copy)]
+pub struct Places {
+    /// For those of semaphores.
+    pub semaphores: usize,
+    /// For those of counters.
+    pub counters: usize,
+}
+
+/// As many places as these paths have semaphores and counters.
+pub fn places_for<A: Allocator + Copy>(paths: &[LeanPath<A>]) -> Places {
+    let mut places = Places {
+        semaphores: 0,
+        counters: 0,
+    };
+    for path in paths {
+        places.semaphores = places.semaphores.saturating_add(path.semaphores.len());
+        places.counters = places.counters.saturating_add(path.counters.len());
+    }
+    places
+}
+
 /// Makes so many places at least, with 0 in the new ones.
 fn reach<A: Allocator + Copy>(values: &mut Vec<u64, A>, places: usize) -> Result<(), OutOfMemory>
     ensures { OnOk result (values.new.items ≡ values.old.items ++ replicate (places - length values.old.items) 0) }
@@ -29,7 +51,7 @@ fn reach<A: Allocator + Copy>(values: &mut Vec<u64, A>, places: usize) -> Result
 #[tactic(auto, using(crate::proofs::Appended::put_next))]
 fn put_at<A: Allocator + Copy>(
     values: &mut Vec<u64, A>,
-    number: u32,
+    number: u16,
     value: u64,
 ) -> Result<(), OutOfMemory>
     ensures { OnOk result (values.new.items ≡ put_value values.old.items number value) }
@@ -47,7 +69,7 @@ fn put_at<A: Allocator + Copy>(
 /// Writes the opening values of semaphores at their numbers.
 fn put_semaphores<A: Allocator + Copy>(
     values: &mut Vec<u64, A>,
-    semaphores: &[(u32, u32)],
+    semaphores: &[(u16, u16)],
 ) -> Result<(), OutOfMemory>
     ensures { OnOk result (values.new.items ≡ put_all semaphores.now values.old.items) }
 {
@@ -60,7 +82,7 @@ fn put_semaphores<A: Allocator + Copy>(
 /// Writes 0 at the numbers of counters.
 fn put_counters<A: Allocator + Copy>(
     values: &mut Vec<u64, A>,
-    counters: &[u32],
+    counters: &[u16],
 ) -> Result<(), OutOfMemory>
     ensures { OnOk result (values.new.items ≡ put_all (map at_zero counters.now) values.old.items) }
 {
@@ -111,6 +133,15 @@ pub fn add_path<A: Allocator + Copy>(
     add_terms(by_op, path.path, &path.ops)
 }
 
+/// How many terms these are together, at most `usize::MAX`.
+fn length_of_all<A: Allocator + Copy>(by_op: &[Vec<Term, A>]) -> usize {
+    let mut length: usize = 0;
+    for run in by_op {
+        length = length.saturating_add(run.len());
+    }
+    length
+}
+
 /// All terms in one list, with the places where those of each operation begin and end.
 pub fn in_one_list<A: Allocator + Copy>(
     alloc: A,
@@ -119,8 +150,8 @@ pub fn in_one_list<A: Allocator + Copy>(
     ensures runs { IfOk result (λ lists. runs_of lists.0.items lists.1.items ≡ rows_of by_op.now) }
     ensures laid_out { IfOk result (λ lists. IsLaidOut lists.0.items lists.1.items) }
 {
-    let mut terms = Vec::new(alloc);
-    let mut bounds = Vec::new(alloc);
+    let mut terms = Vec::with_capacity(alloc, length_of_all(by_op))?;
+    let mut bounds = Vec::with_capacity(alloc, by_op.len())?;
     for run in by_op {
         let start = terms.len();
         terms.extend_from_slice(run)?;
@@ -129,13 +160,40 @@ pub fn in_one_list<A: Allocator + Copy>(
     Ok((terms, bounds))
 }
 
-/// No terms, for each operation.
-pub fn no_terms<A: Allocator + Copy>(alloc: A) -> Result<Vec<Vec<Term, A>, A>, OutOfMemory>
+/// Counts each of these operations once more, up to `u32::MAX`.
+fn count_ops(counts: &mut [u32], ops: &[LeanOp]) {
+    for lean_op in ops {
+        if let Some(count) = counts.get_mut(lean_op.op.0 as usize) {
+            *count = count.saturating_add(1);
+        }
+    }
+}
+
+/// How many of these paths name each operation.
+fn paths_by_op<A: Allocator + Copy>(
+    alloc: A,
+    paths: &[LeanPath<A>],
+) -> Result<Vec<u32, A>, OutOfMemory>
+    ensures { IfOk result (λ v. length v.items ≡ 256) }
+{
+    let mut counts = no_counts(alloc)?;
+    for path in paths {
+        count_ops(&mut counts, &path.ops);
+    }
+    Ok(counts)
+}
+
+/// No terms, for each operation, with a place for each that these paths will give it.
+pub fn no_terms<A: Allocator + Copy>(
+    alloc: A,
+    paths: &[LeanPath<A>],
+) -> Result<Vec<Vec<Term, A>, A>, OutOfMemory>
     ensures { IfOk result (λ v. rows_of v.items ≡ replicate 256 []) }
 {
-    let mut by_op = Vec::new(alloc);
-    for _ in 0..OPERATIONS {
-        by_op.push(Vec::new(alloc))?;
+    let counts = paths_by_op(alloc, paths)?;
+    let mut by_op = Vec::with_capacity(alloc, counts.len())?;
+    for count in &counts {
+        by_op.push(Vec::with_capacity(alloc, *count as usize)?)?;
     }
     Ok(by_op)
 }

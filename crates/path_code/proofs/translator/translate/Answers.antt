@@ -7,7 +7,7 @@ use Rattle.path_model.specs.Flat.{Sited}
 use Rattle.path_code.specs.PathCodes.{paths_shown, path_shown, sites, total_semaphores, total_braces, numbered_trees, ArePathCodes, IsPathCode}
 use Rattle.path_code.specs.LawfulPaths.{LawfulPaths}
 use Rattle.path_code.proofs.Counts.{lawful_paths}
-use Rattle.path_code.proofs.Tables.{path_formed, path_small, taken_semaphores, taken_braces, next_taken, codes_more, totals_more, site_after, has_resource, code_semaphores, code_braces, one_shown}
+use Rattle.path_code.proofs.Tables.{path_formed, path_bounded, path_small, taken_semaphores, taken_braces, next_taken, codes_more, totals_more, site_after, has_resource, code_semaphores, code_braces, one_shown}
 use Rattle.path_code.proofs.translator.translate.Goals as goal
 
 pub unwrap-resource-requires : goal.unwrap-resource-requires
@@ -17,6 +17,11 @@ pub path_code-requires-clause-formed : goal.path_code-requires-clause-formed
 path_code-requires-clause-formed g c =
     let ps : List Path = c.args.decl.now.declaration.paths in
     path_formed ps (lawful_paths _ c.args.decl.now.lawful) c.loop-number.number (shape c.unwrap-tree.result.now) (rw c.unwrap-tree.ensures at c.tree_of.ensures)
+
+pub path_code-requires-clause-bounded : goal.path_code-requires-clause-bounded
+path_code-requires-clause-bounded g c =
+    let ps : List Path = c.args.decl.now.declaration.paths in
+    path_bounded ps (lawful_paths _ c.args.decl.now.lawful) c.loop-number.number (shape c.unwrap-tree.result.now) (rw c.unwrap-tree.ensures at c.tree_of.ensures)
 
 pub path_code-requires-clause-few : goal.path_code-requires-clause-few
 path_code-requires-clause-few g c =

@@ -13,8 +13,8 @@ pub loop-path-init : goal.loop-path-init
 loop-path-init g c =
     let items = c.kept-path-items.result.now in
     record {
-      semaphores = ap (semaphores_put (map row_of items)) c.new-semaphores.ensures.items ∙ ap (λ rs. semaphores_put rs []) c.kept-path-items.ensures;
-      counters = ap (counters_put (map row_of items)) c.new-counters.ensures.items ∙ ap (λ rs. counters_put rs []) c.kept-path-items.ensures;
+      semaphores = ap (semaphores_put (map row_of items)) c.in_ok-semaphores.ensures.items ∙ ap (λ rs. semaphores_put rs []) c.kept-path-items.ensures;
+      counters = ap (counters_put (map row_of items)) c.in_ok-counters.ensures.items ∙ ap (λ rs. counters_put rs []) c.kept-path-items.ensures;
       rows = first_rows c.args.lean.trees items c.kept-path-items.ensures c.in_ok-by_op.by_op.items c.in_ok-by_op.ensures;
       terms = first_terms c.args.lean.trees items c.kept-path-items.ensures c.in_ok-by_op.by_op.items c.in_ok-by_op.ensures;
     }
@@ -48,7 +48,7 @@ invariant_of-result g c =
     let zeros : c.in_ok-in_progress.in_progress.items ≡ replicate 256 0 = c.in_ok-in_progress.ensures in
     let runs : runs_of c.in_ok-terms.terms.items c.in_ok-terms.bounds.items ≡ rows_of c.loop-path.by_op.items = c.in_ok-terms.ensures.runs ∙ ap rows_of c.deref.ensures.value in
     record {
-      sound = rw (c.of.ensures, semaphores, counters, zeros) (opened_sound ss c.args.lean.lawful _ (ap length runs ∙ length-map c.loop-path.by_op.items (λ terms. terms.items) ∙ c.loop-path.invariant.rows)
+      sound = rw (c.of-opened.ensures, semaphores, counters, zeros) (opened_sound ss c.args.lean.lawful _ (ap length runs ∙ length-map c.loop-path.by_op.items (λ terms. terms.items) ∙ c.loop-path.invariant.rows)
           (λ a. ap (λ rs. get_or rs a.0 []) runs ∙ last_terms ss items table i (omega arith) a (terms_for c.loop-path.by_op.items a) (rows_terms (lean_table ss) a) (c.loop-path.invariant.terms a)));
       laid_out = c.in_ok-terms.ensures.laid_out;
     }
@@ -62,4 +62,4 @@ returns-clause-opened g c =
     let semaphores : c.loop-path.semaphores.items ≡ semaphores_put (lean_table ss) [] = last_semaphores ss items table i (omega arith) c.loop-path.semaphores.items (semaphores_put (lean_table ss) []) c.loop-path.invariant.semaphores in
     let counters : c.loop-path.counters.items ≡ counters_put (lean_table ss) [] = last_counters ss items table i (omega arith) c.loop-path.counters.items (counters_put (lean_table ss) []) c.loop-path.invariant.counters in
     let zeros : c.in_ok-in_progress.in_progress.items ≡ replicate 256 0 = c.in_ok-in_progress.ensures in
-    rw (c.of.ensures, semaphores, counters, zeros) (opened_at ss c.args.lean.lawful)
+    rw (c.of-opened.ensures, semaphores, counters, zeros) (opened_at ss c.args.lean.lawful)

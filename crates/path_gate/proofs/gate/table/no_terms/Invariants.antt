@@ -2,5 +2,5 @@
 use Rattle.std.proofs.Common.{◌≡◌, map, replicate, []}
 use Rattle.path_gate.proofs.gate.table.no_terms.Given as goal
 
-abbrev pub invariant-loop : goal.invariant-loop
-invariant-loop g l = map (λ terms. terms.items) l.by_op.items ≡ replicate l.counter []
+abbrev pub invariant-loop-count : goal.invariant-loop-count
+invariant-loop-count g l = map (λ terms. terms.items) l.by_op.items ≡ replicate l.count-index []
