@@ -1,20 +1,18 @@
 -- Which names a table has.
-use Rattle.std.proofs.Common.{◌≡◌, ℕ, zero, suc, ◌+◌, Bool, true, false, cond, Option, Some, None, List, [], ◌∷◌, ◌++◌, ◌||◌, not, length, get_or, map, reverse, nat_lt, refl, sym, ap, ◌∙◌, subst, arith, Contains, slice_get, option_map, IfSome, IfNone}
+use Rattle.std.proofs.Common.{◌≡◌, ℕ, zero, suc, Bool, true, false, cond, Option, Some, None, List, [], ◌∷◌, get_or, map, refl, sym, ap, ◌∙◌, arith, Contains, slice_get, option_map, IfSome, IfNone}
 use Rattle.std.specs.Option.{is_some}
-use Rattle.std.specs.List.{position, position_or_len, list_any}
-use Rattle.std.proofs.Common.{Bor}
+use Rattle.std.specs.List.{position}
 use Rattle.std.specs.Map.{lookup, keys_of}
 use Rattle.std.specs.Str.{bytes_eq}
 use Rattle.std.specs.String.{string_bytes}
 use Rattle.std.specs.Prelude.{String}
 use Rattle.std.proofs.lemmas.Slice.Eq.{bytes_eq-Decides}
-use Rattle.std.proofs.lemmas.List.{get_or-map, map_push, length-map, reverse-append}
+use Rattle.std.proofs.lemmas.List.{get_or-map, length-map}
 use Rattle.std.proofs.lemmas.List.Quantifiers.{position-Some}
 use Rattle.std.proofs.lemmas.Option.{slice_get-get_or}
-use Rattle.std.proofs.lemmas.Option.{slice_get-map, same_Some, cond_some, slice_get_within, get_or_from_slice_get}
+use Rattle.std.proofs.lemmas.Option.{slice_get-map}
 use Rattle.path_model.specs.declared.ids.ResId.{ResId}
 use Rattle.path_model.specs.declared.resource.Law.{Law}
-use Rattle.path_model.specs.Trees.{Tree}
 use Rattle.path_decl.specs.Table.{names_of, operation_shown, operations_of, resource_shown, resources_of}
 
 -- whether a key has these bytes

@@ -9,6 +9,7 @@ pub mod Lists
 pub mod Greedy
 pub mod NumeralLemmas
 pub mod Taken
+pub mod Following
 pub mod Files
 pub mod FormRules
 pub mod Ruled

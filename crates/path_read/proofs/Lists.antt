@@ -12,30 +12,33 @@ use Rattle.path_lex.specs.Spelling.{Piece, sign, reserved, name}
 use Rattle.path_decl.specs.Forms.{Form, LawForm, ResourceForm}
 use Rattle.path_decl.specs.Grammar.{IsLaw}
 use Rattle.path_read.specs.Parts.{Saying, a_resource, a_law, an_operation, a_path, an_end, form_parts, body_parts, path_parts, inner_parts, resource_parts, file_parts}
-use Rattle.path_read.specs.Reading.{Begins, Adds, ReadsSeq, ReadsPath, by_path, ReadsPaths, no_path, one_path, ReadsMore, no_name, one_name, ReadsNames, by_names, ReadsBody, by_body, ReadsResource, by_resource, ReadsResources, no_resource, one_resource, ReadsFile, by_file}
+use Rattle.path_read.specs.Reading.{Begins, ReadsSeq, ReadsPath, by_path, ReadsPaths, no_path, one_path, ReadsMore, no_name, one_name, ReadsNames, by_names, ReadsBody, by_body, ReadsResource, by_resource, ReadsResources, no_resource, one_resource, ReadsFile, by_file}
+use Rattle.path_read.specs.Building.{nothing}
+use Rattle.path_read.specs.Taking.{Taking, sound, Follows, Adds}
 use Rattle.path_read.proofs.Once.{Same, seq_once, same_tail}
+use Rattle.path_read.proofs.Following.{follows, follows_as}
 use Rattle.path_read.proofs.Laws.{NoLaw, law_once}
 
-pub path_closed : (ts mid rest : List Piece) (old out new : List Saying) → Adds form_parts (ReadsSeq 32 ts mid) old out → mid ≡ reserved words.End ∷ rest → new ≡ out ++ an_end ∷ [] → Adds body_parts (ReadsPath ts rest) old new
-path_closed ts mid rest old out new a e n = (a.0, by_path (subst (λ x. ReadsSeq 32 ts x a.0) e a.1), n ∙ ap (λ x. x ++ an_end ∷ []) a.2 ∙ append_assoc old (form_parts a.0) (an_end ∷ []))
+pub path_closed : (ts mid rest : List Piece) (old out new : Taking) → Adds form_parts (ReadsSeq 32 ts mid) old out → mid ≡ reserved words.End ∷ rest → Follows (an_end ∷ []) out new → Adds body_parts (ReadsPath ts rest) old new
+path_closed ts mid rest old out new a e n = (a.0, by_path (subst (λ x. ReadsSeq 32 ts x a.0) e a.1), follows (form_parts a.0) (an_end ∷ []) old out new a.2 n)
 
 open_at : {ts mid rest : List Piece} {s f : Form} → ReadsSeq 32 ts mid s → (Begins (reserved words.End) mid → ⊥) → ReadsPath ts rest f → ⊥
 open_at {rest} q none (by_path r) = none (rest, (seq_once q r).0)
 
-pub path_open : (ts mid : List Piece) (old out : List Saying) → Adds form_parts (ReadsSeq 32 ts mid) old out → (Begins (reserved words.End) mid → ⊥) → (rest : List Piece) (f : Form) → ReadsPath ts rest f → ⊥
+pub path_open : (ts mid : List Piece) (old out : Taking) → Adds form_parts (ReadsSeq 32 ts mid) old out → (Begins (reserved words.End) mid → ⊥) → (rest : List Piece) (f : Form) → ReadsPath ts rest f → ⊥
 path_open ts mid old out a none rest f p = open_at a.1 none p
 
 -- the names so far
-pub record ReachedNames (ts : List Piece) (old : List Saying) (left : List Piece) (out : List Saying) : Type 0 where
+pub record ReachedNames (ts : List Piece) (old : Taking) (left : List Piece) (out : Taking) : Type 0 where
   pub names : List (List ℕ)
   pub forth : (rest : List Piece) (ns : List (List ℕ)) → ReadsMore left rest ns → ReadsNames ts rest (names ++ ns)
   pub back : (rest : List Piece) (ns : List (List ℕ)) → ReadsNames ts rest ns → (ms : List (List ℕ)) × ReadsMore left rest ms
-  pub says : out ≡ old ++ map an_operation names
+  pub says : Follows (map an_operation names) old out
 
 after_first : {n : List ℕ} {left rest : List Piece} {ns : List (List ℕ)} → ReadsNames (name n ∷ left) rest ns → (ms : List (List ℕ)) × ReadsMore left rest ms
 after_first (by_names {ns} m) = (ns, m)
 
-pub first_name : (ts left : List Piece) (n : List ℕ) (old out : List Saying) → ts ≡ name n ∷ left → out ≡ old ++ an_operation n ∷ [] → ReachedNames ts old left out
+pub first_name : (ts left : List Piece) (n : List ℕ) (old out : Taking) → ts ≡ name n ∷ left → Follows (an_operation n ∷ []) old out → ReachedNames ts old left out
 first_name ts left n old out e s = record {
   names = n ∷ [];
   forth = λ rest ns m. subst (λ x. ReadsNames x rest (n ∷ ns)) (sym e) (by_names m);
@@ -47,7 +50,7 @@ after_next : {n : List ℕ} {left rest : List Piece} {ns : List (List ℕ)} → 
 after_next (no_name f) = absurd (f (_, refl))
 after_next (one_name {ns} m) = (ns, m)
 
-pub next_name : (ts left inner after : List Piece) (n : List ℕ) (old out new : List Saying) → left ≡ sign signs.Comma ∷ inner → inner ≡ name n ∷ after → new ≡ out ++ an_operation n ∷ []
+pub next_name : (ts left inner after : List Piece) (n : List ℕ) (old out new : Taking) → left ≡ sign signs.Comma ∷ inner → inner ≡ name n ∷ after → Follows (an_operation n ∷ []) out new
     → ReachedNames ts old left out → ReachedNames ts old after new
 next_name ts left inner after n old out new e f s r =
     let both : left ≡ sign signs.Comma ∷ name n ∷ after = e ∙ ap (λ x. sign signs.Comma ∷ x) f in
@@ -55,21 +58,21 @@ next_name ts left inner after n old out new e f s r =
       names = r.names ++ n ∷ [];
       forth = λ rest ns m. subst (λ x. ReadsNames ts rest x) (sym (append_assoc r.names (n ∷ []) ns)) (r.forth rest (n ∷ ns) (subst (λ x. ReadsMore x rest (n ∷ ns)) (sym both) (one_name m)));
       back = λ rest ns q. let b = r.back rest ns q in after_next (subst (λ x. ReadsMore x rest b.0) both b.1);
-      says = s ∙ ap (λ x. x ++ an_operation n ∷ []) r.says ∙ append_assoc old (map an_operation r.names) (an_operation n ∷ []) ∙ ap (λ x. old ++ x) (sym (map-append an_operation r.names (n ∷ [])));
+      says = follows_as _ _ old new (sym (map-append an_operation r.names (n ∷ []))) (follows (map an_operation r.names) (an_operation n ∷ []) old out new r.says s);
     }
 
 stuck_more : {inner rest : List Piece} {ns : List (List ℕ)} → ((n : List ℕ) → Begins (name n) inner → ⊥) → ReadsMore (sign signs.Comma ∷ inner) rest ns → ⊥
 stuck_more none (no_name f) = f (_, refl)
 stuck_more none (one_name m) = none _ (_, refl)
 
-pub no_names_at : (ts left inner : List Piece) (old out : List Saying) → left ≡ sign signs.Comma ∷ inner → ((n : List ℕ) → Begins (name n) inner → ⊥) → ReachedNames ts old left out
+pub no_names_at : (ts left inner : List Piece) (old out : Taking) → left ≡ sign signs.Comma ∷ inner → ((n : List ℕ) → Begins (name n) inner → ⊥) → ReachedNames ts old left out
     → (rest : List Piece) (ns : List (List ℕ)) → ReadsNames ts rest ns → ⊥
 no_names_at ts left inner old out e none r rest ns q = let b = r.back rest ns q in stuck_more none (subst (λ x. ReadsMore x rest b.0) e b.1)
 
 pub no_first_name : (ts : List Piece) → ((n : List ℕ) → Begins (name n) ts → ⊥) → (rest : List Piece) (ns : List (List ℕ)) → ReadsNames ts rest ns → ⊥
 no_first_name ts none rest ns (by_names m) = none _ (_, refl)
 
-pub names_end : (ts left : List Piece) (old out : List Saying) → (Begins (sign signs.Comma) left → ⊥) → ReachedNames ts old left out → Adds (map an_operation) (ReadsNames ts left) old out
+pub names_end : (ts left : List Piece) (old out : Taking) → (Begins (sign signs.Comma) left → ⊥) → ReachedNames ts old left out → Adds (map an_operation) (ReadsNames ts left) old out
 names_end ts left old out none r = (r.names, subst (λ x. ReadsNames ts left x) (append-nil r.names) (r.forth left [] (no_name none)), r.says)
 
 -- names are read in one way
@@ -100,23 +103,23 @@ paths_once (one_path p q) (one_path p' q') =
     let f = paths_once q (paths_at e.0 q') in (f.0, both_cons e.1 f.1)
 
 -- the names, and the paths so far
-pub record ReachedBody (ts : List Piece) (old : List Saying) (left : List Piece) (out : List Saying) : Type 0 where
+pub record ReachedBody (ts : List Piece) (old : Taking) (left : List Piece) (out : Taking) : Type 0 where
   pub names : List (List ℕ)
   pub paths : List Form
   pub forth : (rest : List Piece) (ps : List Form) → ReadsPaths left rest ps → ReadsBody ts rest names (paths ++ ps)
   pub back : (rest : List Piece) (ns : List (List ℕ)) (ps : List Form) → ReadsBody ts rest ns ps → (qs : List Form) × ReadsPaths left rest qs
-  pub says : out ≡ old ++ inner_parts (names, paths)
+  pub says : Follows (inner_parts (names, paths)) old out
 
 after_names : {ts mid rest : List Piece} {os ns : List (List ℕ)} {ps : List Form} → ReadsNames ts mid os → ReadsBody ts rest ns ps → ReadsPaths mid rest ps
 after_names q (by_body r p) = let e = names_once q r in paths_at e.0 p
 
-pub first_body : (ts mid : List Piece) (old out : List Saying) → Adds (map an_operation) (ReadsNames ts mid) old out → ReachedBody ts old mid out
+pub first_body : (ts mid : List Piece) (old out : Taking) → Adds (map an_operation) (ReadsNames ts mid) old out → ReachedBody ts old mid out
 first_body ts mid old out a = record {
   names = a.0;
   paths = [];
   forth = λ rest ps p. by_body a.1 p;
   back = λ rest ns ps b. (ps, after_names a.1 b);
-  says = a.2 ∙ ap (λ x. old ++ x) (sym (append-nil (map an_operation a.0)));
+  says = follows_as _ _ old out (sym (append-nil (map an_operation a.0))) a.2;
 }
 
 path_parts-push : (fs : List Form) (f : Form) → path_parts (fs ++ f ∷ []) ≡ path_parts fs ++ (a_path ∷ body_parts f)
@@ -127,32 +130,32 @@ after_path : {inner after rest : List Piece} {f : Form} {ps : List Form} → Rea
 after_path p (no_path g) = absurd (g (_, refl))
 after_path p (one_path {ps} q r) = let e = path_once p q in (ps, paths_at e.0 r)
 
-says_path : (old names paths f out begun new : List Saying) → begun ≡ out ++ a_path ∷ [] → new ≡ begun ++ f → out ≡ old ++ (names ++ paths) → new ≡ old ++ (names ++ (paths ++ (a_path ∷ f)))
-says_path old names paths f out begun new b n s =
-    n ∙ ap (λ x. x ++ f) b ∙ append_assoc out (a_path ∷ []) f ∙ ap (λ x. x ++ (a_path ∷ f)) s ∙ append_assoc old (names ++ paths) (a_path ∷ f) ∙ ap (λ x. old ++ x) (append_assoc names paths (a_path ∷ f))
+says_path : (names paths f : List Saying) (old out begun new : Taking) → Follows (a_path ∷ []) out begun → Follows f begun new → Follows (names ++ paths) old out → Follows (names ++ (paths ++ (a_path ∷ f))) old new
+says_path names paths f old out begun new b n s =
+    follows_as _ _ old new (append_assoc names paths (a_path ∷ f)) (follows (names ++ paths) (a_path ∷ f) old out new s (follows (a_path ∷ []) f out begun new b n))
 
-pub next_body : (ts left inner after : List Piece) (old out begun new : List Saying) → left ≡ reserved words.Path ∷ inner → begun ≡ out ++ a_path ∷ [] → Adds body_parts (ReadsPath inner after) begun new
+pub next_body : (ts left inner after : List Piece) (old out begun new : Taking) → left ≡ reserved words.Path ∷ inner → Follows (a_path ∷ []) out begun → Adds body_parts (ReadsPath inner after) begun new
     → ReachedBody ts old left out → ReachedBody ts old after new
 next_body ts left inner after old out begun new e b a r = record {
   names = r.names;
   paths = r.paths ++ a.0 ∷ [];
   forth = λ rest ps p. subst (λ x. ReadsBody ts rest r.names x) (sym (append_assoc r.paths (a.0 ∷ []) ps)) (r.forth rest (a.0 ∷ ps) (subst (λ x. ReadsPaths x rest (a.0 ∷ ps)) (sym e) (one_path a.1 p)));
   back = λ rest ns ps q. let b = r.back rest ns ps q in after_path a.1 (subst (λ x. ReadsPaths x rest b.0) e b.1);
-  says = says_path old (map an_operation r.names) (path_parts r.paths) (body_parts a.0) out begun new b a.2 r.says ∙ ap (λ x. old ++ (map an_operation r.names ++ x)) (sym (path_parts-push r.paths a.0));
+  says = follows_as _ _ old new (ap (λ x. map an_operation r.names ++ x) (sym (path_parts-push r.paths a.0))) (says_path (map an_operation r.names) (path_parts r.paths) (body_parts a.0) old out begun new b a.2 r.says);
 }
 
 stuck_paths : {inner rest : List Piece} {ps : List Form} → ((after : List Piece) (f : Form) → ReadsPath inner after f → ⊥) → ReadsPaths (reserved words.Path ∷ inner) rest ps → ⊥
 stuck_paths none (no_path g) = g (_, refl)
 stuck_paths none (one_path q r) = none _ _ q
 
-pub no_body_at : (ts left inner : List Piece) (old out : List Saying) → left ≡ reserved words.Path ∷ inner → ((after : List Piece) (f : Form) → ReadsPath inner after f → ⊥) → ReachedBody ts old left out
+pub no_body_at : (ts left inner : List Piece) (old out : Taking) → left ≡ reserved words.Path ∷ inner → ((after : List Piece) (f : Form) → ReadsPath inner after f → ⊥) → ReachedBody ts old left out
     → (rest : List Piece) (ns : List (List ℕ)) (ps : List Form) → ReadsBody ts rest ns ps → ⊥
 no_body_at ts left inner old out e none r rest ns ps q = let b = r.back rest ns ps q in stuck_paths none (subst (λ x. ReadsPaths x rest b.0) e b.1)
 
 pub no_body_names : (ts : List Piece) → ((rest : List Piece) (ns : List (List ℕ)) → ReadsNames ts rest ns → ⊥) → (rest : List Piece) (ns : List (List ℕ)) (ps : List Form) → ReadsBody ts rest ns ps → ⊥
 no_body_names ts none rest ns ps (by_body r p) = none _ _ r
 
-pub body_ends : (ts left : List Piece) (old out : List Saying) → (Begins (reserved words.Path) left → ⊥) → ReachedBody ts old left out → Adds inner_parts (λ b. ReadsBody ts left b.0 b.1) old out
+pub body_ends : (ts left : List Piece) (old out : Taking) → (Begins (reserved words.Path) left → ⊥) → ReachedBody ts old left out → Adds inner_parts (λ b. ReadsBody ts left b.0 b.1) old out
 body_ends ts left old out none r = ((r.names, r.paths), subst (λ x. ReadsBody ts left r.names x) (append-nil r.paths) (r.forth left [] (no_path none)), r.says)
 
 pub body_once : {ts r r' : List Piece} {ns ns' : List (List ℕ)} {ps ps' : List Form} → ReadsBody ts r ns ps → ReadsBody ts r' ns' ps' → (r ≡ r') × (ns ≡ ns') × (ps ≡ ps')
@@ -165,7 +168,7 @@ abbrev pub IsNamed : List Piece → List ℕ → List Piece → Type 0
 IsNamed ts n ls = ts ≡ reserved words.Resource ∷ name n ∷ ls
 
 -- a law was read, and its part was added
-abbrev pub AddsLaw : List Piece → List Piece → List Saying → List Saying → Type 0
+abbrev pub AddsLaw : List Piece → List Piece → Taking → Taking → Type 0
 AddsLaw ls kind old new = Adds (λ l. a_law l ∷ []) (IsLaw ls kind) old new
 
 abbrev pub NoResource : List Piece → Type 0
@@ -196,32 +199,32 @@ named ts t1 ls n e f = e ∙ ap (λ x. reserved words.Resource ∷ x) f
 pub no_law : (ts ls : List Piece) (n : List ℕ) → IsNamed ts n ls → NoLaw ls → NoResource ts
 no_law ts ls n e none rest r q = none _ _ (law_third (named_so e q)).1
 
-pub no_operation : (ts ls kind : List Piece) (n : List ℕ) (old out : List Saying) → IsNamed ts n ls → AddsLaw ls kind old out → (Begins (reserved words.Operation) kind → ⊥) → NoResource ts
+pub no_operation : (ts ls kind : List Piece) (n : List ℕ) (old out : Taking) → IsNamed ts n ls → AddsLaw ls kind old out → (Begins (reserved words.Operation) kind → ⊥) → NoResource ts
 no_operation ts ls kind n old out e a none rest r q = let p = law_third (named_so e q) in none (p.0, (law_once a.1 p.1).0)
 
 body_from : {ts ts' rest : List Piece} {ns : List (List ℕ)} {ps : List Form} → ts ≡ ts' → ReadsBody ts' rest ns ps → ReadsBody ts rest ns ps
 body_from {rest} {ns} {ps} e b = subst (λ x. ReadsBody x rest ns ps) (sym e) b
 
-body_last : (ts ls kind inside : List Piece) (n : List ℕ) (old out : List Saying) → IsNamed ts n ls → AddsLaw ls kind old out → kind ≡ reserved words.Operation ∷ inside
+body_last : (ts ls kind inside : List Piece) (n : List ℕ) (old out : Taking) → IsNamed ts n ls → AddsLaw ls kind old out → kind ≡ reserved words.Operation ∷ inside
     → (rest : List Piece) (r : ResourceForm) → ReadsResource ts rest r → ReadsBody inside (reserved words.End ∷ rest) r.operations r.paths
 body_last ts ls kind inside n old out e a f rest r q = let p = law_third (named_so e q) in body_from (same_tail (sym f ∙ (law_once a.1 p.1).0)) p.2
 
-pub no_body : (ts ls kind inside : List Piece) (n : List ℕ) (old out : List Saying) → IsNamed ts n ls → AddsLaw ls kind old out → kind ≡ reserved words.Operation ∷ inside
+pub no_body : (ts ls kind inside : List Piece) (n : List ℕ) (old out : Taking) → IsNamed ts n ls → AddsLaw ls kind old out → kind ≡ reserved words.Operation ∷ inside
     → ((rest : List Piece) (ns : List (List ℕ)) (fs : List Form) → ReadsBody inside rest ns fs → ⊥) → NoResource ts
 no_body ts ls kind inside n old out e a f none rest r q = none _ _ _ (body_last ts ls kind inside n old out e a f rest r q)
 
-pub no_end : (ts ls kind inside last : List Piece) (n : List ℕ) (old out new : List Saying) → IsNamed ts n ls → AddsLaw ls kind old out → kind ≡ reserved words.Operation ∷ inside
+pub no_end : (ts ls kind inside last : List Piece) (n : List ℕ) (old out new : Taking) → IsNamed ts n ls → AddsLaw ls kind old out → kind ≡ reserved words.Operation ∷ inside
     → Adds inner_parts (λ b. ReadsBody inside last b.0 b.1) out new → (Begins (reserved words.End) last → ⊥) → NoResource ts
 no_end ts ls kind inside last n old out new e a f b none rest r q = none (rest, (body_once b.1 (body_last ts ls kind inside n old out e a f rest r q)).0)
 
-pub is_resource : (ts ls kind inside last rest : List Piece) (n : List ℕ) (old begun out new : List Saying) → IsNamed ts n ls → begun ≡ old ++ a_resource n ∷ [] → AddsLaw ls kind begun out → kind ≡ reserved words.Operation ∷ inside
+pub is_resource : (ts ls kind inside last rest : List Piece) (n : List ℕ) (old begun out new : Taking) → IsNamed ts n ls → Follows (a_resource n ∷ []) old begun → AddsLaw ls kind begun out → kind ≡ reserved words.Operation ∷ inside
     → Adds inner_parts (λ b. ReadsBody inside last b.0 b.1) out new → last ≡ reserved words.End ∷ rest → Adds resource_parts (ReadsResource ts rest) old new
 is_resource ts ls kind inside last rest n old begun out new e s a f b g =
     let r : ResourceForm = record { name = n; law = a.0; operations = b.0.0; paths = b.0.1 } in
     let whole : ReadsResource (reserved words.Resource ∷ name n ∷ ls) rest r = by_resource (subst (λ x. IsLaw ls x a.0) f a.1) (subst (λ x. ReadsBody inside x b.0.0 b.0.1) g b.1) in (
       r,
       subst (λ x. ReadsResource x rest r) (sym e) whole,
-      b.2 ∙ ap (λ x. x ++ inner_parts b.0) (a.2 ∙ ap (λ x. x ++ a_law a.0 ∷ []) s) ∙ append_assoc (old ++ a_resource n ∷ []) (a_law a.0 ∷ []) (inner_parts b.0) ∙ append_assoc old (a_resource n ∷ []) (a_law a.0 ∷ inner_parts b.0),
+      follows (a_resource n ∷ []) (a_law a.0 ∷ inner_parts b.0) old begun new s (follows (a_law a.0 ∷ []) (inner_parts b.0) begun out new a.2 b.2),
     )
 
 same_form : {l l' : LawForm} {ns ns' : List (List ℕ)} {n : List ℕ} {ps ps' : List Form} → l ≡ l' → ns ≡ ns' → ps ≡ ps'
@@ -248,21 +251,21 @@ file_once (by_file q m) (by_file q' m') =
     let e = resource_once q q' in both_cons e.1 (resources_once m (resources_at e.0 m'))
 
 -- the resources so far
-pub record ReachedFile (ts : List Piece) (left : List Piece) (out : List Saying) : Type 0 where
+pub record ReachedFile (ts : List Piece) (left : List Piece) (out : Taking) : Type 0 where
   pub resources : List ResourceForm
   pub forth : (rs : List ResourceForm) → ReadsResources left rs → ReadsFile ts (resources ++ rs)
   pub back : (rs : List ResourceForm) → ReadsFile ts rs → (qs : List ResourceForm) × ReadsResources left qs
-  pub says : out ≡ file_parts resources
+  pub says : Follows (file_parts resources) (sound nothing) out
 
 after_resource : {ts mid : List Piece} {r : ResourceForm} {rs : List ResourceForm} → ReadsResource ts mid r → ReadsFile ts rs → (qs : List ResourceForm) × ReadsResources mid qs
 after_resource q (by_file {rs} q' m) = let e = resource_once q q' in (rs, resources_at e.0 m)
 
-pub first_resource : (ts mid : List Piece) (out : List Saying) → Adds resource_parts (ReadsResource ts mid) [] out → ReachedFile ts mid out
+pub first_resource : (ts mid : List Piece) (out : Taking) → Adds resource_parts (ReadsResource ts mid) (sound nothing) out → ReachedFile ts mid out
 first_resource ts mid out a = record {
   resources = a.0 ∷ [];
   forth = λ rs m. by_file a.1 m;
   back = λ rs q. after_resource a.1 q;
-  says = a.2 ∙ sym (append-nil (resource_parts a.0));
+  says = follows_as _ _ (sound nothing) out (sym (append-nil (resource_parts a.0))) a.2;
 }
 
 file_parts-push : (rs : List ResourceForm) (r : ResourceForm) → file_parts (rs ++ r ∷ []) ≡ file_parts rs ++ resource_parts r
@@ -274,25 +277,25 @@ beyond : {left mid : List Piece} {r : ResourceForm} {rs : List ResourceForm} →
 beyond q no_resource = absurd (let e = word_first q in cc (e.1))
 beyond q (one_resource {rs} q' m) = let e = resource_once q q' in (rs, resources_at e.0 m)
 
-pub next_resource : (ts left mid : List Piece) (out new : List Saying) → Adds resource_parts (ReadsResource left mid) out new → ReachedFile ts left out → ReachedFile ts mid new
+pub next_resource : (ts left mid : List Piece) (out new : Taking) → Adds resource_parts (ReadsResource left mid) out new → ReachedFile ts left out → ReachedFile ts mid new
 next_resource ts left mid out new a r = record {
   resources = r.resources ++ a.0 ∷ [];
   forth = λ rs m. subst (λ x. ReadsFile ts x) (sym (append_assoc r.resources (a.0 ∷ []) rs)) (r.forth (a.0 ∷ rs) (one_resource a.1 m));
   back = λ rs q. let b = r.back rs q in beyond a.1 b.1;
-  says = a.2 ∙ ap (λ x. x ++ resource_parts a.0) r.says ∙ sym (file_parts-push r.resources a.0);
+  says = follows_as _ _ (sound nothing) new (sym (file_parts-push r.resources a.0)) (follows (file_parts r.resources) (resource_parts a.0) (sound nothing) out new r.says a.2);
 }
 
 no_more : {left : List Piece} {rs : List ResourceForm} → NoResource left → ReadsResources left rs → (left ≡ []) ⊎ ⊥
 no_more none no_resource = inl refl
 no_more none (one_resource q m) = absurd (none _ _ q)
 
-pub no_file_at : (ts left : List Piece) (out : List Saying) → (left ≡ [] → ⊥) → NoResource left → ReachedFile ts left out → (rs : List ResourceForm) → ReadsFile ts rs → ⊥
+pub no_file_at : (ts left : List Piece) (out : Taking) → (left ≡ [] → ⊥) → NoResource left → ReachedFile ts left out → (rs : List ResourceForm) → ReadsFile ts rs → ⊥
 no_file_at ts left out some none r rs q = let b = r.back rs q in elim (no_more none b.1) [ inl e ↦ some e | inr f ↦ f ]
 
 pub no_file : (ts : List Piece) → NoResource ts → (rs : List ResourceForm) → ReadsFile ts rs → ⊥
 no_file ts none rs (by_file q m) = none _ _ q
 
-pub file_ends : (ts left : List Piece) (out : List Saying) → left ≡ [] → ReachedFile ts left out → (rs : List ResourceForm) × ReadsFile ts rs × (out ≡ file_parts rs)
+pub file_ends : (ts left : List Piece) (out : Taking) → left ≡ [] → ReachedFile ts left out → (rs : List ResourceForm) × ReadsFile ts rs × Follows (file_parts rs) (sound nothing) out
 file_ends ts left out e r = (r.resources, subst (λ x. ReadsFile ts x) (append-nil r.resources) (r.forth [] (subst (λ x. ReadsResources x []) (sym e) no_resource)), r.says)
 
 -- a clause on a result, weakened

@@ -44,6 +44,15 @@ table_kept es fs ins k v n xs (Err e) more key p q d none h =
     let same : length fs ≡ length es = ap length q in
     (subst IsDistinct (sym (ap names_of q)) d, still_below (length es) (length fs) xs (omega (arith, same)) h)
 
+-- nor does it pass the limit, where the table was below it
+pub still_room : {Y T E : Type 0} (es fs ins : List (String Y × ResId)) (k : String Y) (v : ResId) (r : Result T E) → ins ≡ es ++ (k, v) ∷ [] → OnOk r (fs ≡ ins) → OnErr r (fs ≡ es) → length es < 256 → length fs ≤ 256
+still_room es fs ins k v (Ok x) more p q room =
+    let longer : length fs ≡ length es + 1 = ap length (p ∙ more) ∙ simp length-append (omega arith) in
+    omega (arith, longer)
+still_room es fs ins k v (Err e) more p q room =
+    let same : length fs ≡ length es = ap length q in
+    omega (arith, same)
+
 -- numbers keep their names when a name is added
 pub names_kept : (ns : List (List ℕ)) (n : List ℕ) (xs : List OpId) → AreBelow (length ns) xs → map (name_at (ns ++ n ∷ [])) xs ≡ map (name_at ns) xs
 names_kept ns n [] h = refl

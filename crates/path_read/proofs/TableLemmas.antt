@@ -1,16 +1,11 @@
 -- How a table of names grows.
-use Rattle.std.proofs.Common.{◌≡◌, ℕ, zero, suc, ◌+◌, Bool, true, false, cond, Option, Some, None, List, [], ◌∷◌, ◌++◌, ◌||◌, not, length, get_or, map, reverse, nat_lt, refl, sym, ap, ◌∙◌, subst, arith, Contains, slice_get, option_map, IfSome, IfNone}
+use Rattle.std.proofs.Common.{◌≡◌, ℕ, zero, suc, ◌+◌, Bool, true, false, cond, Option, Some, None, List, [], ◌∷◌, ◌++◌, not, length, map, reverse, nat_lt, refl, sym, ap, ◌∙◌, subst, arith, Contains, slice_get, option_map}
 use Rattle.std.specs.Option.{is_some}
-use Rattle.std.specs.List.{position, position_or_len, list_any}
-use Rattle.std.proofs.Common.{Bor}
+use Rattle.std.specs.List.{position, position_or_len}
 use Rattle.std.specs.Map.{lookup, keys_of}
-use Rattle.std.specs.Str.{bytes_eq}
 use Rattle.std.specs.String.{string_bytes}
 use Rattle.std.specs.Prelude.{String}
-use Rattle.std.proofs.lemmas.Slice.Eq.{bytes_eq-Decides}
-use Rattle.std.proofs.lemmas.List.{get_or-map, map_push, length-map, reverse-append}
-use Rattle.std.proofs.lemmas.List.Quantifiers.{position-Some}
-use Rattle.std.proofs.lemmas.Option.{slice_get-get_or}
+use Rattle.std.proofs.lemmas.List.{map_push, reverse-append}
 use Rattle.std.proofs.lemmas.Option.{slice_get-map, same_Some, cond_some, slice_get_within, get_or_from_slice_get}
 use Rattle.path_model.specs.declared.ids.ResId.{ResId}
 use Rattle.path_model.specs.declared.resource.Law.{Law}

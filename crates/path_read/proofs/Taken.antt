@@ -1,14 +1,13 @@
 -- What the parts of forms ask for, and what they make.
-use Rattle.std.proofs.Common.{◌≡◌, ◌≢◌, ℕ, suc, ◌+◌, ◌<◌, ◌≤◌, List, [], ◌∷◌, ◌++◌, length, get_or, refl, sym, ap, ◌∙◌, subst, append_assoc, arith, Contains, slice_get, Some, take, ◌-◌}
+use Rattle.std.proofs.Common.{◌≡◌, ◌≢◌, ℕ, suc, ◌+◌, ◌<◌, ◌≤◌, List, [], ◌∷◌, ◌++◌, length, get_or, refl, sym, ap, ◌∙◌, subst, append_assoc, arith, Contains, slice_get, Some, ◌-◌}
 use Rattle.std.specs.List.{AllByRecursion}
-use Rattle.std.proofs.lemmas.List.{append-nil, take_more, length-append, map_push, get_or_append_left, get_or-append_right}
+use Rattle.std.proofs.lemmas.List.{append-nil, length-append, get_or_append_left, get_or-append_right}
 use Rattle.std.proofs.lemmas.List.Elements.{Contains-get_or}
 use Rattle.std.proofs.lemmas.List.Quantifiers.{all_pairs_push}
 use Rattle.path_model.specs.Trees.{Tree, op, seq, alt, burst}
 use Rattle.path_model.specs.Declarations.{Operation}
 use Rattle.path_decl.specs.Forms.{Form, once, sequence, selection, braced, names_in}
-use Rattle.path_read.specs.declared.part.PlacedPart.{PlacedPart}
-use Rattle.path_read.specs.Parts.{Saying, saying, sayings, a_resource, a_law, an_operation, a_path, a_name, a_sequence, a_selection, an_opening, a_closing, an_end, form_parts}
+use Rattle.path_read.specs.Parts.{Saying, a_sequence, a_selection, a_closing, form_parts}
 use Rattle.path_decl.specs.Lawful.{IsDistinct}
 use Rattle.path_read.specs.Building.{Drafted, number_of, bound_of, BoundFits, Allowed, after, AllAllowed, after_all}
 use Rattle.path_read.proofs.FormRules.{BracesFit}
@@ -182,26 +181,3 @@ braces_kept (selection s t) d a =
 braces_kept (braced c s) d a =
     let fits : BoundFits c = (allowed_back (form_parts s) (a_closing c ∷ []) (opened d) a.1).0.1 in
     (a.0, braces_kept s (opened d) (allowed_front (form_parts s) (a_closing c ∷ []) (opened d) a.1), fits)
-
--- no more than 256 operations
-still_few : (s : Saying) (d : Drafted) → Allowed s d → length d.operations ≤ 256 → length (after s d).operations ≤ 256
-still_few (a_resource n) d a le = le
-still_few (a_law l) d a le = le
-still_few (an_operation n) d a le = simp length-append (omega (arith, a.1))
-still_few a_path d a le = le
-still_few (a_name n) d a le = le
-still_few a_sequence d a le = le
-still_few a_selection d a le = le
-still_few an_opening d a le = le
-still_few (a_closing b) d a le = le
-still_few an_end d a le = le
-
-pub more_taken : (xs : List Saying) (s : Saying) (c d e : Drafted) → AllAllowed xs c → d ≡ after_all xs c → Allowed s d → e ≡ after s d → length d.operations ≤ 256 → AllAllowed (xs ++ s ∷ []) c × (e ≡ after_all (xs ++ s ∷ []) c) × (length e.operations ≤ 256)
-more_taken xs s c d e a is b f le =
-    (allowed-append xs (s ∷ []) c a (subst (λ x. AllAllowed (s ∷ []) x) is (b, tt)), f ∙ ap (after s) is ∙ sym (after_all-append xs (s ∷ []) c), subst (λ x. length x.operations ≤ 256) (sym f) (still_few s d b le))
-
-pub stuck_at : (all xs rest : List Saying) (s : Saying) (c d : Drafted) → all ≡ xs ++ s ∷ rest → d ≡ after_all xs c → (Allowed s d → ⊥) → AllAllowed all c → ⊥
-stuck_at all xs rest s c d e is none a = none (subst (Allowed s) (sym is) (allowed_back xs (s ∷ rest) c (subst (λ x. AllAllowed x c) e a)).0)
-
-pub says_more : (ps : List PlacedPart) (i : ℕ) (d : PlacedPart) → i < length ps → sayings (take (i + 1) ps) ≡ sayings (take i ps) ++ saying (get_or ps i d).part ∷ []
-says_more ps i d h = ap sayings (take_more ps i d h) ∙ map_push (λ p. saying p.part) (take i ps) (get_or ps i d)

@@ -1,22 +1,14 @@
 -- What one unit is.
-use Rattle.std.proofs.Common.{◌≡◌, ℕ, suc, ◌-◌, List, [], ◌∷◌, ◌++◌, Option, Some, None, refl, sym, ap, ◌∙◌, subst, append_assoc, arith}
+use Rattle.std.proofs.Common.{◌≡◌, ℕ, suc, ◌-◌, List, [], ◌∷◌, ◌++◌, Option, Some, None, refl, sym, ap, ◌∙◌, subst, arith}
 use Rattle.path_lex.specs.declared.token.Sign.TheVariants as signs
-use Rattle.path_lex.specs.declared.fault.DeclFault.{DeclFault}
-use Rattle.path_lex.specs.declared.fault.DeclFault.TheVariants as faults
 use Rattle.path_lex.specs.Spelling.{Piece, sign, name, number}
 use Rattle.path_decl.specs.Forms.{Form, once, braced}
 use Rattle.path_decl.specs.Grammar.{IsClosing, by_brace, by_bound}
-use Rattle.path_read.specs.Parts.{Saying, a_name, an_opening, a_closing, form_parts}
-use Rattle.path_read.specs.Reading.{Begins, Fails, Adds, ReadsUnit, by_name, by_group, by_braces, ReadsBraces, ReadsSeq}
+use Rattle.path_read.specs.Parts.{a_name, an_opening, a_closing, form_parts}
+use Rattle.path_read.specs.Reading.{Begins, ReadsUnit, by_name, by_group, by_braces, ReadsBraces, ReadsSeq}
+use Rattle.path_read.specs.Taking.{Taking, Follows, Adds}
 use Rattle.path_read.proofs.Once.{seq_once, closing_at}
-
-pub fails_then : (e : DeclFault) {P Q : Type 0} → (P → Q) → Fails e P → Fails e Q
-fails_then faults.OutOfMemory f h = tt
-fails_then faults.TooLong f h = absurd h
-fails_then (faults.BadByte at) f h = absurd h
-fails_then (faults.WordTooLong at) f h = absurd h
-fails_then (faults.NumberTooLong at) f h = absurd h
-fails_then _ f h = f h
+use Rattle.path_read.proofs.Following.{follows}
 
 -- no unit begins so
 abbrev pub NoUnit : ℕ → List Piece → Type 0
@@ -28,10 +20,10 @@ NoSeq d ts = (rest : List Piece) (t : Form) → ReadsSeq d ts rest t → ⊥
 less : (d : ℕ) → (d ≡ 0 → ⊥) → d ≡ suc (d - 1)
 less d h = omega arith
 
-pub name_unit : (d : ℕ) (n : List ℕ) (ts rest : List Piece) (old out : List Saying) → ts ≡ name n ∷ rest → out ≡ old ++ a_name n ∷ [] → Adds form_parts (ReadsUnit d ts rest) old out
+pub name_unit : (d : ℕ) (n : List ℕ) (ts rest : List Piece) (old out : Taking) → ts ≡ name n ∷ rest → Follows (a_name n ∷ []) old out → Adds form_parts (ReadsUnit d ts rest) old out
 name_unit d n ts rest old out e f = (once n, subst (λ x. ReadsUnit d x rest (once n)) (sym e) by_name, f)
 
-pub group_unit : (d : ℕ) (ts inside mid rest : List Piece) (old out : List Saying) → (d ≡ 0 → ⊥) → ts ≡ sign signs.OpenParen ∷ inside → Adds form_parts (ReadsSeq (d - 1) inside mid) old out → mid ≡ sign signs.CloseParen ∷ rest → Adds form_parts (ReadsUnit d ts rest) old out
+pub group_unit : (d : ℕ) (ts inside mid rest : List Piece) (old out : Taking) → (d ≡ 0 → ⊥) → ts ≡ sign signs.OpenParen ∷ inside → Adds form_parts (ReadsSeq (d - 1) inside mid) old out → mid ≡ sign signs.CloseParen ∷ rest → Adds form_parts (ReadsUnit d ts rest) old out
 group_unit d ts inside mid rest old out h e a f =
     (a.0, subst (λ x. ReadsUnit x ts rest a.0) (sym (less d h)) (subst (λ x. ReadsUnit (suc (d - 1)) x rest a.0) (sym e) (by_group (subst (λ x. ReadsSeq (d - 1) inside x a.0) f a.1))), a.2)
 
@@ -44,7 +36,7 @@ at_group d ts inside h e none rest t u = none rest t (group_inside (subst (λ x.
 pub no_group : (d : ℕ) (ts inside : List Piece) → (d ≡ 0 → ⊥) → ts ≡ sign signs.OpenParen ∷ inside → NoSeq (d - 1) inside → NoUnit d ts
 no_group d ts inside h e none = at_group d ts inside h e (λ rest t s. none _ t s)
 
-pub group_open : (d : ℕ) (ts inside mid : List Piece) (old out : List Saying) → (d ≡ 0 → ⊥) → ts ≡ sign signs.OpenParen ∷ inside → Adds form_parts (ReadsSeq (d - 1) inside mid) old out → (Begins (sign signs.CloseParen) mid → ⊥) → NoUnit d ts
+pub group_open : (d : ℕ) (ts inside mid : List Piece) (old out : Taking) → (d ≡ 0 → ⊥) → ts ≡ sign signs.OpenParen ∷ inside → Adds form_parts (ReadsSeq (d - 1) inside mid) old out → (Begins (sign signs.CloseParen) mid → ⊥) → NoUnit d ts
 group_open d ts inside mid old out h e a none = at_group d ts inside h e (λ rest u q. none (rest, (seq_once a.1 q).0))
 
 -- with no parenthesis left to open, none is opened
@@ -61,7 +53,7 @@ none_of d ts no_name no_braces no_group rest t (by_group s) = no_group (_, refl)
 none_of d ts no_name no_braces no_group rest t (by_braces s c) = no_braces (_, refl)
 
 -- a unit that begins with a brace
-pub braces_unit : (d : ℕ) (ts inside rest : List Piece) (old out : List Saying) → ts ≡ sign signs.OpenBrace ∷ inside → Adds form_parts (ReadsBraces d inside rest) old out → Adds form_parts (ReadsUnit d ts rest) old out
+pub braces_unit : (d : ℕ) (ts inside rest : List Piece) (old out : Taking) → ts ≡ sign signs.OpenBrace ∷ inside → Adds form_parts (ReadsBraces d inside rest) old out → Adds form_parts (ReadsUnit d ts rest) old out
 braces_unit d ts inside rest old out e a = (a.0, subst (λ x. ReadsUnit d x rest a.0) (sym e) a.1, a.2)
 
 pub no_braces : (d : ℕ) (ts inside : List Piece) → ts ≡ sign signs.OpenBrace ∷ inside → ((rest : List Piece) (t : Form) → ReadsBraces d inside rest t → ⊥) → NoUnit d ts
@@ -83,28 +75,28 @@ braces_too_deep d inside z rest t u = no_depth (subst (λ x. ReadsBraces x insid
 pub no_sequence : (d : ℕ) (inside : List Piece) → (d ≡ 0 → ⊥) → NoSeq (d - 1) inside → (rest : List Piece) (t : Form) → ReadsBraces d inside rest t → ⊥
 no_sequence d inside h none rest t u = let b = braces_of d inside rest t h u in none b.0 b.1.0 b.1.1
 
-pub braces_open : (d : ℕ) (inside mid : List Piece) (old out : List Saying) → (d ≡ 0 → ⊥) → Adds form_parts (ReadsSeq (d - 1) inside mid) old out → ((rest : List Piece) (b : Option (List ℕ)) → IsClosing mid rest b → ⊥)
+pub braces_open : (d : ℕ) (inside mid : List Piece) (old out : Taking) → (d ≡ 0 → ⊥) → Adds form_parts (ReadsSeq (d - 1) inside mid) old out → ((rest : List Piece) (b : Option (List ℕ)) → IsClosing mid rest b → ⊥)
     → (rest : List Piece) (t : Form) → ReadsBraces d inside rest t → ⊥
 braces_open d inside mid old out h a none rest t u =
     let b = braces_of d inside rest t h u in
     none rest b.2.0 (closing_at (seq_once a.1 b.1.1).0 b.2.1)
 
-pub braces_closed : (d : ℕ) (inside mid rest : List Piece) (old begun out new : List Saying) → (d ≡ 0 → ⊥) → begun ≡ old ++ an_opening ∷ [] → Adds form_parts (ReadsSeq (d - 1) inside mid) begun out → Adds (λ b. a_closing b ∷ []) (IsClosing mid rest) out new
+pub braces_closed : (d : ℕ) (inside mid rest : List Piece) (old begun out new : Taking) → (d ≡ 0 → ⊥) → Follows (an_opening ∷ []) old begun → Adds form_parts (ReadsSeq (d - 1) inside mid) begun out → Adds (λ b. a_closing b ∷ []) (IsClosing mid rest) out new
     → Adds form_parts (ReadsBraces d inside rest) old new
 braces_closed d inside mid rest old begun out new h e a c = (
   braced c.0 a.0,
   subst (λ x. ReadsBraces x inside rest (braced c.0 a.0)) (sym (less d h)) (by_braces a.1 c.1),
-  c.2 ∙ ap (λ x. x ++ a_closing c.0 ∷ []) (a.2 ∙ ap (λ x. x ++ form_parts a.0) e) ∙ append_assoc (old ++ an_opening ∷ []) (form_parts a.0) (a_closing c.0 ∷ []) ∙ append_assoc old (an_opening ∷ []) (form_parts a.0 ++ a_closing c.0 ∷ []),
+  follows (an_opening ∷ []) (form_parts a.0 ++ a_closing c.0 ∷ []) old begun new e (follows (form_parts a.0) (a_closing c.0 ∷ []) begun out new a.2 c.2),
 )
 
 -- what closes braces
 abbrev pub NoClosing : List Piece → Type 0
 NoClosing ts = (rest : List Piece) (b : Option (List ℕ)) → IsClosing ts rest b → ⊥
 
-pub plain_closing : (ts rest : List Piece) (old out : List Saying) → ts ≡ sign signs.CloseBrace ∷ rest → out ≡ old ++ a_closing None ∷ [] → Adds (λ b. a_closing b ∷ []) (IsClosing ts rest) old out
+pub plain_closing : (ts rest : List Piece) (old out : Taking) → ts ≡ sign signs.CloseBrace ∷ rest → Follows (a_closing None ∷ []) old out → Adds (λ b. a_closing b ∷ []) (IsClosing ts rest) old out
 plain_closing ts rest old out e f = (None, closing_at e by_brace, f)
 
-pub bound_closing : (ts inner last rest : List Piece) (n : List ℕ) (old out : List Saying) → ts ≡ sign signs.Colon ∷ inner → inner ≡ number n ∷ last → last ≡ sign signs.CloseBrace ∷ rest → out ≡ old ++ a_closing (Some n) ∷ []
+pub bound_closing : (ts inner last rest : List Piece) (n : List ℕ) (old out : Taking) → ts ≡ sign signs.Colon ∷ inner → inner ≡ number n ∷ last → last ≡ sign signs.CloseBrace ∷ rest → Follows (a_closing (Some n) ∷ []) old out
     → Adds (λ b. a_closing b ∷ []) (IsClosing ts rest) old out
 bound_closing ts inner last rest n old out e f g h = (Some n, closing_at (e ∙ ap (λ x. sign signs.Colon ∷ x) (f ∙ ap (λ x. number n ∷ x) g)) by_bound, h)
 

@@ -2,4 +2,5 @@ pub mod Refused
 pub mod Parts
 pub mod Reading
 pub mod Building
+pub mod Taking
 pub mod Once

@@ -2,7 +2,6 @@
 use Rattle.std.specs.Prelude.{ℕ, List, [], ◌∷◌, ◌++◌, map, Option, Some, None}
 use Rattle.path_read.specs.declared.part.Part.{Part}
 use Rattle.path_read.specs.declared.part.Part.TheVariants as parts
-use Rattle.path_read.specs.declared.part.PlacedPart.{PlacedPart}
 use Rattle.path_read.specs.declared.part.LawText.{LawText}
 use Rattle.path_read.specs.declared.part.LawText.TheVariants as laws
 use Rattle.path_decl.specs.Forms.{Form, once, sequence, selection, braced, LawForm, a_cell, a_tally, a_queue, ResourceForm}
@@ -38,9 +37,6 @@ saying parts.Opening = an_opening
 saying parts.Closing = a_closing None
 saying (parts.Bound n) = a_closing (Some n.now)
 saying parts.End = an_end
-
-abbrev pub sayings : List PlacedPart → List Saying
-sayings ps = map (λ p. saying p.part) ps
 
 -- operands, and then their operator; braces before and after what they hold
 abbrev pub form_parts : Form → List Saying

@@ -1,5 +1,5 @@
 -- How the reader reads the grammar: each list goes on as long as its separator follows.
-use Rattle.std.specs.Prelude.{◌≡◌, ℕ, suc, List, [], ◌∷◌, ◌++◌, Option}
+use Rattle.std.specs.Prelude.{◌≡◌, ℕ, suc, List, [], ◌∷◌, Option}
 use Rattle.path_lex.specs.declared.token.Sign.TheVariants as signs
 use Rattle.path_lex.specs.declared.token.Reserved.TheVariants as words
 use Rattle.path_lex.specs.declared.token.Token.{Token}
@@ -8,7 +8,6 @@ use Rattle.path_lex.specs.declared.fault.DeclFault.TheVariants as faults
 use Rattle.path_lex.specs.Spelling.{Piece, sign, reserved, name, views, pieces}
 use Rattle.path_decl.specs.Forms.{Form, once, sequence, selection, braced, LawForm, ResourceForm}
 use Rattle.path_decl.specs.Grammar.{IsClosing, IsLaw}
-use Rattle.path_read.specs.Parts.{Saying}
 
 -- the tokens without their places
 abbrev pub told : List Token → List Piece
@@ -26,10 +25,6 @@ Fails (faults.BadByte at) P = ⊥
 Fails (faults.WordTooLong at) P = ⊥
 Fails (faults.NumberTooLong at) P = ⊥
 Fails _ P = P
-
--- some such item was read, and its parts were added
-abbrev pub Adds : {X : Type 0} → (X → List Saying) → (X → Type 0) → List Saying → List Saying → Type 0
-Adds {X} says R old new = (x : X) × R x × (new ≡ old ++ says x)
 
 mutual
   pub data ReadsUnit : ℕ → List Piece → List Piece → Form → Type 0 where

@@ -5,13 +5,13 @@ ghost use Rattle.path_model.specs.Trees.{shape};
 ghost use Rattle.path_decl.specs.Lawful.{IsDistinct};
 ghost use Rattle.path_decl.specs.LawfulOnce.{IsDistinct-prop};
 ghost use Rattle.path_decl.specs.Table.{names_of};
-ghost use Rattle.path_read.specs.Parts.{law_said, saying, sayings, a_resource, a_law, an_operation, a_path, a_name};
+ghost use Rattle.path_read.specs.Parts.{law_said, saying, a_resource, a_law, an_operation, a_path, a_name};
 ghost use Rattle.path_read.specs.Parts.{a_sequence, a_selection, an_opening, a_closing, an_end};
 ghost use Rattle.path_read.specs.Reading.{Fails};
 
 use crate::law::law_at;
 use crate::numeral::number_up_to;
-use crate::part::{LawText, Part, PlacedPart};
+use crate::part::{LawText, Part};
 use indexmap::IndexMap;
 use path_decl::{Names, PathEntry};
 use path_lex::DeclFault;
@@ -47,6 +47,8 @@ pub(crate) struct Draft<A: Allocator + Copy> {
     pub(crate) named: Vec<OpId, A>,
     /// Whether braces of the path are open.
     pub(crate) in_braces: bool,
+    // Few enough for numbers of operations.
+    ghost few: { length operations.entries ≤ 256 },
     // No two operations have one name.
     ghost distinct: { IsDistinct (names_of operations.entries) } by { IsDistinct-prop _ },
     // What the path names was declared.
@@ -61,10 +63,10 @@ fn has_name<V, A: Allocator + Copy>(names: &Names<V, A>, name: &str) -> bool
 }
 
 impl<A: Allocator + Copy> Draft<A> {
-    ghost use Rattle.path_read.specs.Building.{drafted, nothing, HasTwo, Allowed, after, AllAllowed, after_all};
+    ghost use Rattle.path_read.specs.Building.{drafted, nothing, HasTwo, Allowed, after};
 
     /// Nothing is declared.
-    fn new(alloc: A) -> Draft<A>
+    pub(crate) fn new(alloc: A) -> Draft<A>
         ensures { drafted result ≡ nothing }
     {
         Draft {
@@ -139,7 +141,6 @@ impl<A: Allocator + Copy> Draft<A> {
 
     /// An operation of the path has this name.
     fn name(&mut self, name: &str, at: u32) -> Result<(), DeclFault>
-        requires { length self.old.operations.entries ≤ 256 }
         ensures ok { OnOk result (Allowed (a_name name.now) (drafted self.old)
             × (drafted self.new ≡ after (a_name name.now) (drafted self.old))) }
         ensures err { IfErr result (λ e. Fails e (Allowed (a_name name.now) (drafted self.old) → ⊥)) }
@@ -265,37 +266,24 @@ impl<A: Allocator + Copy> Draft<A> {
         Ok(())
     }
 
-    /// Takes a part.
-    fn take(&mut self, alloc: A, part: PlacedPart<'_>) -> Result<(), DeclFault>
-        requires { length self.old.operations.entries ≤ 256 }
-        ensures ok { OnOk result (Allowed (saying part.entry.part) (drafted self.old)
-            × (drafted self.new ≡ after (saying part.entry.part) (drafted self.old))) }
-        ensures err { IfErr result (λ e. Fails e (Allowed (saying part.entry.part) (drafted self.old) → ⊥)) }
+    /// Takes the part whose token stands at that place. On an error the draft is of no more use.
+    pub(crate) fn take(&mut self, alloc: A, part: Part<'_>, at: u32) -> Result<(), DeclFault>
+        ensures ok { OnOk result (Allowed (saying part.entry) (drafted self.old)
+            × (drafted self.new ≡ after (saying part.entry) (drafted self.old))) }
+        ensures err { IfErr result (λ e. Fails e (Allowed (saying part.entry) (drafted self.old) → ⊥)) }
     {
-        match part.part {
-            Part::Resource(name) => self.resource(alloc, name, part.at),
-            Part::Law(text) => self.law(text, part.at),
-            Part::Operation(name) => self.operation(alloc, name, part.at),
-            Part::Path => self.path(part.at),
-            Part::Name(name) => self.name(name, part.at),
-            Part::Sequence => self.sequence(alloc, part.at),
-            Part::Selection => self.selection(alloc, part.at),
-            Part::Opening => self.opening(part.at),
-            Part::Closing => self.closing(alloc, part.at),
-            Part::Bound(digits) => self.bound(alloc, digits, part.at),
-            Part::End => self.end(part.at),
+        match part {
+            Part::Resource(name) => self.resource(alloc, name, at),
+            Part::Law(text) => self.law(text, at),
+            Part::Operation(name) => self.operation(alloc, name, at),
+            Part::Path => self.path(at),
+            Part::Name(name) => self.name(name, at),
+            Part::Sequence => self.sequence(alloc, at),
+            Part::Selection => self.selection(alloc, at),
+            Part::Opening => self.opening(at),
+            Part::Closing => self.closing(alloc, at),
+            Part::Bound(digits) => self.bound(alloc, digits, at),
+            Part::End => self.end(at),
         }
-    }
-
-    /// Takes the parts of a file, one after the other. The first part that breaks a rule is named.
-    pub(crate) fn build(alloc: A, parts: &[PlacedPart<'_>]) -> Result<Draft<A>, DeclFault>
-        ensures built { IfOk result (λ d. AllAllowed (sayings parts.now) nothing × (drafted d ≡ after_all (sayings parts.now) nothing)) }
-        ensures none { IfErr result (λ e. Fails e (AllAllowed (sayings parts.now) nothing → ⊥)) }
-    {
-        let mut draft = Draft::new(alloc);
-        for part in parts {
-            draft.take(alloc, *part)?;
-        }
-        Ok(draft)
     }
 }

@@ -4,22 +4,24 @@ ghost use Rattle.std.specs.Prelude.{ℕ, ◌<◌, List, [], ◌∷◌, Option, l
 ghost use Rattle.path_lex.specs.Spelling.{Piece};
 ghost use Rattle.path_decl.specs.Forms.{Form};
 ghost use Rattle.path_decl.specs.Grammar.{IsClosing};
-ghost use Rattle.path_read.specs.Parts.{a_closing, sayings, form_parts};
-ghost use Rattle.path_read.specs.Reading.{told, Fails, Adds, ReadsUnit, ReadsBraces, ReadsAlt, ReadsSeq};
+ghost use Rattle.path_read.specs.Parts.{a_closing, form_parts};
+ghost use Rattle.path_read.specs.Reading.{told, Fails, ReadsUnit, ReadsBraces, ReadsAlt, ReadsSeq};
+ghost use Rattle.path_read.specs.Taking.{taken, Adds};
 
 use crate::ahead::{after_sign, expect_number, place, split_name};
-use crate::part::{Part, PlacedPart};
+use crate::intake::Intake;
+use crate::part::Part;
 use path_lex::{DeclFault, Sign, Token};
 use std::alloc::Allocator;
 
-/// Reads what closes braces, with their bound where a colon comes first, and adds its part. Answers the tokens after it.
+/// Reads what closes braces, with their bound where a colon comes first, and takes its part. Answers the tokens after it.
 fn closing<'t, 'a, A: Allocator + Copy>(
-    out: &mut Vec<PlacedPart<'a>, A>,
+    out: &mut Intake<A>,
     tokens: &'t [Token<'a>],
     end: u32,
 ) -> Result<&'t [Token<'a>], DeclFault>
     ensures found { IfOk result (λ rest.
-        Adds (λ b. a_closing b ∷ []) (IsClosing (told tokens.now) (told rest.now)) (sayings out.old.items) (sayings out.new.items)) }
+        Adds (λ b. a_closing b ∷ []) (IsClosing (told tokens.now) (told rest.now)) (taken out.old) (taken out.new)) }
     ensures shorter { IfOk result (λ rest. length rest.now < length tokens.now) }
     ensures none { IfErr result (λ e. Fails e ((rest : List Piece) (b : Option (List ℕ)) → IsClosing (told tokens.now) rest b → ⊥)) }
 {
@@ -38,54 +40,48 @@ fn closing<'t, 'a, A: Allocator + Copy>(
             (Part::Closing, at, rest)
         }
     };
-    out.push(PlacedPart { part, at })?;
+    out.take(part, at);
     Ok(rest)
 }
 
-/// Reads braces after the one that opens them at `at`, and adds their parts. Answers the tokens after them.
+/// Reads braces after the one that opens them at `at`, and takes their parts. Answers the tokens after them.
 #[cycle(grammar)]
 fn braces<'t, 'a, A: Allocator + Copy>(
-    out: &mut Vec<PlacedPart<'a>, A>,
+    out: &mut Intake<A>,
     inside: &'t [Token<'a>],
     at: u32,
     end: u32,
     depth: u32,
 ) -> Result<&'t [Token<'a>], DeclFault>
     ensures found { IfOk result (λ rest.
-        Adds form_parts (ReadsBraces depth (told inside.now) (told rest.now)) (sayings out.old.items) (sayings out.new.items)) }
+        Adds form_parts (ReadsBraces depth (told inside.now) (told rest.now)) (taken out.old) (taken out.new)) }
     ensures shorter { IfOk result (λ rest. length rest.now < length inside.now) }
     ensures none { IfErr result (λ e. Fails e ((rest : List Piece) (f : Form) → ReadsBraces depth (told inside.now) rest f → ⊥)) }
 {
     if depth == 0 {
         return Err(DeclFault::TooDeep(at));
     }
-    out.push(PlacedPart {
-        part: Part::Opening,
-        at,
-    })?;
+    out.take(Part::Opening, at);
     let left = seq(out, inside, end, depth - 1)?;
     closing(out, left, end)
 }
 
-/// Reads a name, or a sequence in parentheses or braces, of which at most `depth` may be open, and adds its parts.
+/// Reads a name, or a sequence in parentheses or braces, of which at most `depth` may be open, and takes its parts.
 /// Answers the tokens after it.
 #[cycle(grammar)]
 fn unit<'t, 'a, A: Allocator + Copy>(
-    out: &mut Vec<PlacedPart<'a>, A>,
+    out: &mut Intake<A>,
     tokens: &'t [Token<'a>],
     end: u32,
     depth: u32,
 ) -> Result<&'t [Token<'a>], DeclFault>
     ensures found { IfOk result (λ rest.
-        Adds form_parts (ReadsUnit depth (told tokens.now) (told rest.now)) (sayings out.old.items) (sayings out.new.items)) }
+        Adds form_parts (ReadsUnit depth (told tokens.now) (told rest.now)) (taken out.old) (taken out.new)) }
     ensures shorter { IfOk result (λ rest. length rest.now < length tokens.now) }
     ensures none { IfErr result (λ e. Fails e ((rest : List Piece) (f : Form) → ReadsUnit depth (told tokens.now) rest f → ⊥)) }
 {
     if let Some((name, at, rest)) = split_name(tokens) {
-        out.push(PlacedPart {
-            part: Part::Name(name),
-            at,
-        })?;
+        out.take(Part::Name(name), at);
         return Ok(rest);
     }
     if let Some((at, inside)) = after_sign(tokens, Sign::OpenBrace) {
@@ -104,50 +100,44 @@ fn unit<'t, 'a, A: Allocator + Copy>(
     Ok(rest)
 }
 
-/// Reads units of which one is chosen, and adds their parts.
+/// Reads units of which one is chosen, and takes their parts.
 #[cycle(grammar)]
 fn alt<'t, 'a, A: Allocator + Copy>(
-    out: &mut Vec<PlacedPart<'a>, A>,
+    out: &mut Intake<A>,
     tokens: &'t [Token<'a>],
     end: u32,
     depth: u32,
 ) -> Result<&'t [Token<'a>], DeclFault>
     ensures found { IfOk result (λ rest.
-        Adds form_parts (ReadsAlt depth (told tokens.now) (told rest.now)) (sayings out.old.items) (sayings out.new.items)) }
+        Adds form_parts (ReadsAlt depth (told tokens.now) (told rest.now)) (taken out.old) (taken out.new)) }
     ensures shorter { IfOk result (λ rest. length rest.now < length tokens.now) }
     ensures none { IfErr result (λ e. Fails e ((rest : List Piece) (f : Form) → ReadsAlt depth (told tokens.now) rest f → ⊥)) }
 {
     let mut rest = unit(out, tokens, end, depth)?;
     while let Some((at, left)) = after_sign(rest, Sign::Comma) {
         rest = unit(out, left, end, depth)?;
-        out.push(PlacedPart {
-            part: Part::Selection,
-            at,
-        })?;
+        out.take(Part::Selection, at);
     }
     Ok(rest)
 }
 
-/// Reads alternatives, one after the other, and adds their parts.
+/// Reads alternatives, one after the other, and takes their parts.
 #[cycle(grammar)]
 pub(crate) fn seq<'t, 'a, A: Allocator + Copy>(
-    out: &mut Vec<PlacedPart<'a>, A>,
+    out: &mut Intake<A>,
     tokens: &'t [Token<'a>],
     end: u32,
     depth: u32,
 ) -> Result<&'t [Token<'a>], DeclFault>
     ensures found { IfOk result (λ rest.
-        Adds form_parts (ReadsSeq depth (told tokens.now) (told rest.now)) (sayings out.old.items) (sayings out.new.items)) }
+        Adds form_parts (ReadsSeq depth (told tokens.now) (told rest.now)) (taken out.old) (taken out.new)) }
     ensures shorter { IfOk result (λ rest. length rest.now < length tokens.now) }
     ensures none { IfErr result (λ e. Fails e ((rest : List Piece) (f : Form) → ReadsSeq depth (told tokens.now) rest f → ⊥)) }
 {
     let mut rest = alt(out, tokens, end, depth)?;
     while let Some((at, left)) = after_sign(rest, Sign::Semicolon) {
         rest = alt(out, left, end, depth)?;
-        out.push(PlacedPart {
-            part: Part::Sequence,
-            at,
-        })?;
+        out.take(Part::Sequence, at);
     }
     Ok(rest)
 }

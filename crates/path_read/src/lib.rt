@@ -7,6 +7,7 @@
 mod ahead;
 mod draft;
 mod grammar;
+mod intake;
 mod law;
 mod numeral;
 mod outline;

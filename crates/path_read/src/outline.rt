@@ -4,26 +4,30 @@ ghost use Rattle.std.specs.Prelude.{◌≡◌, ℕ, ◌<◌, List, [], ◌∷◌
 ghost use Rattle.path_lex.specs.Spelling.{Piece};
 ghost use Rattle.path_decl.specs.Forms.{Form, LawForm, ResourceForm};
 ghost use Rattle.path_decl.specs.Grammar.{IsLaw, IsFile};
-ghost use Rattle.path_read.specs.Parts.{a_law, an_operation, sayings, body_parts, inner_parts, resource_parts, file_parts};
-ghost use Rattle.path_read.specs.Reading.{told, Fails, Adds, ReadsNames, ReadsPath, ReadsBody, ReadsResource};
+ghost use Rattle.path_read.specs.Parts.{a_law, an_operation, body_parts, inner_parts, resource_parts, file_parts};
+ghost use Rattle.path_read.specs.Reading.{told, Fails, ReadsNames, ReadsPath, ReadsBody, ReadsResource};
+ghost use Rattle.path_read.specs.Building.{drafted, nothing, AllAllowed, after_all};
+ghost use Rattle.path_read.specs.Taking.{sound, taken, Follows, Adds};
 
 use crate::ahead::{after_sign, after_word, expect_law, expect_name, expect_word, place};
+use crate::draft::Draft;
 use crate::grammar::seq;
-use crate::part::{Part, PlacedPart};
+use crate::intake::Intake;
+use crate::part::Part;
 use path_lex::{DeclFault, Reserved, Sign, Token};
 use std::alloc::Allocator;
 
 /// How many parentheses and braces may be open at once.
 const DEEPEST: u32 = 32;
 
-/// Reads a path after its first word, and adds its parts. Answers the tokens after it.
+/// Reads a path after its first word, and takes its parts. Answers the tokens after it.
 fn path<'t, 'a, A: Allocator + Copy>(
-    out: &mut Vec<PlacedPart<'a>, A>,
+    out: &mut Intake<A>,
     tokens: &'t [Token<'a>],
     end: u32,
 ) -> Result<&'t [Token<'a>], DeclFault>
     ensures found { IfOk result (λ rest.
-        Adds body_parts (ReadsPath (told tokens.now) (told rest.now)) (sayings out.old.items) (sayings out.new.items)) }
+        Adds body_parts (ReadsPath (told tokens.now) (told rest.now)) (taken out.old) (taken out.new)) }
     ensures shorter { IfOk result (λ rest. length rest.now < length tokens.now) }
     ensures none { IfErr result (λ e. Fails e ((rest : List Piece) (f : Form) → ReadsPath (told tokens.now) rest f → ⊥)) }
 {
@@ -31,122 +35,120 @@ fn path<'t, 'a, A: Allocator + Copy>(
     let Some((at, rest)) = after_word(left, Reserved::End) else {
         return Err(DeclFault::Unexpected(place(left, end)));
     };
-    out.push(PlacedPart {
-        part: Part::End,
-        at,
-    })?;
+    out.take(Part::End, at);
     Ok(rest)
 }
 
-/// Reads the names of operations, with commas between them, and adds their parts. Answers the tokens after them.
+/// Reads the names of operations, with commas between them, and takes their parts. Answers the tokens after them.
 fn operations<'t, 'a, A: Allocator + Copy>(
-    out: &mut Vec<PlacedPart<'a>, A>,
+    out: &mut Intake<A>,
     tokens: &'t [Token<'a>],
     end: u32,
 ) -> Result<&'t [Token<'a>], DeclFault>
     ensures found { IfOk result (λ rest.
-        Adds (map an_operation) (ReadsNames (told tokens.now) (told rest.now)) (sayings out.old.items) (sayings out.new.items)) }
+        Adds (map an_operation) (ReadsNames (told tokens.now) (told rest.now)) (taken out.old) (taken out.new)) }
     ensures shorter { IfOk result (λ rest. length rest.now < length tokens.now) }
     ensures none { IfErr result (λ e. Fails e ((rest : List Piece) (ns : List (List ℕ)) → ReadsNames (told tokens.now) rest ns → ⊥)) }
 {
     let (name, at, mut rest) = expect_name(tokens, end)?;
-    out.push(PlacedPart {
-        part: Part::Operation(name),
-        at,
-    })?;
+    out.take(Part::Operation(name), at);
     while let Some((_, left)) = after_sign(rest, Sign::Comma) {
         let (name, at, after) = expect_name(left, end)?;
-        out.push(PlacedPart {
-            part: Part::Operation(name),
-            at,
-        })?;
+        out.take(Part::Operation(name), at);
         rest = after;
     }
     Ok(rest)
 }
 
-/// Reads operations and then paths, as many as follow, and adds their parts. Answers the tokens after them.
+/// Reads operations and then paths, as many as follow, and takes their parts. Answers the tokens after them.
 fn body<'t, 'a, A: Allocator + Copy>(
-    out: &mut Vec<PlacedPart<'a>, A>,
+    out: &mut Intake<A>,
     tokens: &'t [Token<'a>],
     end: u32,
 ) -> Result<&'t [Token<'a>], DeclFault>
     ensures found { IfOk result (λ rest.
-        Adds inner_parts (λ b. ReadsBody (told tokens.now) (told rest.now) b.0 b.1) (sayings out.old.items) (sayings out.new.items)) }
+        Adds inner_parts (λ b. ReadsBody (told tokens.now) (told rest.now) b.0 b.1) (taken out.old) (taken out.new)) }
     ensures shorter { IfOk result (λ rest. length rest.now < length tokens.now) }
     ensures none { IfErr result (λ e.
         Fails e ((rest : List Piece) (ns : List (List ℕ)) (fs : List Form) → ReadsBody (told tokens.now) rest ns fs → ⊥)) }
 {
     let mut rest = operations(out, tokens, end)?;
     while let Some((at, left)) = after_word(rest, Reserved::Path) {
-        out.push(PlacedPart {
-            part: Part::Path,
-            at,
-        })?;
+        out.take(Part::Path, at);
         rest = path(out, left, end)?;
     }
     Ok(rest)
 }
 
-/// Reads a law, and adds its part. Answers the tokens after it.
+/// Reads a law, and takes its part. Answers the tokens after it.
 fn law<'t, 'a, A: Allocator + Copy>(
-    out: &mut Vec<PlacedPart<'a>, A>,
+    out: &mut Intake<A>,
     tokens: &'t [Token<'a>],
     end: u32,
 ) -> Result<&'t [Token<'a>], DeclFault>
     ensures found { IfOk result (λ rest.
-        Adds (λ l. a_law l ∷ []) (IsLaw (told tokens.now) (told rest.now)) (sayings out.old.items) (sayings out.new.items)) }
+        Adds (λ l. a_law l ∷ []) (IsLaw (told tokens.now) (told rest.now)) (taken out.old) (taken out.new)) }
     ensures shorter { IfOk result (λ rest. length rest.now < length tokens.now) }
     ensures none { IfErr result (λ e. Fails e ((rest : List Piece) (l : LawForm) → IsLaw (told tokens.now) rest l → ⊥)) }
 {
     let (law, at, rest) = expect_law(tokens, end)?;
-    out.push(PlacedPart {
-        part: Part::Law(law),
-        at,
-    })?;
+    out.take(Part::Law(law), at);
     Ok(rest)
 }
 
-/// Reads a resource, and adds its parts. Answers the tokens after it.
+/// Reads a resource, and takes its parts. Answers the tokens after it.
 fn resource<'t, 'a, A: Allocator + Copy>(
-    out: &mut Vec<PlacedPart<'a>, A>,
+    out: &mut Intake<A>,
     tokens: &'t [Token<'a>],
     end: u32,
 ) -> Result<&'t [Token<'a>], DeclFault>
     ensures found { IfOk result (λ rest.
-        Adds resource_parts (ReadsResource (told tokens.now) (told rest.now)) (sayings out.old.items) (sayings out.new.items)) }
+        Adds resource_parts (ReadsResource (told tokens.now) (told rest.now)) (taken out.old) (taken out.new)) }
     ensures shorter { IfOk result (λ rest. length rest.now < length tokens.now) }
     ensures none { IfErr result (λ e. Fails e ((rest : List Piece) (r : ResourceForm) → ReadsResource (told tokens.now) rest r → ⊥)) }
 {
     let named = expect_word(tokens, Reserved::Resource, end)?;
     let (name, at, lawful) = expect_name(named, end)?;
-    out.push(PlacedPart {
-        part: Part::Resource(name),
-        at,
-    })?;
+    out.take(Part::Resource(name), at);
     let kind = law(out, lawful, end)?;
     let inside = expect_word(kind, Reserved::Operation, end)?;
     let last = body(out, inside, end)?;
     expect_word(last, Reserved::End, end)
 }
 
-/// Reads the tokens of a whole file: the parts that they say. The text ends at `end`. The first fault is named: the
-/// first token that continues no file, or the first parenthesis or brace that would be the 33rd open one. Takes time and memory
-/// in proportion to the tokens.
-pub(crate) fn file<'a, A: Allocator + Copy>(
+/// Reads resources up to the end of the text, and takes their parts.
+fn resources<A: Allocator + Copy>(
     alloc: A,
-    tokens: &[Token<'a>],
+    tokens: &[Token<'_>],
     end: u32,
-) -> Result<Vec<PlacedPart<'a>, A>, DeclFault>
-    // The tokens are a file, and these are its parts.
-    ensures found { IfOk result (λ v. (rs : List ResourceForm) × IsFile (told tokens.now) rs × (sayings v.items ≡ file_parts rs)) }
-    // A fault other than memory: they are no file.
+) -> Result<Intake<A>, DeclFault>
+    ensures found { IfOk result (λ out.
+        (rs : List ResourceForm) × IsFile (told tokens.now) rs × Follows (file_parts rs) (sound nothing) (taken out)) }
     ensures none { IfErr result (λ e. Fails e ((rs : List ResourceForm) → IsFile (told tokens.now) rs → ⊥)) }
 {
-    let mut out = Vec::new(alloc);
+    let mut out = Intake::new(alloc);
     let mut rest = resource(&mut out, tokens, end)?;
     while !rest.is_empty() {
         rest = resource(&mut out, rest, end)?;
     }
     Ok(out)
+}
+
+/// Reads the tokens of a whole file: the draft of its parts. The text ends at `end`. The first fault is named: the first
+/// token that continues no file, or the first parenthesis or brace that would be the 33rd open one; where there is none of
+/// these, the first part that breaks a rule. Takes time in proportion to the tokens, and memory in proportion to the draft.
+pub(crate) fn file<A: Allocator + Copy>(
+    alloc: A,
+    tokens: &[Token<'_>],
+    end: u32,
+) -> Result<Draft<A>, DeclFault>
+    // The tokens are a file whose parts keep the rules, and the draft is made of these.
+    ensures found { IfOk result (λ draft. (rs : List ResourceForm) × IsFile (told tokens.now) rs
+        × AllAllowed (file_parts rs) nothing × (drafted draft ≡ after_all (file_parts rs) nothing)) }
+    // A fault other than memory: they are no such file.
+    ensures none { IfErr result (λ e.
+        Fails e ((rs : List ResourceForm) → IsFile (told tokens.now) rs → AllAllowed (file_parts rs) nothing → ⊥)) }
+{
+    let out = resources(alloc, tokens, end)?;
+    out.finish()
 }

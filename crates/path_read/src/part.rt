@@ -37,10 +37,3 @@ pub(crate) enum Part<'a> {
     /// The path ends.
     End,
 }
-
-/// A part, and the offset of the first byte of its token.
-#[derive(Clone, Copy, Debug)]
-pub(crate) struct PlacedPart<'a> {
-    pub(crate) part: Part<'a>,
-    pub(crate) at: u32,
-}

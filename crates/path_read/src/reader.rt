@@ -58,8 +58,7 @@ pub fn read<A: Allocator + Copy>(alloc: A, text: &[u8]) -> Result<Decl<A>, DeclF
     ensures first_long_number { (at : ℕ) → IsErrOf result (DeclFault.NumberTooLong at) → IsFirstLongNumber text.now at }
 {
     let tokens = tokens(alloc, text)?;
-    let parts = file(alloc, &tokens, text.len() as u32)?;
-    let draft = Draft::build(alloc, &parts)?;
+    let draft = file(alloc, &tokens, text.len() as u32)?;
     let decl = finish(alloc, draft)?;
     Ok(decl)
 }

@@ -1,5 +1,5 @@
 use Rattle.std.proofs.lemmas.Result.{err_from_is_err_and}
-use Rattle.path_read.proofs.Unit.{fails_then}
+use Rattle.path_read.proofs.Following.{fails_then}
 use Rattle.path_read.proofs.Laws.{is_cell, is_tally, is_queue, no_kind, no_capacity}
 use Rattle.path_read.proofs.ahead.expect_law.Goals as goal
 

@@ -1,11 +1,11 @@
-use Rattle.std.proofs.Common.{ap, ◌∙◌, arith}
-use Rattle.std.proofs.lemmas.List.{map_push}
+use Rattle.std.proofs.Common.{arith}
 use Rattle.std.proofs.lemmas.Result.{err_from_is_err_and}
-use Rattle.path_read.specs.Parts.{saying, sayings}
+use Rattle.path_read.specs.Taking.{taken}
 use Rattle.path_read.proofs.Reached.{first_reached, next_reached, no_alt_at, alt_ends, first_step_reached, next_step_reached, no_seq_at, seq_ends}
 use Rattle.path_read.specs.Reading.{told}
 use Rattle.path_read.proofs.Lists.{ok_then, err_then}
-use Rattle.path_read.proofs.Unit.{fails_then, name_unit, group_unit, no_group, group_open, none_of, braces_unit, no_braces, no_sequence, braces_open, braces_closed}
+use Rattle.path_read.proofs.Unit.{name_unit, group_unit, no_group, group_open, none_of, braces_unit, no_braces, no_sequence, braces_open, braces_closed}
+use Rattle.path_read.proofs.Following.{fails_then}
 use Rattle.path_read.proofs.grammar.+grammar.Goals as goal
 
 pub alt-loop-at-init : goal.alt-loop-at-init
@@ -18,10 +18,9 @@ alt-returns-in_err-rest-2-clause-none g t c =
 
 pub alt-loop-at-preserved : goal.alt-loop-at-preserved
 alt-loop-at-preserved g t c =
-    let n = ap sayings c.in_ok-push.ensures.items ∙ map_push (λ p. saying p.part) _ _ in
     record {
       shorter = omega (arith, c.in_ok-rest-2.ensures.shorter, c.in-Some.ensures.shorter, c.loop-at.invariant.shorter);
-      reached = next_reached _ _ _ _ _ _ _ _ _ c.in-Some.ensures.some c.in_ok-rest-2.ensures.found n c.loop-at.invariant.reached;
+      reached = next_reached _ _ _ _ _ _ _ _ _ c.in-Some.ensures.some c.in_ok-rest-2.ensures.found c.take.ensures c.loop-at.invariant.reached;
     }
 
 pub alt-returns-clause-found : goal.alt-returns-clause-found
@@ -37,10 +36,9 @@ seq-returns-in_err-rest-2-clause-none g t c =
 
 pub seq-loop-at-preserved : goal.seq-loop-at-preserved
 seq-loop-at-preserved g t c =
-    let n = ap sayings c.in_ok-push.ensures.items ∙ map_push (λ p. saying p.part) _ _ in
     record {
       shorter = omega (arith, c.in_ok-rest-2.ensures.shorter, c.in-Some.ensures.shorter, c.loop-at.invariant.shorter);
-      reached = next_step_reached _ _ _ _ _ _ _ _ _ c.in-Some.ensures.some c.in_ok-rest-2.ensures.found n c.loop-at.invariant.reached;
+      reached = next_step_reached _ _ _ _ _ _ _ _ _ c.in-Some.ensures.some c.in_ok-rest-2.ensures.found c.take.ensures c.loop-at.invariant.reached;
     }
 
 pub seq-returns-clause-found : goal.seq-returns-clause-found
@@ -48,11 +46,11 @@ seq-returns-clause-found g t c = seq_ends _ _ _ _ _ c.in_default.ensures.none c.
 
 pub unit-returns-in-Some-clause-found : goal.unit-returns-in-Some-clause-found
 unit-returns-in-Some-clause-found g t c =
-    name_unit _ _ _ _ _ _ c.in-Some.ensures.some (ap sayings c.in_ok-push.ensures.items ∙ map_push (λ p. saying p.part) _ _)
+    name_unit _ _ _ _ _ _ c.in-Some.ensures.some c.take.ensures
 
 pub unit-returns-in-Some-after_sign-clause-found : goal.unit-returns-in-Some-after_sign-clause-found
 unit-returns-in-Some-after_sign-clause-found g t c =
-    ok_then c.braces.result (λ rest e. braces_unit c.args.depth (told c.args.tokens.now) (told c.in-Some-after_sign.inside.now) (told rest.now) (sayings c.args.out.now.items) (sayings c.braces.new.out.items) c.in-Some-after_sign.ensures.some e) c.braces.ensures.found
+    ok_then c.braces.result (λ rest e. braces_unit c.args.depth (told c.args.tokens.now) (told c.in-Some-after_sign.inside.now) (told rest.now) (taken c.args.out.now) (taken c.braces.new.out) c.in-Some-after_sign.ensures.some e) c.braces.ensures.found
 
 pub unit-returns-in-Some-after_sign-clause-none : goal.unit-returns-in-Some-after_sign-clause-none
 unit-returns-in-Some-after_sign-clause-none g t c = err_then _ (λ e. fails_then e (λ none. no_braces _ _ _ c.in-Some-after_sign.ensures.some none)) c.braces.ensures.none
@@ -62,7 +60,7 @@ unit-returns-in_default-after_sign-2-clause-none g t c = none_of _ _ c.in_defaul
 
 pub unit-returns-in_err-left-clause-none : goal.unit-returns-in_err-left-clause-none
 unit-returns-in_err-left-clause-none g t c =
-    let p = err_from_is_err_and c.from_residual-in_err-left.result c.from_residual-in_err-left.ensures.1 in
+    let p = err_from_is_err_and c.from_residual.result c.from_residual.ensures.1 in
     rw (p.1, p.2) (fails_then _ (λ none. no_group _ _ _ c.if-depth-eq0.false c.in-Some-after_sign-2.ensures.some none) c.in_err-left.ensures.none)
 
 pub unit-returns-in_default-after_sign-3-clause-none : goal.unit-returns-in_default-after_sign-3-clause-none
@@ -75,13 +73,12 @@ unit-returns-clause-found g t c =
 
 pub braces-returns-in_err-left-clause-none : goal.braces-returns-in_err-left-clause-none
 braces-returns-in_err-left-clause-none g t c =
-    let p = err_from_is_err_and c.from_residual-in_err-left.result c.from_residual-in_err-left.ensures.1 in
+    let p = err_from_is_err_and c.from_residual.result c.from_residual.ensures.1 in
     rw (p.1, p.2) (fails_then _ (λ none. no_sequence _ _ c.if-depth-eq0.false none) c.in_err-left.ensures.none)
 
 pub braces-returns-clause-found : goal.braces-returns-clause-found
 braces-returns-clause-found g t c =
-    let n = ap sayings c.in_ok-push.ensures.items ∙ map_push (λ p. saying p.part) _ _ in
-    ok_then c.closing.result (λ rest e. braces_closed c.args.depth (told c.args.inside.now) (told c.in_ok-left.left.now) (told rest.now) (sayings c.args.out.now.items) (sayings c.push.new.self.items) (sayings c.seq.new.out.items) (sayings c.closing.new.out.items) c.if-depth-eq0.false n c.in_ok-left.ensures.found e) c.closing.ensures.found
+    ok_then c.closing.result (λ rest e. braces_closed c.args.depth (told c.args.inside.now) (told c.in_ok-left.left.now) (told rest.now) (taken c.args.out.now) (taken c.take.new.self) (taken c.seq.new.out) (taken c.closing.new.out) c.if-depth-eq0.false c.take.ensures c.in_ok-left.ensures.found e) c.closing.ensures.found
 
 pub braces-returns-clause-none : goal.braces-returns-clause-none
 braces-returns-clause-none g t c = err_then _ (λ e. fails_then e (λ none. braces_open _ _ _ _ _ c.if-depth-eq0.false c.in_ok-left.ensures.found none)) c.closing.ensures.none

@@ -1,11 +1,12 @@
-use Rattle.std.proofs.Common.{◌∷◌, [], ◌++◌, sym, ap, ◌∙◌}
-use Rattle.std.proofs.lemmas.List.{map_push}
+use Rattle.std.proofs.Common.{◌∷◌, [], sym, ap, ◌∙◌, subst}
 use Rattle.std.proofs.lemmas.Result.{err_from_is_err_and}
 use Rattle.path_lex.specs.declared.token.Sign.TheVariants as signs
 use Rattle.path_lex.specs.Spelling.{sign}
-use Rattle.path_read.specs.Parts.{saying, sayings}
+use Rattle.path_read.specs.Parts.{saying}
 use Rattle.path_read.specs.Reading.{told}
-use Rattle.path_read.proofs.Unit.{fails_then, plain_closing, bound_closing, neither, no_number}
+use Rattle.path_read.specs.Taking.{taken, Follows}
+use Rattle.path_read.proofs.Unit.{plain_closing, bound_closing, neither, no_number}
+use Rattle.path_read.proofs.Following.{fails_then}
 use Rattle.path_read.proofs.grammar.closing.Goals as goal
 use Rattle.path_read.proofs.grammar.closing.Goals.{in-Some+in_ok-digits-in-Some+in-Some-after_sign, in-None+in-Some-after_sign-2}
 
@@ -19,10 +20,9 @@ returns-in_default-after_sign-clause-none g c = neither _ c.in-None.ensures.none
 
 pub returns-clause-found : goal.returns-clause-found
 returns-clause-found g c =
-    let n = ap sayings c.in_ok-push.ensures.items ∙ map_push (λ p. saying p.part) _ _ in
     elim c.match-after_sign.branch [
       | in-Some+in_ok-digits-in-Some+in-Some-after_sign w ↦
-          bound_closing _ _ _ _ _ _ _ w.in-Some.ensures.some w.in_ok-digits-in-Some.ensures.ok (w.in-Some-after_sign.ensures.some ∙ ap (λ x. sign signs.CloseBrace ∷ told x.2.now) (sym w.at-is)) (n ∙ ap (λ x. sayings c.args.out.now.items ++ saying x.0 ∷ []) w.at-is)
+          bound_closing _ _ _ _ _ _ _ w.in-Some.ensures.some w.in_ok-digits-in-Some.ensures.ok (w.in-Some-after_sign.ensures.some ∙ ap (λ x. sign signs.CloseBrace ∷ told x.2.now) (sym w.at-is)) (subst (λ x. Follows (saying x.0 ∷ []) (taken c.args.out.now) (taken c.take.new.self)) w.at-is c.take.ensures)
       | in-None+in-Some-after_sign-2 w ↦
-          plain_closing _ _ _ _ (w.in-Some-after_sign-2.ensures.some ∙ ap (λ x. sign signs.CloseBrace ∷ told x.2.now) (sym w.at-is)) (n ∙ ap (λ x. sayings c.args.out.now.items ++ saying x.0 ∷ []) w.at-is)
+          plain_closing _ _ _ _ (w.in-Some-after_sign-2.ensures.some ∙ ap (λ x. sign signs.CloseBrace ∷ told x.2.now) (sym w.at-is)) (subst (λ x. Follows (saying x.0 ∷ []) (taken c.args.out.now) (taken c.take.new.self)) w.at-is c.take.ensures)
     ]

@@ -1,8 +1,6 @@
-use Rattle.std.proofs.Common.{ap, ◌∙◌, arith}
-use Rattle.std.proofs.lemmas.List.{map_push}
+use Rattle.std.proofs.Common.{arith}
 use Rattle.std.proofs.lemmas.Result.{err_from_is_err_and}
-use Rattle.path_read.specs.Parts.{saying, sayings}
-use Rattle.path_read.proofs.Unit.{fails_then}
+use Rattle.path_read.proofs.Following.{fails_then}
 use Rattle.path_read.proofs.Lists.{first_body, next_body, no_body_at, body_ends}
 use Rattle.path_read.proofs.outline.body.Goals as goal
 
@@ -17,7 +15,7 @@ returns-in_err-rest-2-clause-none g c =
 pub loop-at-preserved : goal.loop-at-preserved
 loop-at-preserved g c = record {
   shorter = omega (arith, c.in_ok-rest-2.ensures.shorter, c.in-Some.ensures.shorter, c.loop-at.invariant.shorter);
-  reached = next_body _ _ _ _ _ _ _ _ c.in-Some.ensures.some (ap sayings c.in_ok-push.ensures.items ∙ map_push (λ p. saying p.part) _ _) c.in_ok-rest-2.ensures.found c.loop-at.invariant.reached;
+  reached = next_body _ _ _ _ _ _ _ _ c.in-Some.ensures.some c.take.ensures c.in_ok-rest-2.ensures.found c.loop-at.invariant.reached;
 }
 
 pub returns-clause-found : goal.returns-clause-found

@@ -1,28 +1,25 @@
-use Rattle.std.proofs.Common.{ap}
+use Rattle.std.proofs.Common.{subst}
 use Rattle.std.proofs.lemmas.Result.{err_from_is_err_and}
-use Rattle.path_read.specs.Parts.{sayings}
-use Rattle.path_read.proofs.Unit.{fails_then}
-use Rattle.path_read.proofs.Lists.{first_resource, next_resource, no_file, no_file_at, file_ends, told_none, told_some}
-use Rattle.path_read.proofs.Greedy.{not_file, is_file}
+use Rattle.path_read.specs.Parts.{file_parts}
+use Rattle.path_read.specs.Reading.{told}
+use Rattle.path_read.specs.Building.{nothing}
+use Rattle.path_read.specs.Taking.{sound, Follows}
+use Rattle.path_read.proofs.Following.{fails_then}
+use Rattle.path_read.proofs.Lists.{ok_then, err_then}
+use Rattle.path_read.proofs.Whole.{no_file_kept, broken_file}
 use Rattle.path_read.proofs.outline.file.Goals as goal
 
-pub returns-in_err-rest-clause-none : goal.returns-in_err-rest-clause-none
-returns-in_err-rest-clause-none g c =
+pub returns-in_err-out-clause-none : goal.returns-in_err-out-clause-none
+returns-in_err-out-clause-none g c =
     let p = err_from_is_err_and c.from_residual.result c.from_residual.ensures.1 in
-    rw (p.1, p.2) (fails_then _ (λ none. not_file _ (no_file _ none)) c.in_err-rest.ensures.none)
-
-pub loop-rest-init : goal.loop-rest-init
-loop-rest-init g c = first_resource _ _ _ (rw (ap sayings c.new-out.ensures.items) at c.in_ok-rest.ensures.found)
-
-pub returns-in_err-rest-2-clause-none : goal.returns-in_err-rest-2-clause-none
-returns-in_err-rest-2-clause-none g c =
-    let p = err_from_is_err_and c.from_residual-in_err-rest-2.result c.from_residual-in_err-rest-2.ensures.1 in
-    rw (p.1, p.2) (fails_then _ (λ none. not_file _ (no_file_at _ _ _ (told_some _ c.loop-rest-test.true c.is_empty.ensures) none c.loop-rest.invariant)) c.in_err-rest-2.ensures.none)
-
-pub loop-rest-preserved : goal.loop-rest-preserved
-loop-rest-preserved g c = next_resource _ _ _ _ _ c.in_ok-rest-2.ensures.found c.loop-rest.invariant
+    rw (p.1, p.2) (fails_then _ (no_file_kept (told c.args.tokens.now)) c.in_err-out.ensures.none)
 
 pub returns-clause-found : goal.returns-clause-found
 returns-clause-found g c =
-    let f = file_ends _ _ _ (told_none _ c.loop-rest-test.false c.is_empty.ensures) c.loop-rest.invariant in
-    (f.0, is_file f.1, f.2)
+    let f = c.in_ok-out.ensures.found in
+    ok_then c.finish.result (λ d e. let a = subst (λ x. Follows (file_parts f.0) (sound nothing) x) e f.2 in (f.0, f.1, a.0, a.1)) c.finish.ensures.ok
+
+pub returns-clause-none : goal.returns-clause-none
+returns-clause-none g c =
+    let f = c.in_ok-out.ensures.found in
+    err_then c.finish.result (λ e is. fails_then e (λ none. broken_file _ f.0 f.1 none) (subst (λ x. Follows (file_parts f.0) (sound nothing) x) is f.2)) c.finish.ensures.err

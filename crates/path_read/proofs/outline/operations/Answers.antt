@@ -1,8 +1,6 @@
-use Rattle.std.proofs.Common.{ap, ◌∙◌, arith}
-use Rattle.std.proofs.lemmas.List.{map_push}
+use Rattle.std.proofs.Common.{arith}
 use Rattle.std.proofs.lemmas.Result.{err_from_is_err_and}
-use Rattle.path_read.specs.Parts.{saying, sayings}
-use Rattle.path_read.proofs.Unit.{fails_then}
+use Rattle.path_read.proofs.Following.{fails_then}
 use Rattle.path_read.proofs.Lists.{first_name, next_name, no_names_at, no_first_name, names_end}
 use Rattle.path_read.proofs.outline.operations.Goals as goal
 
@@ -12,7 +10,7 @@ returns-in_err-name-clause-none g c =
     rw (p.1, p.2) (fails_then _ (λ none. no_first_name _ none) c.in_err-name.ensures.err)
 
 pub loop-left-init : goal.loop-left-init
-loop-left-init g c = record { shorter = c.in_ok-name.ensures.shorter; reached = first_name _ _ _ _ _ c.in_ok-name.ensures.ok (ap sayings c.in_ok-push.ensures.items ∙ map_push (λ p. saying p.part) _ _) }
+loop-left-init g c = record { shorter = c.in_ok-name.ensures.shorter; reached = first_name _ _ _ _ _ c.in_ok-name.ensures.ok c.take.ensures }
 
 pub returns-in_err-name-2-clause-none : goal.returns-in_err-name-2-clause-none
 returns-in_err-name-2-clause-none g c =
@@ -22,7 +20,7 @@ returns-in_err-name-2-clause-none g c =
 pub loop-left-preserved : goal.loop-left-preserved
 loop-left-preserved g c = record {
   shorter = omega (arith, c.in_ok-name-2.ensures.shorter, c.in-Some.ensures.shorter, c.loop-left.invariant.shorter);
-  reached = next_name _ _ _ _ _ _ _ _ c.in-Some.ensures.some c.in_ok-name-2.ensures.ok (ap sayings c.in_ok-push-2.ensures.items ∙ map_push (λ p. saying p.part) _ _) c.loop-left.invariant.reached;
+  reached = next_name _ _ _ _ _ _ _ _ c.in-Some.ensures.some c.in_ok-name-2.ensures.ok c.take-in-Some.ensures c.loop-left.invariant.reached;
 }
 
 pub returns-clause-found : goal.returns-clause-found

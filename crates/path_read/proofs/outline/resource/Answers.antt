@@ -1,8 +1,5 @@
-use Rattle.std.proofs.Common.{ap, ◌∙◌}
-use Rattle.std.proofs.lemmas.List.{map_push}
 use Rattle.std.proofs.lemmas.Result.{err_from_is_err_and}
-use Rattle.path_read.specs.Parts.{saying, sayings}
-use Rattle.path_read.proofs.Unit.{fails_then}
+use Rattle.path_read.proofs.Following.{fails_then}
 use Rattle.path_read.proofs.Lists.{no_word, no_name_after, named, no_law, no_operation, no_body, no_end, is_resource, ok_then, err_then}
 use Rattle.path_read.proofs.outline.resource.Goals as goal
 
@@ -32,7 +29,7 @@ returns-in_err-last-clause-none g c =
     rw (p.1, p.2) (fails_then _ (λ none. no_body _ _ _ _ _ _ _ (named _ _ _ _ c.in_ok-named.ensures.ok c.in_ok-name.ensures.ok) c.in_ok-kind.ensures.found c.in_ok-inside.ensures.ok none) c.in_err-last.ensures.none)
 
 pub returns-clause-found : goal.returns-clause-found
-returns-clause-found g c = ok_then _ (λ rest e. is_resource _ _ _ _ _ _ _ _ _ _ _ (named _ _ _ _ c.in_ok-named.ensures.ok c.in_ok-name.ensures.ok) (ap sayings c.in_ok-push.ensures.items ∙ map_push (λ p. saying p.part) _ _) c.in_ok-kind.ensures.found c.in_ok-inside.ensures.ok c.in_ok-last.ensures.found e) c.expect_word-3.ensures.ok
+returns-clause-found g c = ok_then _ (λ rest e. is_resource _ _ _ _ _ _ _ _ _ _ _ (named _ _ _ _ c.in_ok-named.ensures.ok c.in_ok-name.ensures.ok) c.take.ensures c.in_ok-kind.ensures.found c.in_ok-inside.ensures.ok c.in_ok-last.ensures.found e) c.expect_word-3.ensures.ok
 
 pub returns-clause-none : goal.returns-clause-none
 returns-clause-none g c = err_then _ (λ e. fails_then e (λ none. no_end _ _ _ _ _ _ _ _ _ (named _ _ _ _ c.in_ok-named.ensures.ok c.in_ok-name.ensures.ok) c.in_ok-kind.ensures.found c.in_ok-inside.ensures.ok c.in_ok-last.ensures.found none)) c.expect_word-3.ensures.err

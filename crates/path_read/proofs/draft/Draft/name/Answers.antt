@@ -31,6 +31,7 @@ invariant_of-self-2 g c =
     let a : OpId = record { 0 = c.in-Some.place } in
     let lt : c.in-Some.place < length es = slice_get_within es c.in-Some.place _ c.in-Some.ensures.entry in
     record {
+      few = c.args.self.now.few;
       distinct = c.args.self.now.distinct;
       known = below_pushed (length es) c.args.self.now.named.items c.push-2.new.self.items a _ c.push-2.ensures.items c.args.self.now.known lt;
     }

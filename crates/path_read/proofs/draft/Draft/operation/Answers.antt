@@ -5,7 +5,7 @@ use Rattle.path_model.specs.Declarations.{Operation}
 use Rattle.path_decl.specs.Table.{names_of, name_at, operations_of}
 use Rattle.path_read.specs.Building.{drafted}
 use Rattle.path_read.proofs.TableLemmas.{names_of_operations, new_key, pushed, pushed_operation}
-use Rattle.path_read.proofs.Numbered.{AreBelow, still_below, table_kept, names_kept}
+use Rattle.path_read.proofs.Numbered.{AreBelow, still_below, table_kept, still_room, names_kept}
 use Rattle.path_read.proofs.draft.Draft.operation.Goals as goal
 
 pub returns-then-has_name-clause-err : goal.returns-then-has_name-clause-err
@@ -17,7 +17,8 @@ invariant_of-self g c =
     let none : Contains (names_of es) c.args.name.now → ⊥ = λ h. let e = c.if-has_name.ensures.1 h in cc in
     let more = insert_entry-new _ c.args.self.now.operations c.in_ok-key.key c.args.self.now.resource (new_key es c.in_ok-key.key c.args.name.now c.in_ok-key.ensures.ok none) in
     let kept = table_kept es c.insert.new.self.entries _ c.in_ok-key.key c.args.self.now.resource c.args.name.now c.args.self.now.named.items c.insert.result more c.in_ok-key.ensures.ok c.insert.ensures.entries c.insert.ensures.err c.args.self.now.distinct none c.args.self.now.known in
-    record { distinct = kept.0; known = kept.1 }
+    let room : length es < 256 = omega (arith, c.len.ensures.len) in
+    record { few = still_room es c.insert.new.self.entries _ c.in_ok-key.key c.args.self.now.resource c.insert.result more c.insert.ensures.entries c.insert.ensures.err room; distinct = kept.0; known = kept.1 }
 
 pub returns-clause-ok : goal.returns-clause-ok
 returns-clause-ok g c =

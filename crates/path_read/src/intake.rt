@@ -1,0 +1,61 @@
+//! Taking the parts of a text.
+
+ghost use Rattle.std.specs.Prelude.{◌≡◌, [], ◌∷◌, IfOk, IfErr};
+ghost use Rattle.path_read.specs.Parts.{saying};
+ghost use Rattle.path_read.specs.Building.{drafted, nothing};
+ghost use Rattle.path_read.specs.Taking.{sound, broken, taken, Follows};
+
+use crate::draft::Draft;
+use crate::part::Part;
+use path_lex::DeclFault;
+use std::alloc::Allocator;
+
+/// A declaration on the way, up to the first part that breaks a rule.
+#[derive(Drop)]
+pub(crate) struct Intake<A: Allocator + Copy> {
+    pub(crate) alloc: A,
+    pub(crate) draft: Draft<A>,
+    /// What the first part that was not allowed is refused for.
+    pub(crate) fault: Option<DeclFault>,
+}
+
+impl<A: Allocator + Copy> Intake<A> {
+    /// Nothing was taken.
+    pub(crate) fn new(alloc: A) -> Intake<A>
+        ensures { taken result ≡ sound nothing }
+    {
+        Intake {
+            alloc,
+            draft: Draft::new(alloc),
+            fault: None,
+        }
+    }
+
+    /// Takes the part whose token stands at that place. Once a part was refused, no other is taken.
+    pub(crate) fn take(&mut self, part: Part<'_>, at: u32)
+        ensures { Follows (saying part.entry ∷ []) (taken self.old) (taken self.new) }
+    {
+        if self.fault.is_some() {
+            return;
+        }
+        if let Err(fault) = self.draft.take(self.alloc, part, at) {
+            self.fault = Some(fault);
+        }
+    }
+
+    /// The draft of all parts, or the fault of the first that was refused.
+    pub(crate) fn finish(self) -> Result<Draft<A>, DeclFault>
+        ensures ok { IfOk result (λ draft. taken self ≡ sound (drafted draft)) }
+        ensures err { IfErr result (λ e. taken self ≡ broken e) }
+    {
+        let Intake {
+            alloc: _,
+            draft,
+            fault,
+        } = self;
+        match fault {
+            Some(fault) => Err(fault),
+            None => Ok(draft),
+        }
+    }
+}
