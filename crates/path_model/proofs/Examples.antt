@@ -44,7 +44,7 @@ slot_terms : (prologue slot (o 0) ≡ Plain 0) × (epilogue slot (o 0) ≡ Plain
 slot_terms = (refl, refl, refl, refl)
 
 -- nothing is removed before a deposit
-slot_remove_waits : Behaves slot (began 1 ∷ []) → ⊥
+pub slot_remove_waits : Behaves slot (began 1 ∷ []) → ⊥
 slot_remove_waits h = let l : 0 < 0 = (slot_laws.starts ([]) (o 1) (behaves_nil slot) (inr refl)).1 h in omega (arith, l)
 
 pub slot_deposit : Behaves slot (began 0 ∷ [])

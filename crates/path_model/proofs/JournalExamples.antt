@@ -15,24 +15,24 @@ use Rattle.path_model.specs.Honest.{IsHonest}
 use Rattle.path_model.proofs.Examples.{o, began, ended, slot, slot_deposit, slot_remove_still_waits, slot_remove}
 use Rattle.path_model.proofs.HonestJournals.{line_of}
 
-abbrev n : ℕ → ActId
+abbrev pub n : ℕ → ActId
 n k = record { 0 = k }
 
 abbrev first_path : PathId
 first_path = record { 0 = 0 }
 
 -- resource slot cell operation deposit, remove path deposit ; remove end end, with the names left out
-abbrev slot_declaration : Declaration
+abbrev pub slot_declaration : Declaration
 slot_declaration = record {
   resources = record { name = []; law = Cell } ∷ [];
   operations = record { name = []; resource = 0 } ∷ record { name = []; resource = 0 } ∷ [];
   paths = record { resource = 0; tree = slot } ∷ [];
 }
 
-abbrev slot_openings : List (List ℕ)
+abbrev pub slot_openings : List (List ℕ)
 slot_openings = (0 ∷ []) ∷ []
 
-abbrev deposit_started : Line
+abbrev pub deposit_started : Line
 deposit_started = line_of 1 (Start (o 0)) (Started (n 0))
 
 abbrev remove_blocked : Line

@@ -38,5 +38,6 @@ pub mod Admission
 pub mod Examples
 pub mod LabelExamples
 pub mod JournalExamples
+pub mod StuckExamples
 pub mod Unasked
 pub mod CallerLemmas
