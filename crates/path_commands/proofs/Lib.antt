@@ -1,7 +1,2 @@
-pub mod WholeLemmas
-pub mod InputLemmas
-pub mod PutLemmas
-pub mod FaultLemmas
-pub mod TraceLemmas
-pub mod FailLemmas
-pub mod OwnLemmas
+mod OpeningLemmas
+mod AuditLemmas

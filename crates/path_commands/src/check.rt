@@ -3,15 +3,14 @@
 ghost use Rattle.std.specs.Prelude.{◌≡◌, ◌≢◌, IfOk, IfErr};
 ghost use Rattle.std.specs.String.{string_bytes};
 ghost use Rattle.std.specs.Io.KnownBytes.{Keeps};
-ghost use Rattle.path_commands.specs.Statuses.{status_of};
-ghost use Rattle.path_commands.specs.Writes.{AppendsSome, IsFrontOf};
-ghost use Rattle.path_commands.specs.Prints.{IsNoDeclaration, IsPrintOf, IsUndeclared};
+ghost use Rattle.path_streams.specs.Statuses.{status_of};
+ghost use Rattle.path_streams.specs.Writes.{AppendsSome, IsFrontOf};
+ghost use Rattle.path_streams.specs.Refusals.{IsNoDeclaration, IsUndeclared};
+ghost use Rattle.path_commands.specs.Prints.{IsPrintOf};
 
-use crate::fault::{Fault, tell};
-use crate::put::put_text;
-use crate::status::Status;
 use path_print::print;
 use path_read::read;
+use path_streams::{Fault, Status, put_text, tell};
 use std::alloc::Allocator;
 use std::io::Write;
 
@@ -42,7 +41,7 @@ pub fn check_to<A: Allocator + Copy, O: Write, E: Write>(
     ensures refused { result ≡ Status.DeclarationRefused → Keeps (O.contents out.old) (O.contents out.new) × IsNoDeclaration text.now }
     // Only a front of the print was written.
     ensures memory { result ≡ Status.NoMemory → AppendsSome (O.contents out.old) (O.contents out.new) (IsFrontOf (IsPrintOf text.now)) }
-    ensures statuses { (result ≢ Status.CommandRefused) × (result ≢ Status.TextRefused) }
+    ensures statuses { (result ≢ Status.CommandRefused) × (result ≢ Status.TextRefused) × (result ≢ Status.Unsound) }
 {
     match reprinted(alloc, text) {
         Ok(print) => put_text(out, err, print.as_bytes()),

@@ -3,18 +3,16 @@
 ghost use Rattle.std.specs.Prelude.{◌≡◌, ◌≢◌, IfOk, IfErr};
 ghost use Rattle.std.specs.String.{string_bytes};
 ghost use Rattle.std.specs.Io.KnownBytes.{Keeps};
-ghost use Rattle.path_commands.specs.Statuses.{status_of};
-ghost use Rattle.path_commands.specs.Writes.{AppendsSome, IsFrontOf};
-ghost use Rattle.path_commands.specs.Prints.{IsNoDeclaration, IsUndeclared};
+ghost use Rattle.path_streams.specs.Statuses.{status_of};
+ghost use Rattle.path_streams.specs.Writes.{AppendsSome, IsFrontOf};
+ghost use Rattle.path_streams.specs.Refusals.{IsNoDeclaration, IsUndeclared};
 ghost use Rattle.path_commands.specs.Compiles.{compiled_text, IsCompiledOf};
 
-use crate::fault::{Fault, tell};
-use crate::put::put_text;
-use crate::status::Status;
 use path_code::{listing, translate};
 use path_decl::Decl;
 use path_model::OutOfMemory;
 use path_read::read;
+use path_streams::{Fault, Status, put_text, tell};
 use path_trim::{lean_listing, trim};
 use std::alloc::Allocator;
 use std::io::Write;
@@ -65,7 +63,7 @@ pub fn compile_to<A: Allocator + Copy, O: Write, E: Write>(
     ensures refused { result ≡ Status.DeclarationRefused → Keeps (O.contents out.old) (O.contents out.new) × IsNoDeclaration text.now }
     // Only a front of it was written.
     ensures memory { result ≡ Status.NoMemory → AppendsSome (O.contents out.old) (O.contents out.new) (IsFrontOf (IsCompiledOf text.now)) }
-    ensures statuses { (result ≢ Status.CommandRefused) × (result ≢ Status.TextRefused) }
+    ensures statuses { (result ≢ Status.CommandRefused) × (result ≢ Status.TextRefused) × (result ≢ Status.Unsound) }
 {
     match compiled(alloc, text) {
         Ok(listings) => put_text(out, err, listings.as_bytes()),

@@ -1,7 +1,9 @@
 //! Both parts from bytes to bytes: what is printed and traced, and each refusal with its status.
 
 use crate::writers::{Failing, Full};
-use path_commands::{ROOM, Status, check_to, trace_bytes};
+use path_commands::check_to;
+use path_streams::Status;
+use path_trace::{ROOM, trace_bytes};
 use refusing::Refusing;
 use std::alloc::Global;
 use std::io::{ErrorKind, Write};
@@ -27,7 +29,7 @@ fn traces(
 ) {
     let mut out: Vec<u8> = Vec::new(heap);
     let mut err: Vec<u8> = Vec::new(heap);
-    let ended = trace_bytes(heap, texts.0, ROOM, texts.1, &mut out, &mut err);
+    let ended = trace_bytes(heap, texts.0, ROOM, false, texts.1, &mut out, &mut err);
     assert_eq!(rt; ended, status);
     assert_eq!(rt; out.as_slice(), written);
     assert_eq!(rt; err.as_slice(), said);
@@ -126,7 +128,7 @@ fn cannot_tell(rt: &impl Abort, heap: Global, text: &[u8], attempts: &[u8]) {
     let mut out: Vec<u8> = Vec::new(heap);
     let checked = check_to(heap, text, &mut out, &mut Full);
     assert_eq!(rt; checked, Status::StreamFailed);
-    let traced = trace_bytes(heap, text, ROOM, attempts, &mut out, &mut Full);
+    let traced = trace_bytes(heap, text, ROOM, false, attempts, &mut out, &mut Full);
     assert_eq!(rt; traced, Status::StreamFailed);
     assert!(rt; out.is_empty());
 }
@@ -149,21 +151,7 @@ fn trace_is_refused_at(rt: &impl Abort, heap: Global, texts: (&[u8], &[u8]), num
     let refusing = Refusing::new(heap, number);
     let mut out: Vec<u8> = Vec::new(heap);
     let mut err: Vec<u8> = Vec::new(heap);
-    let status = trace_bytes(&refusing, texts.0, ROOM, texts.1, &mut out, &mut err);
-    if !refusing.has_refused() {
-        return false;
-    }
-    assert_eq!(rt; status, Status::NoMemory, "at {number}");
-    assert!(rt; out.is_empty());
-    true
-}
-
-// The same of a check.
-fn check_is_refused_at(rt: &impl Abort, heap: Global, text: &[u8], number: u64) -> bool {
-    let refusing = Refusing::new(heap, number);
-    let mut out: Vec<u8> = Vec::new(heap);
-    let mut err: Vec<u8> = Vec::new(heap);
-    let status = check_to(&refusing, text, &mut out, &mut err);
+    let status = trace_bytes(&refusing, texts.0, ROOM, false, texts.1, &mut out, &mut err);
     if !refusing.has_refused() {
         return false;
     }
@@ -176,17 +164,6 @@ fn check_is_refused_at(rt: &impl Abort, heap: Global, text: &[u8], number: u64) 
 fn each_request_of_a_trace_is_refused(rt: HostRuntime) {
     for number in 1..200u64 {
         if !trace_is_refused_at(&rt, rt.alloc(), (SLOT, ATTEMPTS), number) {
-            assert!(rt; number > 1);
-            return;
-        }
-    }
-    panic!(rt; "never passed");
-}
-
-#[test]
-fn each_request_of_a_check_is_refused(rt: HostRuntime) {
-    for number in 1..200u64 {
-        if !check_is_refused_at(&rt, rt.alloc(), SLOT, number) {
             assert!(rt; number > 1);
             return;
         }

@@ -1,8 +1,8 @@
 //! What a declaration is compiled to: its semaphores as they are translated, and as they are trimmed.
 
 use crate::writers::Full;
-use path_commands::{Status, compile_to};
-use refusing::Refusing;
+use path_commands::compile_to;
+use path_streams::Status;
 use std::alloc::Global;
 use std::process::Abort;
 
@@ -152,29 +152,4 @@ fn cannot_write(rt: &impl Abort, heap: Global, text: &[u8]) {
 #[test]
 fn a_full_writer(rt: HostRuntime) {
     cannot_write(&rt, rt.alloc(), LONE_BURST);
-}
-
-// Whether the request of this number was made and refused; the status then says so, and nothing was written.
-fn is_refused_at(rt: &impl Abort, heap: Global, text: &[u8], number: u64) -> bool {
-    let refusing = Refusing::new(heap, number);
-    let mut out: Vec<u8> = Vec::new(heap);
-    let mut err: Vec<u8> = Vec::new(heap);
-    let status = compile_to(&refusing, text, &mut out, &mut err);
-    if !refusing.has_refused() {
-        return false;
-    }
-    assert_eq!(rt; status, Status::NoMemory, "at {number}");
-    assert!(rt; out.is_empty());
-    true
-}
-
-#[test]
-fn each_request_is_refused(rt: HostRuntime) {
-    for number in 1..400u64 {
-        if !is_refused_at(&rt, rt.alloc(), LONE_BURST, number) {
-            assert!(rt; number > 1);
-            return;
-        }
-    }
-    panic!(rt; "never passed");
 }

@@ -1,9 +1,10 @@
 //! Traces over devices: the program's own, the caller's, and those that don't fit.
 
-use path_commands::{ROOM, Status, trace_bytes, trace_to};
 use path_model::{Law, MOST_LINES, Verb};
 use path_read::read;
 use path_shelf::{ActFault, Cell, Device, Tally};
+use path_streams::Status;
+use path_trace::{ROOM, trace_bytes, trace_to};
 use refusing::Refusing;
 use std::process::Abort;
 
@@ -21,7 +22,15 @@ fn answers_so<R: Abort + AllocGlobal>(rt: &R, declaration: &str, attempts: &str,
     let mut out: Vec<u8> = Vec::new(rt.alloc());
     let mut err: Vec<u8> = Vec::new(rt.alloc());
     let (declaration, attempts) = (declaration.as_bytes(), attempts.as_bytes());
-    let status = trace_bytes(rt.alloc(), declaration, ROOM, attempts, &mut out, &mut err);
+    let status = trace_bytes(
+        rt.alloc(),
+        declaration,
+        ROOM,
+        false,
+        attempts,
+        &mut out,
+        &mut err,
+    );
     assert_eq!(rt; err.as_slice(), b"".as_slice());
     assert_eq!(rt; out.as_slice(), want.as_bytes());
     assert_eq!(rt; status, Status::Done);
@@ -80,6 +89,7 @@ fn traces_over<D: Device, R: Abort + AllocGlobal>(
         decl,
         devices,
         room,
+        false,
         attempts,
         &mut out,
         &mut err,
@@ -200,7 +210,15 @@ fn each_request_is_refused(rt: HostRuntime) {
         let mut out: Vec<u8> = Vec::new(rt.alloc());
         let mut err: Vec<u8> = Vec::new(rt.alloc());
         let declaration = BUFFER.as_bytes();
-        let status = trace_bytes(&refusing, declaration, ROOM, attempts, &mut out, &mut err);
+        let status = trace_bytes(
+            &refusing,
+            declaration,
+            ROOM,
+            false,
+            attempts,
+            &mut out,
+            &mut err,
+        );
         if !refusing.has_refused() {
             assert!(rt; number > 1);
             assert_eq!(rt; status, Status::Done);

@@ -1,6 +1,6 @@
 //! Bounded input.
 
-use path_commands::{Fault, read_all};
+use path_streams::{Fault, read_all};
 use refusing::Refusing;
 use std::alloc::Allocator;
 use std::io;

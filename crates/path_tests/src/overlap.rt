@@ -1,6 +1,7 @@
 //! Executions that overlap, within braces and within a bound.
 
-use path_commands::{ROOM, Status, trace_bytes};
+use path_streams::Status;
+use path_trace::{ROOM, trace_bytes};
 use std::process::Abort;
 
 // The trace of these attempts is this.
@@ -11,6 +12,7 @@ fn answers_so<R: Abort + AllocGlobal>(rt: &R, declaration: &str, attempts: &str,
         rt.alloc(),
         declaration.as_bytes(),
         ROOM,
+        false,
         attempts.as_bytes(),
         &mut out,
         &mut err,

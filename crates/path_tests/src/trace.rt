@@ -1,12 +1,13 @@
 //! Attempts in, replies out: worked examples, failing writers and want of memory.
 
 use crate::writers::{Failing, Full, Interrupted, Unflushed};
-use path_commands::{ROOM, Status, trace_to};
 use path_decl::counts;
 use path_lex::DeclFault;
 use path_model::MOST_LINES;
 use path_read::read;
 use path_shelf::Cell;
+use path_streams::Status;
+use path_trace::{ROOM, trace_to};
 use refusing::Refusing;
 use std::alloc::Allocator;
 use std::io::{ErrorKind, Write};
@@ -34,7 +35,16 @@ fn try_trace<A: Allocator + Copy, O: Write, E: Write>(
     for _ in 0..counts(&decl).resources {
         cells.push(Cell::new(0))?;
     }
-    Ok(trace_to(alloc, decl, cells, room, attempts.as_bytes(), out, err))
+    Ok(trace_to(
+        alloc,
+        decl,
+        cells,
+        room,
+        false,
+        attempts.as_bytes(),
+        out,
+        err,
+    ))
 }
 
 // The status of a trace, and what it wrote on its output and on standard error.
@@ -197,12 +207,15 @@ fn attempt_texts(rt: HostRuntime) {
 }
 
 #[test]
-fn undeclared_numbers(rt: HostRuntime) {
+fn unknown_numbers(rt: HostRuntime) {
     answers_so(
         &rt,
         SLOT,
-        "1 start #2\n1 start #4294967295",
-        "1 start #2: unknown operation\n1 start #4294967295: unknown operation\n",
+        "1 start #2\n1 start #4294967295\n1 use 18446744073709551615 look\n\
+         1 finish 18446744073709551615\n1 start deposit",
+        "1 start #2: unknown operation\n1 start #4294967295: unknown operation\n\
+         1 use 18446744073709551615 look: stale\n1 finish 18446744073709551615: stale\n\
+         1 start deposit: started 0\n",
     );
 }
 

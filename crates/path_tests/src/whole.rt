@@ -1,6 +1,6 @@
 //! Where an input is cut in two.
 
-use path_commands::whole;
+use path_streams::whole;
 
 #[test]
 fn cuts_where_a_line_is_a_mark(rt: HostRuntime) {

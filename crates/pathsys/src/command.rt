@@ -1,6 +1,6 @@
 //! The words of the command line.
 
-use clap::{Arg, Command, value_parser};
+use clap::{Arg, ArgAction, Command, value_parser};
 use path_model::MOST_LINES;
 use std::alloc::{AllocError, Global};
 
@@ -22,14 +22,16 @@ resource slot cell operation deposit, remove path deposit ; remove end end
 2 use 1 look
 END
 
-docs/language.md describes declarations, docs/attempts.md attempts and replies.
+docs/language.md describes declarations, docs/attempts.md attempts, replies and reports, and
+docs/journals.md journals and their audit.
 
 Exit statuses:
   0  done
   1  the declaration is refused
   2  the command line is refused
   3  a file or stream failed
-  4  the attempts are refused
+  4  the attempts or the journal are refused
+  5  a line of the journal is wrong
   6  memory is wanting";
 
 /// The name of a file, which has to be there.
@@ -38,13 +40,23 @@ fn file<'a>(alloc: Global, id: &'a str, help: &'a str) -> Arg<'a> {
 }
 
 /// The room of a journal: 1 to the most lines that one may have, or 4,096 where it isn't given.
-fn room<'a>(alloc: Global) -> Arg<'a> {
+fn room<'a>(alloc: Global, help: &'a str) -> Arg<'a> {
     Arg::new(alloc, "room")
         .long("room")
         .value_name("N")
         .value_parser(value_parser!(u32).range(1..=i64::from(MOST_LINES)))
         .default_value("4096")
-        .help("how many lines the journal has room for, 1 to 1048576")
+        .help(help)
+}
+
+/// Whether a report is asked for.
+fn report<'a>(alloc: Global) -> Arg<'a> {
+    Arg::new(alloc, "report")
+        .long("report")
+        .action(ArgAction::SetTrue)
+        .help(
+            "then also says what can start, what is blocked, what is live, and whether all is stuck",
+        )
 }
 
 /// The command that prints a declaration.
@@ -70,11 +82,32 @@ fn trace<'a>(alloc: Global) -> Result<Command<'a>, AllocError> {
     Command::new(alloc, "trace")
         .about("Answers each attempt of a file")
         .after_help(
-            "docs/language.md describes declarations, docs/attempts.md attempts and replies.",
+            "docs/language.md describes declarations, docs/attempts.md attempts, replies and reports.",
         )
         .arg(file(alloc, "DECL", "the file of the declaration"))?
         .arg(file(alloc, "ATTEMPTS", "the file of the attempts"))?
-        .arg(room(alloc))
+        .arg(room(
+            alloc,
+            "how many lines the journal has room for, 1 to 1048576",
+        ))?
+        .arg(report(alloc))
+}
+
+/// The command that audits a journal.
+fn audit<'a>(alloc: Global) -> Result<Command<'a>, AllocError> {
+    Command::new(alloc, "audit")
+        .about(
+            "Says whether each reply of a journal was owed, or which line is the first that was not",
+        )
+        .after_help(
+            "docs/language.md describes declarations, docs/journals.md journals and their audit.",
+        )
+        .arg(file(alloc, "DECL", "the file of the declaration"))?
+        .arg(file(alloc, "JOURNAL", "the file of the journal"))?
+        .arg(room(
+            alloc,
+            "how many lines the journal had room for, 1 to 1048576, where its text does not say so",
+        ))
 }
 
 /// The words that the program takes. The only error is want of memory.
@@ -85,5 +118,6 @@ pub fn command<'a>(alloc: Global) -> Result<Command<'a>, AllocError> {
         .after_help(MORE_HELP)
         .subcommand(check(alloc)?)?
         .subcommand(compile(alloc)?)?
-        .subcommand(trace(alloc)?)
+        .subcommand(trace(alloc)?)?
+        .subcommand(audit(alloc)?)
 }

@@ -2,8 +2,8 @@
 
 ghost use Rattle.std.specs.Prelude.{◌≤◌, length, IfOk};
 
-use path_commands::{Fault, read_all};
 use path_lines::LIMIT;
+use path_streams::{Fault, read_all};
 use std::fs;
 use std::rt::Files;
 

@@ -7,7 +7,9 @@ use crate::command::command;
 use crate::files::{read_file, read_stdin};
 use clap::error::ErrorKind;
 use clap::{ArgMatches, Error};
-use path_commands::{Fault, ROOM, Status, check_to, compile_to, tell, trace_bytes, whole};
+use path_commands::{audit_bytes, check_to, compile_to};
+use path_streams::{Fault, Status, tell, whole};
+use path_trace::{ROOM, trace_bytes};
 use std::env;
 use std::io::Write;
 use std::rt::{Env, Files};
@@ -59,6 +61,17 @@ fn compile<R: Files + AllocGlobal, O: Write, E: Write>(
     }
 }
 
+/// The bytes of the declaration's file, and of the file that the command line gives under this id.
+fn read_both<'a, R: Files + AllocGlobal>(
+    rt: &R,
+    words: &ArgMatches<'a>,
+    second: &str,
+) -> Result<(Vec<u8>, Vec<u8>), Fault<'a>> {
+    let declaration = read_file(rt, words.get_str("DECL").unwrap_or(""))?;
+    let text = read_file(rt, words.get_str(second).unwrap_or(""))?;
+    Ok((declaration, text))
+}
+
 /// Traces the attempts of one file under the declaration of another.
 fn trace<R: Files + AllocGlobal, O: Write, E: Write>(
     rt: &R,
@@ -66,13 +79,28 @@ fn trace<R: Files + AllocGlobal, O: Write, E: Write>(
     out: &mut O,
     err: &mut E,
 ) -> Status {
-    let declaration = match read_file(rt, words.get_str("DECL").unwrap_or("")) {
-        Ok(text) => text,
-        Err(fault) => return tell(err, fault),
-    };
     let room = words.get_one("room").unwrap_or(ROOM);
-    match read_file(rt, words.get_str("ATTEMPTS").unwrap_or("")) {
-        Ok(attempts) => trace_bytes(rt.alloc(), &declaration, room, &attempts, out, err),
+    let report = words.get_flag("report");
+    match read_both(rt, words, "ATTEMPTS") {
+        Ok((declaration, attempts)) => {
+            trace_bytes(rt.alloc(), &declaration, room, report, &attempts, out, err)
+        }
+        Err(fault) => tell(err, fault),
+    }
+}
+
+/// Audits the journal of one file under the declaration of another.
+fn audit<R: Files + AllocGlobal, O: Write, E: Write>(
+    rt: &R,
+    words: &ArgMatches<'_>,
+    out: &mut O,
+    err: &mut E,
+) -> Status {
+    let room = words.get_one("room").unwrap_or(ROOM);
+    match read_both(rt, words, "JOURNAL") {
+        Ok((declaration, journal)) => {
+            audit_bytes(rt.alloc(), &declaration, room, &journal, out, err)
+        }
         Err(fault) => tell(err, fault),
     }
 }
@@ -86,14 +114,14 @@ fn without_words<R: Input + AllocGlobal, O: Write, E: Write>(
     match read_stdin(rt) {
         Ok(input) => {
             let (declaration, attempts) = whole(&input);
-            trace_bytes(rt.alloc(), declaration, ROOM, attempts, out, err)
+            trace_bytes(rt.alloc(), declaration, ROOM, false, attempts, out, err)
         }
         Err(fault) => tell(err, fault),
     }
 }
 
 /// Does what the words of the command line ask for. Where several causes stand, the first counts: words, files,
-/// declaration, attempts, room.
+/// declaration, attempts or journal, room.
 pub fn perform<R: Env + Files + Input + AllocGlobal, O: Write, E: Write>(
     rt: &R,
     out: &mut O,
@@ -113,6 +141,7 @@ pub fn perform<R: Env + Files + Input + AllocGlobal, O: Write, E: Write>(
         Ok(matches) => match matches.subcommand() {
             Some(("check", words)) => check(rt, words, out, err),
             Some(("compile", words)) => compile(rt, words, out, err),
+            Some(("audit", words)) => audit(rt, words, out, err),
             Some((_, words)) => trace(rt, words, out, err),
             None => without_words(rt, out, err),
         },

@@ -1,0 +1,79 @@
+-- What an audit tells of a journal's text.
+use Rattle.std.specs.Prelude.{◌≡◌, ◌<◌, ◌⊎◌, ℕ, List, ◌∷◌, [], ◌++◌, length, map, codes, decimal, Option, None}
+use Rattle.std.specs.Option.{unwrap_or}
+use Rattle.path_model.specs.declared.journal.Line.{Line}
+use Rattle.path_model.specs.Declarations.{Declaration}
+use Rattle.path_decl.specs.Text.{IsDeclarationText}
+use Rattle.path_lines.specs.declared.texts.TheConstants.{LIMIT}
+use Rattle.path_journal.specs.JournalTexts.{IsJournalText, IsNoJournalText}
+use Rattle.path_shelf.specs.Openings.{opening_numbers}
+use Rattle.path_system.specs.Faults.{IsBadRoom}
+use Rattle.path_audit.specs.declared.auditor.Verdict.{Verdict}
+use Rattle.path_audit.specs.declared.auditor.Verdict.TheVariants.{Sound, WrongLine}
+use Rattle.path_audit.specs.Verdicts.{IsRoom, IsVerdict}
+use Rattle.path_streams.specs.declared.status.Status.{Status}
+use Rattle.path_streams.specs.declared.status.Status.TheVariants as statuses
+
+-- what the program's own devices contain at first: each cell and tally 0, each queue nothing
+abbrev pub own_openings : Declaration → List (List ℕ)
+own_openings d = map (λ r. opening_numbers r.law) d.resources
+
+-- The text tells a journal of this verdict, over the program's own devices. Its room is the one that the text names, else the one that
+-- is asked for.
+pub record IsAuditOf (d : Declaration) (room : ℕ) (text : List ℕ) (verdict : Verdict) : Type 0 where
+  pub named : Option ℕ
+  pub lines : List Line
+  pub told : IsJournalText d text named lines
+  pub in_range : IsRoom (unwrap_or named room)
+  pub judged : IsVerdict d (unwrap_or named room) (own_openings d) lines verdict
+
+-- the text tells an honest journal
+abbrev pub IsSoundText : Declaration → ℕ → List ℕ → Type 0
+IsSoundText d room text = IsAuditOf d room text Sound
+
+-- line n is the first that makes the journal wrong that the text tells
+abbrev pub IsWrongText : Declaration → ℕ → List ℕ → ℕ → Type 0
+IsWrongText d room text n = IsAuditOf d room text (WrongLine n)
+
+-- the line that tells a verdict, with its line feed
+abbrev pub verdict_line : Verdict → List ℕ
+verdict_line Sound = codes "sound\n"
+verdict_line (WrongLine n) = codes "wrong line " ++ (decimal n ++ 10 ∷ [])
+
+-- the bytes tell the verdict on a text
+abbrev pub TellsVerdict : Declaration → ℕ → List ℕ → List ℕ → Type 0
+TellsVerdict d room text bytes = (verdict : Verdict) × IsAuditOf d room text verdict × (bytes ≡ verdict_line verdict)
+
+-- the bytes tell that a text is sound
+abbrev pub TellsSound : Declaration → ℕ → List ℕ → List ℕ → Type 0
+TellsSound d room text bytes = IsSoundText d room text × (bytes ≡ verdict_line Sound)
+
+-- the bytes tell the first wrong line of a text
+abbrev pub TellsWrong : Declaration → ℕ → List ℕ → List ℕ → Type 0
+TellsWrong d room text bytes = (n : ℕ) × IsWrongText d room text n × (bytes ≡ verdict_line (WrongLine n))
+
+-- the text is too long, or tells no journal
+abbrev pub IsBadJournal : Declaration → List ℕ → Type 0
+IsBadJournal d text = (LIMIT < length text) ⊎ IsNoJournalText d text
+
+-- the text tells a journal and names no room, and the one that is asked for is none
+pub record LacksRoom (d : Declaration) (room : ℕ) (text : List ℕ) : Type 0 where
+  pub lines : List Line
+  pub told : IsJournalText d text None lines
+  pub bad : IsBadRoom room
+
+-- how an audit of a text ends before anything is written
+abbrev pub IsUnaudited : Declaration → ℕ → List ℕ → Status → Type 0
+IsUnaudited d room text statuses.CommandRefused = LacksRoom d room text
+IsUnaudited d room text statuses.TextRefused = IsBadJournal d text
+IsUnaudited d room text statuses.NoMemory = Unit {0}
+IsUnaudited d room text status = ⊥
+
+-- the status of a verdict that was told
+abbrev pub verdict_status : Verdict → Status
+verdict_status Sound = statuses.Done
+verdict_status (WrongLine n) = statuses.Unsound
+
+-- something holds of the declaration that a text is
+abbrev pub Under : List ℕ → (Declaration → Type 0) → Type 0
+Under declaration P = (d : Declaration) × IsDeclarationText declaration d × P d

@@ -1,0 +1,161 @@
+//! Whether the text of a journal is sound.
+
+ghost use Rattle.std.specs.Prelude.{◌≡◌, ◌≢◌, ◌⊎◌, ℕ, IfOk, IfErr};
+ghost use Rattle.std.specs.String.{string_bytes};
+ghost use Rattle.std.specs.Io.KnownBytes.{Appends, Keeps};
+ghost use Rattle.path_audit.specs.declared.auditor.Verdict.{Verdict};
+ghost use Rattle.path_audit.specs.declared.auditor.Verdict.TheVariants as verdicts;
+ghost use Rattle.path_streams.specs.Refusals.{IsNoDeclaration};
+ghost use Rattle.path_streams.specs.Statuses.{status_of};
+ghost use Rattle.path_streams.specs.Writes.{AppendsSome, IsFrontOf};
+ghost use Rattle.path_commands.specs.Audits.{IsAuditOf, IsBadJournal, IsSoundText, IsUnaudited, IsWrongText, LacksRoom};
+ghost use Rattle.path_commands.specs.Audits.{TellsSound, TellsVerdict, TellsWrong, Under, verdict_line, verdict_status};
+
+use crate::openings::own_openings;
+use path_audit::{Verdict, audit};
+use path_decl::Decl;
+use path_journal::read_journal;
+use path_model::OutOfMemory;
+use path_read::read;
+use path_streams::{Fault, Status, put_text, tell};
+use std::alloc::Allocator;
+use std::io::Write;
+
+/// The verdict on the journal that a text tells. Its room is the one that the text names, else this one.
+fn verdict_on<A: Allocator + Copy>(
+    alloc: A,
+    decl: &Decl<A>,
+    room: u32,
+    text: &[u8],
+) -> Result<Verdict, Fault<'static>>
+    ensures ok { IfOk result (λ verdict. IsAuditOf decl.now.declaration room text.now verdict) }
+    // There is one verdict.
+    ensures one { IfOk result (λ verdict. (other : Verdict) → IsAuditOf decl.now.declaration room text.now other → other ≡ verdict) }
+    ensures err { IfErr result (λ fault. IsUnaudited decl.now.declaration room text.now (status_of fault)) }
+{
+    let journal = match read_journal(alloc, decl, text) {
+        Ok(journal) => journal,
+        Err(fault) => return Err(Fault::Text(fault)),
+    };
+    let openings = own_openings(alloc, decl)?;
+    let room = journal.room.unwrap_or(room);
+    match audit(alloc, decl, room, &openings, &journal.lines) {
+        Ok(verdict) => Ok(verdict),
+        Err(fault) => Err(Fault::Audit(fault)),
+    }
+}
+
+/// The line that tells a verdict.
+fn line_of<A: Allocator + Copy>(alloc: A, verdict: Verdict) -> Result<String<A>, OutOfMemory>
+    ensures { IfOk result (λ line. string_bytes line ≡ verdict_line verdict) }
+{
+    let line = match verdict {
+        Verdict::Sound => format!(in alloc; "sound\n")?,
+        Verdict::WrongLine(number) => format!(in alloc; "wrong line {number}\n")?,
+    };
+    Ok(line)
+}
+
+/// Writes the line of a verdict.
+fn tell_verdict<A: Allocator + Copy, O: Write, E: Write>(
+    alloc: A,
+    verdict: Verdict,
+    out: &mut O,
+    err: &mut E,
+) -> Status
+    ensures told { result ≡ verdict_status verdict → Appends (O.contents out.old) (O.contents out.new) (verdict_line verdict) }
+    // Only a front of the line was written.
+    ensures memory { result ≡ Status.NoMemory
+        → AppendsSome (O.contents out.old) (O.contents out.new) (IsFrontOf (λ all. all ≡ verdict_line verdict)) }
+    ensures statuses { (result ≡ verdict_status verdict) ⊎ (result ≡ Status.StreamFailed) ⊎ (result ≡ Status.NoMemory) }
+{
+    let Ok(line) = line_of(alloc, verdict) else {
+        return tell(err, Fault::OutOfMemory);
+    };
+    match (put_text(out, err, line.as_bytes()), verdict) {
+        (Status::Done, Verdict::WrongLine(_)) => Status::Unsound,
+        (status, _) => status,
+    }
+}
+
+/// Reads the text of a journal, replays it, and writes `sound` or `wrong line N`, where N, counted from 0, is the first line whose
+/// reply wasn't owed by the lines before it. The devices are those of the program: each cell and tally contains 0 at first, each
+/// queue nothing. A text of version 2 names the journal's room, which counts in place of the one that is handed in, 1 to
+/// [`MOST_LINES`](path_model::MOST_LINES). Nothing is written before the whole text was read.
+///
+/// `Unsound`: a line is wrong. `TextRefused`: the text is none of a journal, or too long. `CommandRefused`: the text names no room,
+/// and the one that is handed in is out of range. At these two nothing was written. `StreamFailed`: a writer failed, and what it
+/// took is unknown. `NoMemory`: memory is wanting, and a front of the line was written. A fault is one line on `err`.
+///
+/// The cost is that of the text, and for each line what it cost the system: the look at the paths of its operation for a start or a
+/// finish, and a look-up by number for a use.
+pub fn audit_to<A: Allocator + Copy, O: Write, E: Write>(
+    alloc: A,
+    decl: Decl<A>,
+    room: u32,
+    journal: &[u8],
+    out: &mut O,
+    err: &mut E,
+) -> Status
+    // The text tells an honest journal, and that was written.
+    ensures done { result ≡ Status.Done
+        → AppendsSome (O.contents out.old) (O.contents out.new) (TellsSound decl.declaration room journal.now) }
+    // The text tells a journal that isn't honest, and its first wrong line was written.
+    ensures unsound { result ≡ Status.Unsound
+        → AppendsSome (O.contents out.old) (O.contents out.new) (TellsWrong decl.declaration room journal.now) }
+    // No honest journal is told to be wrong, and no other to be sound.
+    ensures only_wrong { IsSoundText decl.declaration room journal.now → result ≢ Status.Unsound }
+    ensures only_sound { (n : ℕ) → IsWrongText decl.declaration room journal.now n → result ≢ Status.Done }
+    // The text is too long or tells no journal, and nothing was written.
+    ensures refused { result ≡ Status.TextRefused
+        → Keeps (O.contents out.old) (O.contents out.new) × IsBadJournal decl.declaration journal.now }
+    // No journal has the room, and nothing was written.
+    ensures bad_room { result ≡ Status.CommandRefused
+        → Keeps (O.contents out.old) (O.contents out.new) × LacksRoom decl.declaration room journal.now }
+    // Only a front of the line was written.
+    ensures memory { result ≡ Status.NoMemory
+        → AppendsSome (O.contents out.old) (O.contents out.new) (IsFrontOf (TellsVerdict decl.declaration room journal.now)) }
+    ensures statuses { result ≢ Status.DeclarationRefused }
+{
+    match verdict_on(alloc, &decl, room, journal) {
+        Ok(verdict) => tell_verdict(alloc, verdict, out, err),
+        Err(fault) => tell(err, fault),
+    }
+}
+
+/// Reads a declaration, and writes whether the text of a journal is sound under it, as [`audit_to`] does and at its cost.
+///
+/// `DeclarationRefused`: the declaration is refused, which counts first, and nothing was written. The other statuses are those of
+/// [`audit_to`].
+pub fn audit_bytes<A: Allocator + Copy, O: Write, E: Write>(
+    alloc: A,
+    declaration: &[u8],
+    room: u32,
+    journal: &[u8],
+    out: &mut O,
+    err: &mut E,
+) -> Status
+    // The text tells an honest journal, and that was written.
+    ensures done { result ≡ Status.Done → AppendsSome (O.contents out.old) (O.contents out.new)
+        (λ bytes. Under declaration.now (λ d. TellsSound d room journal.now bytes)) }
+    // The text tells a journal that isn't honest, and its first wrong line was written.
+    ensures unsound { result ≡ Status.Unsound → AppendsSome (O.contents out.old) (O.contents out.new)
+        (λ bytes. Under declaration.now (λ d. TellsWrong d room journal.now bytes)) }
+    // The text is no declaration, and nothing was written.
+    ensures undeclared { result ≡ Status.DeclarationRefused
+        → Keeps (O.contents out.old) (O.contents out.new) × IsNoDeclaration declaration.now }
+    // The journal's text is too long or tells none, and nothing was written.
+    ensures refused { result ≡ Status.TextRefused → Keeps (O.contents out.old) (O.contents out.new)
+        × Under declaration.now (λ d. IsBadJournal d journal.now) }
+    // No journal has the room, and nothing was written.
+    ensures bad_room { result ≡ Status.CommandRefused → Keeps (O.contents out.old) (O.contents out.new)
+        × Under declaration.now (λ d. LacksRoom d room journal.now) }
+    // Only a front of the line was written.
+    ensures memory { result ≡ Status.NoMemory → AppendsSome (O.contents out.old) (O.contents out.new)
+        (IsFrontOf (λ bytes. Under declaration.now (λ d. TellsVerdict d room journal.now bytes))) }
+{
+    match read(alloc, declaration) {
+        Ok(decl) => audit_to(alloc, decl, room, journal, out, err),
+        Err(fault) => tell(err, Fault::Declaration(fault)),
+    }
+}

@@ -1,0 +1,46 @@
+//! What the program's own devices contain at first.
+
+ghost use Rattle.std.specs.Prelude.{◌≡◌, ◌<◌, length, map, IfOk};
+ghost use Rattle.path_model.specs.Declarations as declarations;
+ghost use Rattle.path_shelf.specs.Openings.{opening_numbers};
+ghost use Rattle.path_commands.specs.Audits.{own_openings};
+
+use path_decl::{Decl, counts, law_of};
+use path_model::{Law, OutOfMemory, ResId};
+use std::alloc::Allocator;
+
+/// The law of a resource, which is declared.
+fn law_at<A: Allocator + Copy>(decl: &Decl<A>, resource: ResId) -> Law
+    requires { resource.0 < length decl.now.declaration.resources }
+    ensures { result ≡ declarations.law_of decl.now.declaration resource.0 }
+{
+    law_of(decl, resource).unwrap()
+}
+
+/// What a device of this law contains to which nothing was done.
+fn opening<A: Allocator + Copy>(alloc: A, law: Law) -> Result<Vec<u64, A>, OutOfMemory>
+    ensures { IfOk result (λ numbers. numbers.items ≡ opening_numbers law) }
+{
+    let mut numbers = Vec::new(alloc);
+    match law {
+        Law::Cell | Law::Tally => numbers.push(0)?,
+        Law::Queue(_) => {}
+    }
+    Ok(numbers)
+}
+
+/// What the device of each resource contains at first, in order: a cell and a tally 0, a queue nothing. The only error is want of
+/// memory. Takes time and memory in proportion to the resources.
+pub fn own_openings<A: Allocator + Copy>(
+    alloc: A,
+    decl: &Decl<A>,
+) -> Result<Vec<Vec<u64, A>, A>, OutOfMemory>
+    ensures { IfOk result (λ openings. map (λ opening. opening.items) openings.items ≡ own_openings decl.now.declaration) }
+{
+    let resources = counts(decl).resources;
+    let mut openings = Vec::with_capacity(alloc, resources as usize)?;
+    for number in 0..resources {
+        openings.push(opening(alloc, law_at(decl, ResId(number)))?)?;
+    }
+    Ok(openings)
+}

@@ -1,0 +1,5 @@
+pub mod CallerLemmas
+pub mod WholeLemmas
+pub mod InputLemmas
+pub mod PutLemmas
+pub mod FaultLemmas

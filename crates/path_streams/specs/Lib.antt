@@ -1,0 +1,4 @@
+pub mod Statuses
+pub mod Refusals
+pub mod Writes
+pub mod Inputs

@@ -1,0 +1,51 @@
+//! Writing bytes, and knowing what was written where it fails.
+
+ghost use Rattle.std.specs.Prelude.{◌≡◌, ◌⊎◌, OnOk, OnErr, IfErr};
+ghost use Rattle.std.specs.Io.KnownBytes.{Appends};
+ghost use Rattle.path_streams.specs.Writes.{AppendsSome, IsFrontOf};
+
+use crate::fault::{Fault, tell};
+use crate::status::Status;
+use std::io::{ErrorKind, Write};
+
+/// Writes all of the bytes; where the writer fails, a front of them. What is interrupted is tried again, and a writer
+/// that takes nothing can't be written.
+pub fn put<O: Write>(out: &mut O, bytes: &[u8]) -> Result<(), Fault<'static>>
+    ensures ok { OnOk result (Appends (O.contents out.old) (O.contents out.new) bytes.now) }
+    ensures err { OnErr result (AppendsSome (O.contents out.old) (O.contents out.new) (IsFrontOf (λ all. all ≡ bytes.now))) }
+    ensures fault { IfErr result (λ fault. (fault ≡ Fault.Unwritable) ⊎ (fault ≡ Fault.OutOfMemory)) }
+{
+    let mut rest = bytes;
+    for _ in 0..u64::MAX {
+        if rest.is_empty() {
+            return Ok(());
+        }
+        match out.write(rest) {
+            Ok(0) => return Err(Fault::Unwritable),
+            Ok(n) => rest = &rest[n..],
+            Err(error) => {
+                if error.kind() != ErrorKind::Interrupted {
+                    return Err(Fault::of_writing(&error));
+                }
+            }
+        }
+    }
+    Err(Fault::Unwritable)
+}
+
+/// Writes all of the text and flushes it. Where the writer fails, what it took is unknown; where it wants memory, it took a
+/// front. A fault is one line on `err`.
+pub fn put_text<O: Write, E: Write>(out: &mut O, err: &mut E, text: &[u8]) -> Status
+    ensures done { result ≡ Status.Done → Appends (O.contents out.old) (O.contents out.new) text.now }
+    // Only a front of the text was written.
+    ensures memory { result ≡ Status.NoMemory → AppendsSome (O.contents out.old) (O.contents out.new) (IsFrontOf (λ all. all ≡ text.now)) }
+    ensures statuses { (result ≡ Status.Done) ⊎ (result ≡ Status.StreamFailed) ⊎ (result ≡ Status.NoMemory) }
+{
+    if let Err(fault) = put(out, text) {
+        return tell(err, fault);
+    }
+    match out.flush() {
+        Ok(()) => Status::Done,
+        Err(error) => tell(err, Fault::of_writing(&error)),
+    }
+}

@@ -1,0 +1,108 @@
+//! Writers that fail, and want of memory.
+
+use crate::commands::{COMMANDS, Command, Row, ends};
+use crate::failing::Failing;
+use path_streams::Status;
+use refusing::Refusing;
+use std::alloc::Global;
+use std::io::ErrorKind;
+use std::process::Abort;
+
+// The command ends with this status, having written that many bytes, a front of its text, and said that.
+fn fails_so(
+    rt: &impl Abort,
+    heap: Global,
+    row: &Row,
+    mut out: Failing,
+    want: (usize, Status, &str),
+) {
+    let mut err: Vec<u8> = Vec::new(heap);
+    let status = ends(heap, row, &mut out, &mut err);
+    assert_eq!(rt; status, want.1, "for {row:?}");
+    assert_eq!(rt; out.bytes.len(), want.0);
+    assert!(rt; row.4.as_bytes().starts_with(out.bytes.as_slice()));
+    assert_eq!(rt; err.as_slice(), want.2.as_bytes());
+}
+
+// Each write fails in turn, of five bytes, and after the last one none does.
+fn fails_in_turn(rt: &impl Abort, heap: Global, row: &Row) {
+    let length = row.4.len();
+    let writes = length.div_ceil(5);
+    for k in 0..writes {
+        let taken = k.saturating_mul(5);
+        let unwritable = (taken, Status::StreamFailed, "output: cannot write\n");
+        let out = Failing::new(heap, k, ErrorKind::Other);
+        fails_so(rt, heap, row, out, unwritable);
+        let wanting = (taken, Status::NoMemory, "out of memory\n");
+        let out = Failing::new(heap, k, ErrorKind::OutOfMemory);
+        fails_so(rt, heap, row, out, wanting);
+    }
+    let out = Failing::new(heap, writes, ErrorKind::Other);
+    fails_so(rt, heap, row, out, (length, row.3, ""));
+}
+
+fn all_fail_in_turn(rt: &impl Abort, heap: Global, rows: &[Row]) {
+    for row in rows {
+        fails_in_turn(rt, heap, row);
+    }
+}
+
+#[test]
+fn each_write_fails_in_turn(rt: HostRuntime) {
+    all_fail_in_turn(&rt, rt.alloc(), COMMANDS);
+}
+
+/// An audit under no declaration.
+const UNDECLARED: Row = (Command::Audit, "", "", Status::DeclarationRefused, "");
+
+// Why the command isn't done can't be told, and nothing was written.
+fn cannot_tell(rt: &impl Abort, heap: Global, row: &Row) {
+    let mut out: Vec<u8> = Vec::new(heap);
+    let mut err = Failing::new(heap, 0, ErrorKind::Other);
+    assert_eq!(rt; ends(heap, row, &mut out, &mut err), Status::StreamFailed);
+    assert!(rt; out.is_empty());
+}
+
+#[test]
+fn a_fault_that_cannot_be_told(rt: HostRuntime) {
+    cannot_tell(&rt, rt.alloc(), &UNDECLARED);
+}
+
+// Whether the request of this number was made and refused; the status then says so, and nothing was written.
+fn is_refused_at(rt: &impl Abort, heap: Global, row: &Row, number: u64) -> bool {
+    let refusing = Refusing::new(heap, number);
+    let mut out: Vec<u8> = Vec::new(heap);
+    let mut err: Vec<u8> = Vec::new(heap);
+    let status = ends(&refusing, row, &mut out, &mut err);
+    if !refusing.has_refused() {
+        assert_eq!(rt; status, row.3);
+        assert_eq!(rt; out.as_slice(), row.4.as_bytes());
+        return false;
+    }
+    assert_eq!(rt; status, Status::NoMemory, "at {number} for {row:?}");
+    assert!(rt; out.is_empty());
+    assert_eq!(rt; err.as_slice(), b"out of memory\n".as_slice());
+    true
+}
+
+// Each request is refused in turn, until the command ends as it does with ample memory.
+fn is_refused_in_turn(rt: &impl Abort, heap: Global, row: &Row) {
+    for number in 1..400u64 {
+        if !is_refused_at(rt, heap, row, number) {
+            assert!(rt; number > 1);
+            return;
+        }
+    }
+    panic!(rt; "never passed");
+}
+
+fn all_are_refused_in_turn(rt: &impl Abort, heap: Global, rows: &[Row]) {
+    for row in rows {
+        is_refused_in_turn(rt, heap, row);
+    }
+}
+
+#[test]
+fn each_request_is_refused(rt: HostRuntime) {
+    all_are_refused_in_turn(&rt, rt.alloc(), COMMANDS);
+}

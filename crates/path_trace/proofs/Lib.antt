@@ -1,0 +1,4 @@
+pub mod FaultLemmas
+pub mod TraceLemmas
+pub mod FailLemmas
+pub mod OwnLemmas

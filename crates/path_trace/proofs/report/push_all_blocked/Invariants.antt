@@ -1,0 +1,7 @@
+-- The lines so far.
+use Rattle.std.proofs.Common.{◌≡◌, ◌++◌, take, flat_map}
+use Rattle.path_trace.specs.ReportTexts.{blocked_line}
+use Rattle.path_trace.proofs.report.push_all_blocked.Given as goal
+
+abbrev pub invariant-loop-op : goal.invariant-loop-op
+invariant-loop-op g l = l.text.items ≡ l.fn.text.items ++ flat_map (blocked_line l.decl.declaration) (take l.op-index l.blocked)

@@ -1,0 +1,301 @@
+//! The theorem from bytes to bytes: attempts in, each with its reply out, and a report of the system at their end.
+
+ghost use Rattle.std.specs.Prelude.{◌≡◌, ◌≢◌, ◌+◌, ◌≤◌, length, map, drop, IfOk, IfErr, IfSome, IfNone, OnOk};
+ghost use Rattle.std.specs.Io.KnownBytes.{Keeps};
+ghost use Rattle.path_shelf.specs.States.{MayFail, laws_of};
+ghost use Rattle.path_shelf.specs.Shelves.{declared_laws};
+ghost use Rattle.path_system.specs.Faults.{IsBadRoom, IsOpenFault};
+ghost use Rattle.path_streams.specs.Statuses.{status_of};
+ghost use Rattle.path_streams.specs.Writes.{AppendsSome, IsFrontOf};
+ghost use Rattle.path_streams.specs.Refusals.{IsNoDeclaration};
+ghost use Rattle.path_trace.specs.Traces.{GrowsBehind, IsAnswered, IsToldBy, IsTraceBy, IsTraceOf, IsTraceOfTexts, own_states};
+ghost use Rattle.path_trace.specs.Traces.{IsBadAttempts, IsBadText, IsBadTextUnder, IsRefused, IsUnopened};
+
+use crate::own::own_devices;
+use crate::report::push_report;
+use path_decl::Decl;
+use path_lines::{LIMIT, TextFault, fault_at, first_entry, push_told, read_attempts};
+use path_model::{Attempt, MOST_LINES, OutOfMemory};
+use path_read::read;
+use path_shelf::{Device, shelf_fault};
+use path_streams::{Fault, Status, put_text, tell};
+use path_system::{OpenFault, System};
+use std::alloc::Allocator;
+use std::io::Write;
+
+/// How many lines the journal of a trace has room for, where nothing else is asked for.
+pub const ROOM: u32 = 4096;
+
+/// The most bytes that an answer adds to its attempt: `: used `, twenty digits and a line feed.
+const LONGEST_REPLY: usize = 28;
+
+/// How many bytes the answers to the attempts of a text have at most: no line has fewer than ten bytes with its line feed.
+fn longest_trace(attempts: &[u8]) -> usize {
+    let lines = attempts.len() / 10 + 1;
+    lines
+        .saturating_mul(LONGEST_REPLY)
+        .saturating_add(attempts.len())
+}
+
+/// Steps the system, and appends the attempt's own line with its reply and a line feed.
+fn answer<D: Device, A: Allocator + Copy>(
+    system: &mut System<D, A>,
+    worker: u32,
+    attempt: Attempt,
+    line: &[u8],
+    trace: &mut Vec<u8, A>,
+) -> Result<(), Fault<'static>>
+    ensures ok { OnOk result (IsAnswered (MayFail D.state) system.old system.new worker attempt line.now trace.old.items trace.new.items) }
+    ensures memory { IfErr result (λ fault. fault ≡ Fault.OutOfMemory) }
+{
+    let reply = system.step(worker, attempt);
+    trace.extend_from_slice(line)?;
+    push_told(trace, reply)?;
+    Ok(())
+}
+
+/// What stands behind the first line, of this length, and its line feed; nothing where it is the last.
+fn behind(text: &[u8], length: usize) -> &[u8]
+    ensures { result.now ≡ drop (length + 1) text.now }
+{
+    if length < text.len() {
+        &text[length + 1..]
+    } else {
+        b""
+    }
+}
+
+/// The system's answers to the attempts of a text, one line each. One pass over the text: each line is read, answered and
+/// copied.
+fn answers<D: Device, A: Allocator + Copy>(
+    alloc: A,
+    system: &mut System<D, A>,
+    attempts: &[u8],
+) -> Result<Vec<u8, A>, Fault<'static>>
+    requires { length attempts.now ≤ LIMIT }
+    ensures ok { IfOk result (λ bytes.
+        IsTraceBy (MayFail D.state) system.old attempts.now system.new.journal bytes.items) }
+    ensures declaration { OnOk result (system.new.declaration ≡ system.old.declaration) }
+    ensures err { IfErr result (λ fault. IsBadAttempts system.old.declaration attempts.now (status_of fault)) }
+{
+    let mut trace = Vec::with_capacity(alloc, longest_trace(attempts))?;
+    let mut rest = attempts;
+    let mut number = 0u32;
+    while !rest.is_empty() {
+        let first = match first_entry(system.decl(), rest) {
+            Ok(first) => first,
+            Err(fault) => return Err(Fault::Text(fault_at(number, fault))),
+        };
+        let line = &rest[..first.length];
+        answer(system, first.worker, first.attempt, line, &mut trace)?;
+        rest = behind(rest, first.length);
+        number += 1;
+    }
+    Ok(trace)
+}
+
+/// Appends the report of the system where one is asked for.
+fn push_behind<D: Device, A: Allocator + Copy>(
+    alloc: A,
+    system: &System<D, A>,
+    report: bool,
+    trace: &mut Vec<u8, A>,
+) -> Result<(), OutOfMemory>
+    ensures { OnOk result (GrowsBehind system.now.declaration system.now.journal report trace.old.items trace.new.items) }
+{
+    if report {
+        let present = system.report(alloc)?;
+        push_report(trace, system.decl(), &present)?;
+    }
+    Ok(())
+}
+
+/// The system's answers to the attempts of a text, and the report of it then where one is asked for.
+fn told_by<D: Device, A: Allocator + Copy>(
+    alloc: A,
+    system: &mut System<D, A>,
+    report: bool,
+    attempts: &[u8],
+) -> Result<Vec<u8, A>, Fault<'static>>
+    requires { length attempts.now ≤ LIMIT }
+    ensures ok { IfOk result (λ bytes. IsToldBy (MayFail D.state) system.old report attempts.now bytes.items) }
+    ensures err { IfErr result (λ fault. IsBadAttempts system.old.declaration attempts.now (status_of fault)) }
+{
+    let mut trace = answers(alloc, system, attempts)?;
+    push_behind(alloc, system, report, &mut trace)?;
+    Ok(trace)
+}
+
+/// Why no system of this room is opened over the devices.
+fn open_fault<D: Device, A: Allocator + Copy>(
+    decl: &Decl<A>,
+    devices: &[D],
+    room: u32,
+) -> Option<OpenFault>
+    ensures some { IfSome result (λ fault. (fault ≢ OpenFault.OutOfMemory)
+        × IsOpenFault room (map D.state devices.now) decl.now.declaration fault) }
+    ensures none { IfNone result ((IsBadRoom room → ⊥) × (laws_of (map D.state devices.now) ≡ declared_laws decl.now.declaration)) }
+{
+    if room == 0 || room > MOST_LINES {
+        return Some(OpenFault::BadRoom);
+    }
+    match shelf_fault(devices, decl) {
+        Some(fault) => Some(OpenFault::from(fault)),
+        None => None,
+    }
+}
+
+/// Why no system of this room over the devices traces a text, where one can tell before it is opened: the text is too long, or
+/// none is opened so. A text that is at fault counts before that.
+fn refusal<D: Device, A: Allocator + Copy>(
+    alloc: A,
+    decl: &Decl<A>,
+    devices: &[D],
+    room: u32,
+    attempts: &[u8],
+) -> Option<Fault<'static>>
+    ensures some { IfSome result (λ fault.
+        IsRefused decl.now.declaration (map D.state devices.now) room attempts.now (status_of fault)) }
+    ensures none { IfNone result ((length attempts.now ≤ LIMIT) × (IsBadRoom room → ⊥)
+        × (laws_of (map D.state devices.now) ≡ declared_laws decl.now.declaration)) }
+{
+    if attempts.len() > LIMIT {
+        return Some(Fault::Text(TextFault::TooLong));
+    }
+    let fault = open_fault(decl, devices, room)?;
+    match read_attempts(alloc, decl, attempts) {
+        Ok(_) => Some(Fault::Open(fault)),
+        Err(fault) => Some(Fault::Text(fault)),
+    }
+}
+
+/// What a system of this room over the devices answers to the attempts of a text, and the report of it then where one is asked for.
+fn traced<D: Device, A: Allocator + Copy>(
+    alloc: A,
+    decl: Decl<A>,
+    devices: Vec<D, A>,
+    room: u32,
+    report: bool,
+    attempts: &[u8],
+) -> Result<Vec<u8, A>, Fault<'static>>
+    ensures ok { IfOk result (λ bytes.
+        IsTraceOf decl.declaration (map D.state devices.items) (MayFail D.state) room report attempts.now bytes.items) }
+    ensures opened { OnOk result ((IsBadRoom room → ⊥) × (laws_of (map D.state devices.items) ≡ declared_laws decl.declaration)) }
+    ensures err { IfErr result (λ fault.
+        IsRefused decl.declaration (map D.state devices.items) room attempts.now (status_of fault)) }
+{
+    if let Some(fault) = refusal(alloc, &decl, &devices, room, attempts) {
+        return Err(fault);
+    }
+    match System::open(alloc, decl, devices, room) {
+        Ok(mut system) => told_by(alloc, &mut system, report, attempts),
+        Err((fault, _)) => Err(Fault::Open(fault)),
+    }
+}
+
+/// Reads attempts, steps a system over the devices through them, and writes each with its reply, one line each; then, where one is
+/// asked for, the report of the system as it is then ([`push_report`]). Nothing is written before the whole text was read. The
+/// journal has room for so many lines; an attempt without room is answered so. The cost is that of the text, of the
+/// system's opening, of a step for each attempt, and of the report.
+///
+/// `CommandRefused`: the room is 0 or above [`MOST_LINES`], or the devices aren't those of the declaration, one for each
+/// resource and of its law. `TextRefused`: the text is refused, which counts before these. `StreamFailed`: a writer failed, and
+/// what it took is unknown. `NoMemory`: memory is wanting, and a front of all this was written. A fault is one line on `err`.
+pub fn trace_to<D: Device, A: Allocator + Copy, O: Write, E: Write>(
+    alloc: A,
+    decl: Decl<A>,
+    devices: Vec<D, A>,
+    room: u32,
+    report: bool,
+    attempts: &[u8],
+    out: &mut O,
+    err: &mut E,
+) -> Status
+    // Each attempt of the text was written with a reply owed after the lines so far, then the report that was asked for, and
+    // nothing else was.
+    ensures done { result ≡ Status.Done → AppendsSome (O.contents out.old) (O.contents out.new)
+        (IsTraceOf decl.declaration (map D.state devices.items) (MayFail D.state) room report attempts.now) }
+    // Nothing is done in a room that no system has, nor over devices of other laws.
+    ensures room { IsBadRoom room → result ≢ Status.Done }
+    ensures laws { result ≡ Status.Done → laws_of (map D.state devices.items) ≡ declared_laws decl.declaration }
+    // No system is opened so, and nothing was written.
+    ensures unopened { result ≡ Status.CommandRefused
+        → Keeps (O.contents out.old) (O.contents out.new) × IsUnopened decl.declaration (map D.state devices.items) room }
+    // The text is too long or tells no attempts, and nothing was written.
+    ensures refused { result ≡ Status.TextRefused
+        → Keeps (O.contents out.old) (O.contents out.new) × IsBadText decl.declaration attempts.now }
+    // Only a front of that was written.
+    ensures memory { result ≡ Status.NoMemory → AppendsSome (O.contents out.old) (O.contents out.new)
+        (IsFrontOf (IsTraceOf decl.declaration (map D.state devices.items) (MayFail D.state) room report attempts.now)) }
+    ensures statuses { (result ≢ Status.DeclarationRefused) × (result ≢ Status.Unsound) }
+{
+    match traced(alloc, decl, devices, room, report, attempts) {
+        Ok(trace) => put_text(out, err, trace.as_slice()),
+        Err(fault) => tell(err, fault),
+    }
+}
+
+/// [`trace_to`] over the program's own devices.
+fn trace_own<A: Allocator + Copy, O: Write, E: Write>(
+    alloc: A,
+    decl: Decl<A>,
+    room: u32,
+    report: bool,
+    attempts: &[u8],
+    out: &mut O,
+    err: &mut E,
+) -> Status
+    ensures done { result ≡ Status.Done → AppendsSome (O.contents out.old) (O.contents out.new)
+        (IsTraceOf decl.declaration (own_states decl.declaration) ⊥ room report attempts.now) }
+    ensures room { IsBadRoom room → result ≢ Status.Done }
+    ensures bad_room { result ≡ Status.CommandRefused → Keeps (O.contents out.old) (O.contents out.new) × IsBadRoom room }
+    ensures refused { result ≡ Status.TextRefused
+        → Keeps (O.contents out.old) (O.contents out.new) × IsBadText decl.declaration attempts.now }
+    ensures memory { result ≡ Status.NoMemory → AppendsSome (O.contents out.old) (O.contents out.new)
+        (IsFrontOf (IsTraceOf decl.declaration (own_states decl.declaration) ⊥ room report attempts.now)) }
+    ensures statuses { (result ≢ Status.DeclarationRefused) × (result ≢ Status.Unsound) }
+{
+    match own_devices(alloc, &decl) {
+        Ok(devices) => trace_to(alloc, decl, devices, room, report, attempts, out, err),
+        Err(_) => tell(err, Fault::OutOfMemory),
+    }
+}
+
+/// Reads a declaration, and writes each attempt with its reply, and the report, as [`trace_to`] does and at its cost. The devices are
+/// [`OwnDevice`](path_shelf::OwnDevice)s: each cell and tally contains 0 at first, each queue is empty, and none fails.
+///
+/// `DeclarationRefused`: the declaration is refused. `TextRefused`: the attempts are. `CommandRefused`: the room is. At
+/// these nothing was written. `StreamFailed`: a writer failed, and what it took is unknown. `NoMemory`: memory is wanting,
+/// and a front of all this was written. A fault is one line on `err`.
+pub fn trace_bytes<A: Allocator + Copy, O: Write, E: Write>(
+    alloc: A,
+    declaration: &[u8],
+    room: u32,
+    report: bool,
+    attempts: &[u8],
+    out: &mut O,
+    err: &mut E,
+) -> Status
+    // Each attempt was written with a reply owed after the lines so far, then the report that was asked for, and nothing else.
+    ensures done { result ≡ Status.Done
+        → AppendsSome (O.contents out.old) (O.contents out.new) (IsTraceOfTexts declaration.now room report attempts.now) }
+    // The text is no declaration, and nothing was written.
+    ensures undeclared { result ≡ Status.DeclarationRefused
+        → Keeps (O.contents out.old) (O.contents out.new) × IsNoDeclaration declaration.now }
+    // Nothing is done in a room that no system has.
+    ensures room { IsBadRoom room → result ≢ Status.Done }
+    // No system has the room, and nothing was written.
+    ensures bad_room { result ≡ Status.CommandRefused → Keeps (O.contents out.old) (O.contents out.new) × IsBadRoom room }
+    // The attempts are too long or none of the declaration's, and nothing was written.
+    ensures refused { result ≡ Status.TextRefused
+        → Keeps (O.contents out.old) (O.contents out.new) × IsBadTextUnder declaration.now attempts.now }
+    // Only a front of that was written.
+    ensures memory { result ≡ Status.NoMemory
+        → AppendsSome (O.contents out.old) (O.contents out.new) (IsFrontOf (IsTraceOfTexts declaration.now room report attempts.now)) }
+    ensures statuses { result ≢ Status.Unsound }
+{
+    match read(alloc, declaration) {
+        Ok(decl) => trace_own(alloc, decl, room, report, attempts, out, err),
+        Err(fault) => tell(err, Fault::Declaration(fault)),
+    }
+}
