@@ -7,7 +7,7 @@ use path_model::{OpId, OutOfMemory, PathId};
 use path_read::read;
 use path_trim::trim;
 use refusing::Refusing;
-use std::alloc::Allocator;
+use std::alloc::{Allocator, Global};
 use std::process::Abort;
 
 // After a, one of two paths has to go on.
@@ -49,117 +49,197 @@ fn opened<A: Allocator + Copy>(
     }
 }
 
-// A start; the number of the path that blocks it, if one does. A gate asked before answers the same.
-fn start<A: Allocator + Copy>(rt: &impl Abort, gate: &mut Gate<A>, op: u32) -> Option<u32> {
+/// What happens at a gate.
+#[derive(Clone, Copy)]
+enum Event {
+    /// A start of the operation is let through.
+    Start(OpId),
+    /// A start of the operation is blocked by this path.
+    Blocked(OpId, PathId),
+    /// The operation is finished.
+    Finish(OpId),
+}
+
+const A: OpId = OpId(0);
+
+const B: OpId = OpId(1);
+
+const C: OpId = OpId(2);
+
+// A start answers so. A gate that is asked before answers the same.
+fn starts<M: Allocator + Copy>(
+    rt: &impl Abort,
+    gate: &mut Gate<M>,
+    op: OpId,
+    want: Result<(), PathId>,
+) {
     assert!(rt; gate.admitted() < 100);
-    let asked = gate.would_admit(OpId(op));
-    let answer = gate.admit(OpId(op));
-    assert_eq!(rt; asked, answer);
-    match answer {
-        Ok(()) => None,
-        Err(path) => Some(path.0),
+    assert_eq!(rt; gate.would_admit(op), want);
+    assert_eq!(rt; gate.admit(op), want);
+}
+
+fn finishes<M: Allocator + Copy>(rt: &impl Abort, gate: &mut Gate<M>, op: OpId) {
+    assert!(rt; gate.in_progress(op) > 0);
+    gate.release(op);
+}
+
+fn happens<M: Allocator + Copy>(rt: &impl Abort, gate: &mut Gate<M>, event: Event) {
+    match event {
+        Event::Start(op) => starts(rt, gate, op, Ok(())),
+        Event::Blocked(op, path) => starts(rt, gate, op, Err(path)),
+        Event::Finish(op) => finishes(rt, gate, op),
     }
 }
 
-fn finish<A: Allocator + Copy>(rt: &impl Abort, gate: &mut Gate<A>, op: u32) {
-    assert!(rt; gate.in_progress(OpId(op)) > 0);
-    gate.release(OpId(op));
+// All these events happen at the gate of the text. So many starts are then let through, and so many executions of the first
+// operation in progress.
+fn all_happen(
+    rt: &impl Abort,
+    heap: Global,
+    text: &[u8],
+    events: &[Event],
+    admitted: u32,
+    in_progress: u32,
+) {
+    let mut gate = opened(rt, heap, text).expect(rt, "memory is ample");
+    for event in events {
+        happens(rt, &mut gate, *event);
+    }
+    assert_eq!(rt; gate.admitted(), admitted);
+    assert_eq!(rt; gate.in_progress(A), in_progress);
 }
+
+const FORK_EVENTS: &[Event] = &[
+    Event::Start(A),
+    Event::Blocked(A, PathId(0)),
+    Event::Finish(A),
+    Event::Start(B),
+    Event::Finish(B),
+    Event::Blocked(A, PathId(1)),
+    Event::Start(C),
+    Event::Finish(C),
+    Event::Start(A),
+];
 
 #[test]
 fn fork_names_the_path_that_blocks(rt: HostRuntime) {
-    let mut gate = opened(&rt, rt.alloc(), FORK).expect(&rt, "memory is ample");
-    assert_eq!(rt; start(&rt, &mut gate, 0), None);
-    assert_eq!(rt; gate.would_admit(OpId(0)), Err(PathId(0)));
-    finish(&rt, &mut gate, 0);
-    assert_eq!(rt; start(&rt, &mut gate, 1), None);
-    finish(&rt, &mut gate, 1);
-    assert_eq!(rt; start(&rt, &mut gate, 0), Some(1));
-    assert_eq!(rt; start(&rt, &mut gate, 2), None);
-    finish(&rt, &mut gate, 2);
-    assert_eq!(rt; start(&rt, &mut gate, 0), None);
-    assert_eq!(rt; gate.admitted(), 4);
-    assert_eq!(rt; gate.in_progress(OpId(0)), 1);
+    all_happen(&rt, rt.alloc(), FORK, FORK_EVENTS, 4, 1);
 }
+
+const READERS_AND_A_WRITER: &[Event] = &[
+    Event::Start(A),
+    Event::Start(A),
+    Event::Blocked(B, PathId(0)),
+    Event::Finish(A),
+    Event::Blocked(B, PathId(0)),
+    Event::Finish(A),
+    Event::Start(B),
+    Event::Blocked(A, PathId(0)),
+];
 
 #[test]
 fn readers_overlap_and_keep_a_writer_out(rt: HostRuntime) {
-    let mut gate = opened(&rt, rt.alloc(), READERS_AND_WRITERS).expect(&rt, "memory is ample");
-    assert_eq!(rt; start(&rt, &mut gate, 0), None);
-    assert_eq!(rt; start(&rt, &mut gate, 0), None);
-    assert_eq!(rt; start(&rt, &mut gate, 1), Some(0));
-    finish(&rt, &mut gate, 0);
-    assert_eq!(rt; start(&rt, &mut gate, 1), Some(0));
-    finish(&rt, &mut gate, 0);
-    assert_eq!(rt; start(&rt, &mut gate, 1), None);
-    assert_eq!(rt; start(&rt, &mut gate, 0), Some(0));
+    all_happen(
+        &rt,
+        rt.alloc(),
+        READERS_AND_WRITERS,
+        READERS_AND_A_WRITER,
+        3,
+        0,
+    );
 }
+
+const CROSSING_EVENTS: &[Event] = &[
+    Event::Start(A),
+    Event::Finish(A),
+    Event::Start(A),
+    Event::Start(B),
+    Event::Blocked(B, PathId(0)),
+    Event::Finish(A),
+    Event::Start(B),
+];
 
 #[test]
 fn crossing_labels_share_their_finishes(rt: HostRuntime) {
-    let mut gate = opened(&rt, rt.alloc(), CROSSING_LABELS).expect(&rt, "memory is ample");
-    assert_eq!(rt; start(&rt, &mut gate, 0), None);
-    finish(&rt, &mut gate, 0);
-    assert_eq!(rt; start(&rt, &mut gate, 0), None);
-    assert_eq!(rt; start(&rt, &mut gate, 1), None);
-    assert_eq!(rt; start(&rt, &mut gate, 1), Some(0));
-    finish(&rt, &mut gate, 0);
-    assert_eq!(rt; start(&rt, &mut gate, 1), None);
+    all_happen(&rt, rt.alloc(), CROSSING_LABELS, CROSSING_EVENTS, 4, 0);
 }
+
+const BURST_EVENTS: &[Event] = &[
+    Event::Start(A),
+    Event::Start(A),
+    Event::Finish(A),
+    Event::Finish(A),
+    Event::Blocked(A, PathId(0)),
+    Event::Start(B),
+    Event::Finish(B),
+    Event::Start(A),
+];
 
 #[test]
 fn burst_then_b_reopens_only_after_b(rt: HostRuntime) {
-    let mut gate = opened(&rt, rt.alloc(), BURST_THEN_B).expect(&rt, "memory is ample");
-    assert_eq!(rt; start(&rt, &mut gate, 0), None);
-    assert_eq!(rt; start(&rt, &mut gate, 0), None);
-    finish(&rt, &mut gate, 0);
-    finish(&rt, &mut gate, 0);
-    assert_eq!(rt; start(&rt, &mut gate, 0), Some(0));
-    assert_eq!(rt; start(&rt, &mut gate, 1), None);
-    finish(&rt, &mut gate, 1);
-    assert_eq!(rt; start(&rt, &mut gate, 0), None);
+    all_happen(&rt, rt.alloc(), BURST_THEN_B, BURST_EVENTS, 4, 1);
 }
+
+const POOL_EVENTS: &[Event] = &[
+    Event::Start(A),
+    Event::Start(A),
+    Event::Blocked(A, PathId(0)),
+    Event::Blocked(B, PathId(0)),
+    Event::Finish(A),
+    Event::Start(A),
+    Event::Finish(A),
+    Event::Finish(A),
+    Event::Start(B),
+    Event::Blocked(A, PathId(0)),
+];
 
 #[test]
 fn pool_lets_two_in(rt: HostRuntime) {
-    let mut gate = opened(&rt, rt.alloc(), POOL).expect(&rt, "memory is ample");
-    assert_eq!(rt; start(&rt, &mut gate, 0), None);
-    assert_eq!(rt; start(&rt, &mut gate, 0), None);
-    assert_eq!(rt; start(&rt, &mut gate, 0), Some(0));
-    assert_eq!(rt; start(&rt, &mut gate, 1), Some(0));
-    finish(&rt, &mut gate, 0);
-    assert_eq!(rt; start(&rt, &mut gate, 0), None);
-    finish(&rt, &mut gate, 0);
-    finish(&rt, &mut gate, 0);
-    assert_eq!(rt; start(&rt, &mut gate, 1), None);
-    assert_eq!(rt; start(&rt, &mut gate, 0), Some(0));
+    all_happen(&rt, rt.alloc(), POOL, POOL_EVENTS, 4, 0);
 }
+
+const PIPE_EVENTS: &[Event] = &[
+    Event::Start(A),
+    Event::Finish(A),
+    Event::Start(A),
+    Event::Finish(A),
+    Event::Blocked(A, PathId(0)),
+    Event::Start(B),
+    Event::Blocked(A, PathId(0)),
+    Event::Finish(B),
+    Event::Start(A),
+];
 
 #[test]
 fn pipe_gives_its_bound_back_at_the_end(rt: HostRuntime) {
-    let mut gate = opened(&rt, rt.alloc(), PIPE).expect(&rt, "memory is ample");
-    assert_eq!(rt; start(&rt, &mut gate, 0), None);
-    finish(&rt, &mut gate, 0);
-    assert_eq!(rt; start(&rt, &mut gate, 0), None);
-    finish(&rt, &mut gate, 0);
-    assert_eq!(rt; start(&rt, &mut gate, 0), Some(0));
-    assert_eq!(rt; start(&rt, &mut gate, 1), None);
-    assert_eq!(rt; start(&rt, &mut gate, 0), Some(0));
-    finish(&rt, &mut gate, 1);
-    assert_eq!(rt; start(&rt, &mut gate, 0), None);
+    all_happen(&rt, rt.alloc(), PIPE, PIPE_EVENTS, 4, 1);
+}
+
+// Whether memory suffices for the gate.
+fn opens<M: Allocator + Copy>(rt: &impl Abort, alloc: M) -> bool {
+    match opened(rt, alloc, FORK) {
+        Ok(gate) => {
+            assert_eq!(rt; gate.would_admit(B), Err(PathId(0)));
+            true
+        }
+        Err(OutOfMemory) => false,
+    }
+}
+
+// Whether the gate is opened where this request is refused.
+fn opens_but(rt: &impl Abort, heap: Global, number: u64) -> bool {
+    let refusing = Refusing::new(heap, number);
+    let is_open = opens(rt, &refusing);
+    assert_eq!(rt; is_open, !refusing.has_refused());
+    is_open
 }
 
 #[test]
 fn each_request_of_open_is_refused(rt: HostRuntime) {
     for number in 1..400u64 {
-        let refusing = Refusing::new(rt.alloc(), number);
-        match opened(&rt, &refusing, FORK) {
-            Ok(gate) => {
-                assert!(rt; !refusing.has_refused());
-                assert_eq!(rt; gate.would_admit(OpId(1)), Err(PathId(0)));
-                return;
-            }
-            Err(OutOfMemory) => assert!(rt; refusing.has_refused()),
+        if opens_but(&rt, rt.alloc(), number) {
+            assert!(rt; number > 1);
+            return;
         }
     }
     panic!(rt; "it was never passed");

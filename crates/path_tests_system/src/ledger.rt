@@ -3,8 +3,11 @@
 use path_ledger::{EndFault, Ledger};
 use path_model::{ActId, Activation, OpId, OutOfMemory};
 use refusing::Refusing;
-use std::alloc::Allocator;
+use std::alloc::{Allocator, Global};
 use std::process::Abort;
+
+// No activation has it: it is past 32 bits.
+const NO_ACTIVATION: ActId = ActId(4294967296);
 
 // A worked example: numbers are never given twice, and a number ends once.
 fn row<A: Allocator + Copy>(rt: &impl Abort, alloc: A) -> Result<u64, OutOfMemory> {
@@ -39,36 +42,64 @@ fn ledger_wants_memory_once(rt: HostRuntime) {
     assert!(rt; !refusing.has_refused());
 }
 
+// The worker of the activation that ends.
+fn ended<A: Allocator + Copy>(ledger: &mut Ledger<A>, act: ActId) -> Option<u32> {
+    match ledger.end(act) {
+        Some(activation) => Some(activation.worker),
+        None => None,
+    }
+}
+
+// The worker of the live activation of this number.
+fn found<A: Allocator + Copy>(ledger: &Ledger<A>, act: ActId) -> Option<u32> {
+    match ledger.find(act) {
+        Some(activation) => Some(activation.worker),
+        None => None,
+    }
+}
+
+// A ledger with one activation each of workers 10, 11 and 12.
+fn three_live(rt: &impl Abort, heap: Global) -> Ledger {
+    let mut ledger = Ledger::with_room(heap, 3).expect(rt, "memory is ample");
+    let _ = ledger.begin(10, OpId(5));
+    let _ = ledger.begin(11, OpId(6));
+    let _ = ledger.begin(12, OpId(7));
+    ledger
+}
+
 #[test]
 fn second_finish_ends_none(rt: HostRuntime) {
-    let Ok(mut ledger) = Ledger::with_room(rt.alloc(), 3) else {
-        panic!(rt; "out of memory");
-    };
-    let _ = ledger.begin(10, OpId(5));
-    let _ = ledger.begin(11, OpId(5));
-    let _ = ledger.begin(12, OpId(5));
-    assert_eq!(rt; ledger.end(ActId(1)).map(|a| a.worker), Some(11));
-    assert_eq!(rt; ledger.end(ActId(1)).map(|a| a.worker), None);
-    assert_eq!(rt; ledger.find(ActId(1)).map(|a| a.worker), None);
-    assert_eq!(rt; ledger.find(ActId(2)).map(|a| a.worker), Some(12));
-    assert_eq!(rt; ledger.find(ActId(4294967296)).map(|a| a.worker), None);
+    let mut ledger = three_live(&rt, rt.alloc());
+    assert_eq!(rt; ended(&mut ledger, ActId(1)), Some(11));
+    assert_eq!(rt; ended(&mut ledger, ActId(1)), None);
+    assert_eq!(rt; found(&ledger, ActId(1)), None);
+    assert_eq!(rt; found(&ledger, ActId(2)), Some(12));
+    assert_eq!(rt; found(&ledger, NO_ACTIVATION), None);
     assert_eq!(rt; ledger.live().len(), 2);
+}
+
+// The operation of the activation that the worker ends as its own.
+fn ended_own<A: Allocator + Copy>(
+    ledger: &mut Ledger<A>,
+    worker: u32,
+    act: ActId,
+) -> Result<OpId, EndFault> {
+    match ledger.end_own(worker, act) {
+        Ok(activation) => Ok(activation.op),
+        Err(fault) => Err(fault),
+    }
 }
 
 #[test]
 fn only_its_own_worker_ends_it(rt: HostRuntime) {
-    let Ok(mut ledger) = Ledger::with_room(rt.alloc(), 2) else {
-        panic!(rt; "out of memory");
-    };
-    let _ = ledger.begin(1, OpId(0));
-    let _ = ledger.begin(2, OpId(1));
-    assert_eq!(rt; ledger.end_own(2, ActId(0)).err(), Some(EndFault::NotYours));
-    assert_eq!(rt; ledger.end_own(1, ActId(2)).err(), Some(EndFault::Stale));
-    assert_eq!(rt; ledger.live().len(), 2);
+    let mut ledger = three_live(&rt, rt.alloc());
     assert_eq!(rt;
-        ledger.end_own(1, ActId(0)).ok().map(|a| a.op),
-        Some(OpId(0))
+        ended_own(&mut ledger, 11, ActId(0)),
+        Err(EndFault::NotYours)
     );
-    assert_eq!(rt; ledger.end_own(1, ActId(0)).err(), Some(EndFault::Stale));
-    assert_eq!(rt; ledger.live().len(), 1);
+    assert_eq!(rt; ended_own(&mut ledger, 10, ActId(3)), Err(EndFault::Stale));
+    assert_eq!(rt; ledger.live().len(), 3);
+    assert_eq!(rt; ended_own(&mut ledger, 10, ActId(0)), Ok(OpId(5)));
+    assert_eq!(rt; ended_own(&mut ledger, 10, ActId(0)), Err(EndFault::Stale));
+    assert_eq!(rt; ledger.live().len(), 2);
 }

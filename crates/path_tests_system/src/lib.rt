@@ -2,6 +2,8 @@
 #![tactic(auto)]
 
 #[cfg(test)]
+mod boxes;
+#[cfg(test)]
 mod devices;
 #[cfg(test)]
 mod gate;
@@ -12,6 +14,10 @@ mod opening;
 #[cfg(test)]
 mod own;
 #[cfg(test)]
+mod replacing;
+#[cfg(test)]
 mod report;
+#[cfg(test)]
+mod stepping;
 #[cfg(test)]
 mod system;

@@ -1,115 +1,177 @@
-//! Systems that aren't opened: the devices come back.
+//! Systems that aren't opened: the boxes come back, in order and with equal contents.
 
-use crate::devices::{ONLY, SLOT, declared};
-use path_model::OutOfMemory;
-use path_read::read;
-use path_shelf::{Cell, Device, Tally};
-use path_system::{OpenFault, System};
+use crate::boxes::{AnyDevice, cell, queue, tally};
+use crate::stepping::{ROOM, SLOT, declared, lines, row_of, tried};
+use path_decl::Decl;
+use path_model::{MOST_LINES, ResId};
+use path_shelf::Device;
+use path_system::OpenFault;
 use refusing::Refusing;
-use std::alloc::Global;
+use std::alloc::{Allocator, Global};
 use std::process::Abort;
-use std::test::Fail;
 
-// These devices make no system of the slot, and come back: each shows its number.
+/// A cell, a tally and a queue.
+const THREE: &[u8] =
+    b"resource r cell operation a end resource s tally operation b end resource t queue 3 operation c end";
+
+// The device contains these numbers and no more.
+fn shows<D: Device>(rt: &impl Abort, device: &D, numbers: &[u64]) {
+    let mut place = 0u32;
+    for number in numbers {
+        assert_eq!(rt; device.at(place), Some(*number));
+        place = place.saturating_add(1);
+    }
+    assert_eq!(rt; device.at(place), None);
+}
+
+// The devices contain these numbers, one after the other.
+fn show<D: Device>(rt: &impl Abort, devices: &[D], contents: &[&[u64]]) {
+    assert_eq!(rt; devices.len(), contents.len());
+    for (device, numbers) in devices.iter().zip(contents) {
+        shows(rt, device, numbers);
+    }
+}
+
+// These devices make no system of the text in this room, and come back.
 fn refused<D: Device>(
     rt: &impl Abort,
-    alloc: Global,
+    heap: Global,
+    text: &[u8],
     devices: Vec<D>,
     room: u32,
     want: OpenFault,
-    numbers: &[u64],
+    contents: &[&[u64]],
 ) {
-    match System::open(alloc, declared(rt, alloc, SLOT), devices, room) {
+    let decl = declared(rt, heap, text).expect(rt, "memory is ample");
+    match tried(heap, decl, devices, room) {
         Ok(_) => panic!(rt; "it was opened"),
         Err((fault, back)) => {
             assert_eq!(rt; fault, want);
-            assert_eq!(rt; back.len(), numbers.len());
-            for (device, number) in back.iter().zip(numbers) {
-                assert_eq!(rt; device.at(0), Some(*number));
-            }
+            show(rt, &back, contents);
         }
     }
+}
+
+// A cell behind the slot is refused in this room.
+fn bad_room(rt: &impl Abort, heap: Global, room: u32) {
+    let devices = row_of(rt, heap, [cell(rt, heap, 7)]);
+    refused(rt, heap, SLOT, devices, room, OpenFault::BadRoom, &[&[7]]);
 }
 
 #[test]
-fn open_refusals(rt: HostRuntime) -> Result<(), Fail> {
-    let alloc = rt.alloc();
-    refused(
-        &rt,
-        alloc,
-        Vec::from_array(alloc, [Cell::new(7)])?,
-        0,
-        OpenFault::BadRoom,
-        &[7],
-    );
-    refused(
-        &rt,
-        alloc,
-        Vec::from_array(alloc, [Tally::new(7), Tally::new(8)])?,
-        0,
-        OpenFault::BadRoom,
-        &[7, 8],
-    );
-    let none: Vec<Cell> = Vec::new(alloc);
-    refused(&rt, alloc, none, 4096, OpenFault::WrongCount, &[]);
-    refused(
-        &rt,
-        alloc,
-        Vec::from_array(alloc, [Tally::new(7), Tally::new(8)])?,
-        4096,
-        OpenFault::WrongCount,
-        &[7, 8],
-    );
-    refused(
-        &rt,
-        alloc,
-        Vec::from_array(alloc, [Tally::new(7)])?,
-        4096,
-        OpenFault::WrongDevice(ONLY),
-        &[7],
-    );
-    Ok(())
+fn bad_rooms(rt: HostRuntime) {
+    bad_room(&rt, rt.alloc(), 0);
+    bad_room(&rt, rt.alloc(), MOST_LINES + 1);
+    bad_room(&rt, rt.alloc(), u32::MAX);
 }
 
-// Whether a slot over one cell was opened; where memory was wanting for that, the cell has come back.
-fn opens(rt: &impl Abort, refusing: &Refusing<Global>) -> Result<bool, OutOfMemory> {
-    let decl = match read(refusing, SLOT) {
-        Ok(decl) => decl,
-        Err(_) => return Err(OutOfMemory),
-    };
-    let devices = Vec::from_array(refusing, [Cell::new(5)])?;
-    match System::open(refusing, decl, devices, 4096) {
-        Ok(system) => {
-            assert!(rt; system.journal().is_empty());
-            Ok(true)
-        }
+// Two tallies behind the slot are refused, for this in this room.
+fn two_tallies(rt: &impl Abort, heap: Global, room: u32, want: OpenFault) {
+    let devices = row_of(rt, heap, [tally(rt, heap, 7), tally(rt, heap, 8)]);
+    refused(rt, heap, SLOT, devices, room, want, &[&[7], &[8]]);
+}
+
+#[test]
+fn wrong_counts(rt: HostRuntime) {
+    let none: [AnyDevice; 0] = [];
+    let devices = row_of(&rt, rt.alloc(), none);
+    refused(
+        &rt,
+        rt.alloc(),
+        SLOT,
+        devices,
+        ROOM,
+        OpenFault::WrongCount,
+        &[],
+    );
+    two_tallies(&rt, rt.alloc(), ROOM, OpenFault::WrongCount);
+    // A bad room is told first.
+    two_tallies(&rt, rt.alloc(), 0, OpenFault::BadRoom);
+}
+
+#[test]
+fn another_law(rt: HostRuntime) {
+    let devices = row_of(&rt, rt.alloc(), [tally(&rt, rt.alloc(), 7)]);
+    let want = OpenFault::WrongDevice(ResId(0));
+    refused(&rt, rt.alloc(), SLOT, devices, ROOM, want, &[&[7]]);
+}
+
+// Three devices, of which that of this resource has another law.
+fn one_of_another_law<D: Device>(rt: &impl Abort, heap: Global, devices: [D; 3], resource: ResId) {
+    let devices = row_of(rt, heap, devices);
+    let want = OpenFault::WrongDevice(resource);
+    refused(rt, heap, THREE, devices, ROOM, want, &[&[4], &[8], &[5, 6]]);
+}
+
+#[test]
+fn second_of_another_law(rt: HostRuntime) {
+    let heap = rt.alloc();
+    let devices = [
+        cell(&rt, heap, 4),
+        cell(&rt, heap, 8),
+        queue(&rt, heap, 3, &[5, 6]),
+    ];
+    one_of_another_law(&rt, heap, devices, ResId(1));
+}
+
+#[test]
+fn queue_of_another_capacity(rt: HostRuntime) {
+    let heap = rt.alloc();
+    let devices = [
+        cell(&rt, heap, 4),
+        tally(&rt, heap, 8),
+        queue(&rt, heap, 2, &[5, 6]),
+    ];
+    one_of_another_law(&rt, heap, devices, ResId(2));
+}
+
+// Whether a system of the devices is opened. Where memory is wanting for that, they come back.
+fn opens<D: Device, A: Allocator + Copy>(
+    rt: &impl Abort,
+    alloc: A,
+    decl: Decl<A>,
+    devices: Vec<D, A>,
+    contents: &[&[u64]],
+) -> bool {
+    match tried(alloc, decl, devices, ROOM) {
+        Ok(system) => lines(&system) == 0,
         Err((fault, back)) => {
             assert_eq!(rt; fault, OpenFault::OutOfMemory);
-            assert_eq!(rt; back.len(), 1);
-            for device in &back {
-                assert_eq!(rt; device.at(0), Some(5));
-            }
-            Ok(false)
+            show(rt, &back, contents);
+            false
         }
     }
+}
+
+// Whether a system of the devices is opened where this request of its opening is refused.
+fn opens_but<D: Device>(
+    rt: &impl Abort,
+    heap: Global,
+    devices: [D; 3],
+    number: u64,
+    contents: &[&[u64]],
+) -> bool {
+    let ample = Refusing::new(heap, 0);
+    let refusing = Refusing::new(heap, number);
+    let decl = declared(rt, &ample, THREE).expect(rt, "memory is ample");
+    let devices = row_of(rt, &ample, devices);
+    let is_open = opens(rt, &refusing, decl, devices, contents);
+    assert_eq!(rt; is_open, !refusing.has_refused());
+    is_open
 }
 
 #[test]
 fn each_request_of_open_is_refused(rt: HostRuntime) {
-    let mut refused = 0u32;
+    let heap = rt.alloc();
     for number in 1..1000u64 {
-        let refusing = Refusing::new(rt.alloc(), number);
-        match opens(&rt, &refusing) {
-            Ok(true) => {
-                assert!(rt; !refusing.has_refused());
-                assert!(rt; refused > 5);
-                return;
-            }
-            Ok(false) => {
-                assert!(rt; refusing.has_refused());
-                refused = refused.saturating_add(1);
-            }
-            Err(OutOfMemory) => assert!(rt; refusing.has_refused()),
+        let devices = [
+            cell(&rt, heap, 4),
+            tally(&rt, heap, 5),
+            queue(&rt, heap, 3, &[6, 7]),
+        ];
+        if opens_but(&rt, heap, devices, number, &[&[4], &[5], &[6, 7]]) {
+            assert!(rt; number > 5);
+            return;
         }
     }
     panic!(rt; "never passed");

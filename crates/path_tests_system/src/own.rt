@@ -1,6 +1,7 @@
 //! Devices of the tests' own.
 
-ghost use Rattle.std.specs.Prelude.{[], ◌∷◌};
+ghost use Rattle.std.specs.Prelude.{◌≡◌, [], ◌∷◌, IsTrue};
+ghost use Rattle.path_shelf.specs.States.{IsCounted};
 ghost use Rattle.path_model.specs.declared.resource.Law.TheVariants as laws;
 
 use path_model::{Law, Verb};
@@ -49,19 +50,35 @@ impl Device for Counted {
     }
 }
 
-/// A cell that fails at its first use that its law would serve, after so many failures.
+/// A tally that fails once, at the use of this number among those that its law would serve, counted from 1.
 #[derive(Drop)]
-pub struct FailingCell {
-    pub number: u64,
-    pub fails: bool,
+pub struct FailingTally {
+    pub total: u64,
+    pub uses: u64,
+    pub fails_at: u64,
     pub failures: u64,
 }
 
-impl Device for FailingCell {
-    ghost state = { λ c. record { law = laws.Cell; contents = c.number ∷ []; failures = c.failures } };
+impl FailingTally {
+    // Counts a use, and says whether it fails.
+    fn fails(&mut self) -> bool
+        ensures total { self.new.total ≡ self.old.total }
+        ensures counted { IsTrue result → IsCounted self.old.failures self.new.failures }
+    {
+        self.uses = self.uses.saturating_add(1);
+        if self.uses == self.fails_at {
+            self.failures = self.failures.saturating_add(1);
+            return true;
+        }
+        false
+    }
+}
+
+impl Device for FailingTally {
+    ghost state = { λ t. record { law = laws.Tally; contents = t.total ∷ []; failures = t.failures } };
 
     fn law(&self) -> Law {
-        Law::Cell
+        Law::Tally
     }
 
     fn failures(&self) -> u64 {
@@ -69,22 +86,22 @@ impl Device for FailingCell {
     }
 
     fn at(&self, place: u32) -> Option<u64> {
-        if place == 0 { Some(self.number) } else { None }
+        if place == 0 { Some(self.total) } else { None }
     }
 
     fn act(&mut self, verb: Verb) -> Result<u64, ActFault> {
-        let held = self.number;
-        let left = match verb {
-            Verb::Put(number) => number,
-            Verb::Look => held,
-            Verb::Take | Verb::Add(_) => return Err(ActFault::NotOffered),
+        let sum = match verb {
+            Verb::Look => Some(self.total),
+            Verb::Add(number) => self.total.checked_add(number),
+            Verb::Put(_) | Verb::Take => return Err(ActFault::NotOffered),
         };
-        if self.fails {
-            self.fails = false;
-            self.failures = self.failures.saturating_add(1);
+        let Some(total) = sum else {
+            return Err(ActFault::Overflow);
+        };
+        if self.fails() {
             return Err(ActFault::Failed);
         }
-        self.number = left;
-        Ok(held)
+        self.total = total;
+        Ok(total)
     }
 }

@@ -1,12 +1,11 @@
 //! Reports of what a system can do next.
 
-use path_lex::DeclFault;
+use crate::stepping::{Step, opened, row_of, steps};
 use path_model::{ActId, Activation, Attempt, OpId, OutOfMemory, PathId, Reply};
-use path_read::read;
 use path_shelf::Cell;
-use path_system::{OpenFault, Report, System};
+use path_system::{Report, System};
 use refusing::Refusing;
-use std::alloc::Allocator;
+use std::alloc::{Allocator, Global};
 use std::process::Abort;
 
 const BOOK: &[u8] = b"resource book cell operation read, write path { read } , write end end";
@@ -18,105 +17,154 @@ const READ: Attempt = Attempt::Start(OpId(0));
 
 const WRITE: Attempt = Attempt::Start(OpId(1));
 
-// The report on a system over one cell after the steps, each of which is answered as told.
-fn report_after<A: Allocator + Copy>(
+/// What a report tells.
+struct Told<'a> {
+    startable: &'a [OpId],
+    blocked: &'a [(OpId, PathId)],
+    live: &'a [Activation],
+    frozen: bool,
+}
+
+// A system over one cell, after the steps, each of which is answered as told.
+fn after<A: Allocator + Copy>(
     rt: &impl Abort,
     alloc: A,
     text: &[u8],
-    steps: &[(u32, Attempt, Reply)],
+    rows: &[Step],
+) -> System<Cell, A> {
+    let mut system = opened(rt, alloc, text, row_of(rt, alloc, [Cell::new(0)]));
+    steps(rt, &mut system, rows);
+    system
+}
+
+// What the system reports.
+fn reported<A: Allocator + Copy>(
+    system: &System<Cell, A>,
+    alloc: A,
 ) -> Result<Report<A>, OutOfMemory> {
-    let decl = match read(alloc, text) {
-        Ok(decl) => decl,
-        Err(fault) => {
-            assert_eq!(rt; fault, DeclFault::OutOfMemory);
-            return Err(OutOfMemory);
-        }
-    };
-    let mut devices = Vec::new(alloc);
-    devices.push(Cell::new(0)).map_err(|_| OutOfMemory)?;
-    let mut system = match System::open(alloc, decl, devices, 64) {
-        Ok(system) => system,
-        Err((fault, _)) => {
-            assert_eq!(rt; fault, OpenFault::OutOfMemory);
-            return Err(OutOfMemory);
-        }
-    };
-    for (worker, attempt, reply) in steps {
-        assert_eq!(rt; system.step(*worker, *attempt), *reply);
-    }
     system.report(alloc)
 }
 
-#[test]
-fn nothing_attempted(rt: HostRuntime) {
-    let Ok(report) = report_after(&rt, rt.alloc(), BOOK, &[]) else {
-        panic!(rt; "out of memory");
-    };
-    assert_eq!(rt; report.startable.as_slice(), [OpId(0), OpId(1)].as_slice());
-    assert!(rt; report.blocked.is_empty());
-    assert!(rt; report.live.is_empty());
-    assert!(rt; !report.frozen);
+fn tells<A: Allocator + Copy>(rt: &impl Abort, report: &Report<A>, want: &Told<'_>) {
+    assert_eq!(rt; report.startable.as_slice(), want.startable);
+    assert_eq!(rt; report.blocked.as_slice(), want.blocked);
+    assert_eq!(rt; report.live.as_slice(), want.live);
+    assert_eq!(rt; report.frozen, want.frozen);
 }
 
+// Whether a report is made, which then tells this.
+fn is_told<A: Allocator + Copy>(
+    rt: &impl Abort,
+    alloc: A,
+    system: &System<Cell, A>,
+    want: &Told<'_>,
+) -> bool {
+    match reported(system, alloc) {
+        Ok(report) => {
+            tells(rt, &report, want);
+            true
+        }
+        Err(OutOfMemory) => false,
+    }
+}
+
+// After the steps the report tells this.
+fn reports(rt: &impl Abort, heap: Global, text: &[u8], rows: &[Step], want: &Told<'_>) {
+    let system = after(rt, heap, text, rows);
+    assert!(rt; is_told(rt, heap, &system, want));
+}
+
+const UNATTEMPTED: Told<'static> = Told {
+    startable: &[OpId(0), OpId(1)],
+    blocked: &[],
+    live: &[],
+    frozen: false,
+};
+
 #[test]
-fn readers_and_writers(rt: HostRuntime) {
-    let steps = [
-        (1, READ, Reply::Started(ActId(0))),
-        (2, READ, Reply::Started(ActId(1))),
-        (3, WRITE, Reply::Blocked(PathId(0))),
-        (1, Attempt::Finish(ActId(0)), Reply::Finished),
-        (3, WRITE, Reply::Blocked(PathId(0))),
-        (2, Attempt::Finish(ActId(1)), Reply::Finished),
-        (3, WRITE, Reply::Started(ActId(2))),
-        (1, READ, Reply::Blocked(PathId(0))),
-    ];
-    let Ok(report) = report_after(&rt, rt.alloc(), BOOK, &steps) else {
-        panic!(rt; "out of memory");
-    };
-    let writer = Activation {
+fn nothing_attempted(rt: HostRuntime) {
+    reports(&rt, rt.alloc(), BOOK, &[], &UNATTEMPTED);
+}
+
+const WRITTEN_LAST: &[Step] = &[
+    (1, READ, Reply::Started(ActId(0))),
+    (2, READ, Reply::Started(ActId(1))),
+    (3, WRITE, Reply::Blocked(PathId(0))),
+    (1, Attempt::Finish(ActId(0)), Reply::Finished),
+    (3, WRITE, Reply::Blocked(PathId(0))),
+    (2, Attempt::Finish(ActId(1)), Reply::Finished),
+    (3, WRITE, Reply::Started(ActId(2))),
+    (1, READ, Reply::Blocked(PathId(0))),
+];
+
+const WRITING: Told<'static> = Told {
+    startable: &[],
+    blocked: &[(OpId(0), PathId(0)), (OpId(1), PathId(0))],
+    live: &[Activation {
         act: ActId(2),
         worker: 3,
         op: OpId(1),
-    };
-    assert!(rt; report.startable.is_empty());
-    assert_eq!(rt;
-        report.blocked.as_slice(),
-        [(OpId(0), PathId(0)), (OpId(1), PathId(0))].as_slice()
-    );
-    assert_eq!(rt; report.live.as_slice(), [writer].as_slice());
-    assert!(rt; !report.frozen);
+    }],
+    frozen: false,
+};
+
+#[test]
+fn readers_and_writers(rt: HostRuntime) {
+    reports(&rt, rt.alloc(), BOOK, WRITTEN_LAST, &WRITING);
 }
+
+const KNOT_STEPS: &[Step] = &[
+    (1, READ, Reply::Blocked(PathId(1))),
+    (1, WRITE, Reply::Blocked(PathId(0))),
+];
+
+const FROZEN: Told<'static> = Told {
+    startable: &[],
+    blocked: &[(OpId(0), PathId(1)), (OpId(1), PathId(0))],
+    live: &[],
+    frozen: true,
+};
 
 #[test]
 fn knot_is_frozen(rt: HostRuntime) {
-    let steps = [
-        (1, READ, Reply::Blocked(PathId(1))),
-        (1, WRITE, Reply::Blocked(PathId(0))),
-    ];
-    let Ok(report) = report_after(&rt, rt.alloc(), KNOT, &steps) else {
-        panic!(rt; "out of memory");
-    };
-    assert!(rt; report.startable.is_empty());
-    assert_eq!(rt;
-        report.blocked.as_slice(),
-        [(OpId(0), PathId(1)), (OpId(1), PathId(0))].as_slice()
-    );
-    assert!(rt; report.live.is_empty());
-    assert!(rt; report.frozen);
+    reports(&rt, rt.alloc(), KNOT, KNOT_STEPS, &FROZEN);
+}
+
+const READ_ONCE: &[Step] = &[(1, READ, Reply::Started(ActId(0)))];
+
+const READING: Told<'static> = Told {
+    startable: &[OpId(0)],
+    blocked: &[(OpId(1), PathId(0))],
+    live: &[Activation {
+        act: ActId(0),
+        worker: 1,
+        op: OpId(0),
+    }],
+    frozen: false,
+};
+
+const READ_AGAIN: &[Step] = &[
+    (2, READ, Reply::Started(ActId(1))),
+    (1, Attempt::Finish(ActId(0)), Reply::Finished),
+];
+
+// Whether a report is made where this request of it is refused. The system goes on all the same.
+fn is_made(rt: &impl Abort, heap: Global, number: u64) -> bool {
+    let ample = Refusing::new(heap, 0);
+    let refusing = Refusing::new(heap, number);
+    let mut system = after(rt, &ample, BOOK, READ_ONCE);
+    let made = is_told(rt, &refusing, &system, &READING);
+    assert_eq!(rt; made, !refusing.has_refused());
+    steps(rt, &mut system, READ_AGAIN);
+    made
 }
 
 #[test]
 fn each_request_of_a_report_is_refused(rt: HostRuntime) {
-    for number in 1..1000u64 {
-        let refusing = Refusing::new(rt.alloc(), number);
-        match report_after(&rt, &refusing, KNOT, &[]) {
-            Ok(report) => {
-                assert!(rt; !refusing.has_refused());
-                assert!(rt; number > 1);
-                assert!(rt; report.frozen);
-                return;
-            }
-            Err(OutOfMemory) => assert!(rt; refusing.has_refused()),
+    for number in 1..100u64 {
+        if is_made(&rt, rt.alloc(), number) {
+            assert!(rt; number > 3);
+            return;
         }
     }
     panic!(rt; "never passed");

@@ -1,0 +1,68 @@
+//! Devices in boxes.
+
+use crate::own::{Counted, FailingTally};
+use path_model::Verb;
+use path_shelf::{Cell, Device, Queue, Tally};
+use std::alloc::Global;
+use std::process::Abort;
+use std::sync::Arc;
+use std::sync::atomic::AtomicU32;
+
+/// A device of any kind.
+pub(crate) type AnyDevice = Box<dyn Device + Send>;
+
+pub(crate) fn cell(rt: &impl Abort, alloc: Global, number: u64) -> AnyDevice {
+    Box::new(alloc, Cell::new(number)).expect(rt, "memory is ample")
+}
+
+pub(crate) fn tally(rt: &impl Abort, alloc: Global, total: u64) -> AnyDevice {
+    Box::new(alloc, Tally::new(total)).expect(rt, "memory is ample")
+}
+
+// Puts these numbers into the device.
+fn fill<D: Device>(rt: &impl Abort, device: &mut D, numbers: &[u64]) {
+    for number in numbers {
+        assert!(rt; device.act(Verb::Put(*number)).is_ok());
+    }
+}
+
+/// A queue of so many places, which contains these numbers.
+pub(crate) fn queue(rt: &impl Abort, alloc: Global, places: u32, numbers: &[u64]) -> AnyDevice {
+    assert!(rt; 1 <= places && places <= 1024);
+    let mut queue = Queue::new(alloc, places).expect(rt, "memory is ample");
+    fill(rt, &mut queue, numbers);
+    Box::new(alloc, queue).expect(rt, "memory is ample")
+}
+
+/// A tally that fails at the use of this number, after so many failures.
+pub(crate) fn failing_tally(
+    rt: &impl Abort,
+    alloc: Global,
+    total: u64,
+    fails_at: u64,
+    failures: u64,
+) -> AnyDevice {
+    let tally = FailingTally {
+        total,
+        uses: 0,
+        fails_at,
+        failures,
+    };
+    Box::new(alloc, tally).expect(rt, "memory is ample")
+}
+
+/// A cell that counts its drops.
+pub(crate) fn counted(
+    rt: &impl Abort,
+    alloc: Global,
+    number: u64,
+    drops: &Arc<AtomicU32>,
+) -> AnyDevice {
+    let drops = drops.clone().expect(rt, "clones are few");
+    Box::new(alloc, Counted { number, drops }).expect(rt, "memory is ample")
+}
+
+/// A counter that stands at 0.
+pub(crate) fn counter(rt: &impl Abort, alloc: Global) -> Arc<AtomicU32> {
+    Arc::new(alloc, AtomicU32::new(0)).expect(rt, "memory is ample")
+}

@@ -1,0 +1,222 @@
+//! Systems over boxes: whose devices are replaced and dropped, and when.
+
+use crate::boxes::{cell, counted, counter, failing_tally, queue, tally};
+use crate::stepping::{ONLY, SLOT, Step, alone, contains, opened, row_of, steps};
+use path_decl::counts;
+use path_model::{ActId, Attempt, OpId, Reply, Verb};
+use path_shelf::Device;
+use path_system::{ReplaceFault, System};
+use std::alloc::Global;
+use std::process::Abort;
+use std::sync::atomic::{AtomicU32, Ordering};
+
+/// A queue of two places.
+const PAIR: &[u8] = b"resource q queue 2 operation a end";
+
+/// A tally.
+const SUM: &[u8] = b"resource t tally operation a end";
+
+const DEPOSIT: Attempt = Attempt::Start(OpId(0));
+
+const REMOVE: Attempt = Attempt::Start(OpId(1));
+
+const DEPOSITING: &[Step] = &[(1, DEPOSIT, Reply::Started(ActId(0)))];
+
+const DEPOSITED: &[Step] = &[(1, Attempt::Finish(ActId(0)), Reply::Finished)];
+
+const REMOVING: &[Step] = &[
+    (1, REMOVE, Reply::Started(ActId(1))),
+    (1, Attempt::Apply(ActId(1), Verb::Look), Reply::Used(9)),
+];
+
+const REMOVED: &[Step] = &[(1, Attempt::Finish(ActId(1)), Reply::Finished)];
+
+// What it answers to replace the device of the only resource.
+fn replaced<D: Device>(
+    rt: &impl Abort,
+    system: &mut System<D>,
+    device: D,
+) -> Result<(), (ReplaceFault, D)> {
+    assert_eq!(rt; counts(system.decl()).resources, 1);
+    system.replace(ONLY, device)
+}
+
+// The device of the only resource is replaced, or refused for this.
+fn replaces<D: Device>(
+    rt: &impl Abort,
+    system: &mut System<D>,
+    device: D,
+    want: Result<(), ReplaceFault>,
+) {
+    let number = device.at(0);
+    match replaced(rt, system, device) {
+        Ok(()) => assert_eq!(rt; want, Ok(())),
+        Err((fault, back)) => {
+            assert_eq!(rt; want, Err(fault));
+            assert_eq!(rt; back.at(0), number);
+        }
+    }
+}
+
+// The same with the last of these devices.
+fn replaces_next<D: Device>(
+    rt: &impl Abort,
+    system: &mut System<D>,
+    others: &mut Vec<D>,
+    want: Result<(), ReplaceFault>,
+) {
+    let device = others.pop().expect(rt, "there is one left");
+    replaces(rt, system, device, want);
+}
+
+// The system is closed, and gives so many lines.
+fn closes<D: Device>(rt: &impl Abort, system: System<D>, lines: usize) {
+    match system.close() {
+        Ok(journal) => assert_eq!(rt; journal.len(), lines),
+        Err(_) => panic!(rt; "something is live"),
+    }
+}
+
+// The system isn't closed.
+fn stays_open<D: Device>(rt: &impl Abort, system: System<D>) -> System<D> {
+    match system.close() {
+        Ok(_) => panic!(rt; "nothing is live"),
+        Err(system) => system,
+    }
+}
+
+// The slot with a deposit that was live and is over.
+fn deposited<D: Device>(rt: &impl Abort, system: System<D>) -> System<D> {
+    let mut system = system;
+    steps(rt, &mut system, DEPOSITING);
+    let mut system = stays_open(rt, system);
+    steps(rt, &mut system, DEPOSITED);
+    system
+}
+
+// A slot with a cell is closed, which drops the cell; none is dropped before.
+fn drops_at_the_end<D: Device>(rt: &impl Abort, alloc: Global, cell: D, drops: &AtomicU32) {
+    let system = opened(rt, alloc, SLOT, alone(rt, alloc, cell));
+    let system = deposited(rt, system);
+    assert_eq!(rt; drops.load(Ordering::SeqCst), 0);
+    closes(rt, system, 2);
+    assert_eq!(rt; drops.load(Ordering::SeqCst), 1);
+}
+
+#[test]
+fn closing_drops_each_device_once(rt: HostRuntime) {
+    let drops = counter(&rt, rt.alloc());
+    let cell = counted(&rt, rt.alloc(), 3, &drops);
+    drops_at_the_end(&rt, rt.alloc(), cell, &drops);
+    assert_eq!(rt; drops.load(Ordering::SeqCst), 1);
+}
+
+// While a deposit is live, the cell of the slot isn't replaced, and afterwards only by a cell.
+fn kept<D: Device>(rt: &impl Abort, system: System<D>, others: &mut Vec<D>) -> System<D> {
+    let mut system = system;
+    steps(rt, &mut system, DEPOSITING);
+    replaces_next(rt, &mut system, others, Err(ReplaceFault::Busy));
+    let mut system = stays_open(rt, system);
+    steps(rt, &mut system, DEPOSITED);
+    replaces_next(rt, &mut system, others, Err(ReplaceFault::OtherLaw));
+    contains(rt, &system, &[0]);
+    system
+}
+
+// Once its device was asked, the slot keeps it.
+fn kept_to_the_end<D: Device>(rt: &impl Abort, system: System<D>, others: &mut Vec<D>) {
+    let mut system = system;
+    steps(rt, &mut system, REMOVING);
+    replaces_next(rt, &mut system, others, Err(ReplaceFault::Busy));
+    steps(rt, &mut system, REMOVED);
+    replaces_next(rt, &mut system, others, Err(ReplaceFault::Used));
+    contains(rt, &system, &[9]);
+    closes(rt, system, 5);
+}
+
+// A slot with a cell, which is replaced by another cell before it is asked, and never after that.
+fn replaces_and_closes<D: Device>(
+    rt: &impl Abort,
+    alloc: Global,
+    first: D,
+    others: &mut Vec<D>,
+    drops: &AtomicU32,
+) {
+    let system = opened(rt, alloc, SLOT, alone(rt, alloc, first));
+    let mut system = kept(rt, system, others);
+    assert_eq!(rt; drops.load(Ordering::SeqCst), 0);
+    replaces_next(rt, &mut system, others, Ok(()));
+    assert_eq!(rt; drops.load(Ordering::SeqCst), 1);
+    contains(rt, &system, &[9]);
+    kept_to_the_end(rt, system, others);
+}
+
+#[test]
+fn replace_and_close(rt: HostRuntime) {
+    let heap = rt.alloc();
+    let drops = counter(&rt, heap);
+    let first = counted(&rt, heap, 0, &drops);
+    // The last is tried first.
+    let others = [
+        cell(&rt, heap, 1),
+        cell(&rt, heap, 1),
+        cell(&rt, heap, 9),
+        tally(&rt, heap, 2),
+        cell(&rt, heap, 4),
+    ];
+    let mut others = row_of(&rt, heap, others);
+    replaces_and_closes(&rt, heap, first, &mut others, &drops);
+    assert!(rt; others.is_empty());
+    assert_eq!(rt; drops.load(Ordering::SeqCst), 1);
+}
+
+// A queue is replaced by one with these numbers, and then by an empty one, but not by one of another capacity.
+fn replaces_queues<D: Device>(rt: &impl Abort, alloc: Global, first: D, queues: &mut Vec<D>) {
+    let mut system = opened(rt, alloc, PAIR, alone(rt, alloc, first));
+    replaces_next(rt, &mut system, queues, Ok(()));
+    contains(rt, &system, &[5, 6]);
+    replaces_next(rt, &mut system, queues, Err(ReplaceFault::OtherLaw));
+    contains(rt, &system, &[5, 6]);
+    replaces_next(rt, &mut system, queues, Ok(()));
+    contains(rt, &system, &[]);
+}
+
+#[test]
+fn queues_are_replaced(rt: HostRuntime) {
+    let heap = rt.alloc();
+    let first = queue(&rt, heap, 2, &[]);
+    // The last is tried first.
+    let queues = [
+        queue(&rt, heap, 2, &[]),
+        queue(&rt, heap, 1, &[]),
+        queue(&rt, heap, 2, &[5, 6]),
+    ];
+    let mut queues = row_of(&rt, heap, queues);
+    replaces_queues(&rt, heap, first, &mut queues);
+    assert!(rt; queues.is_empty());
+}
+
+const FAILED: &[Step] = &[
+    (1, Attempt::Start(OpId(0)), Reply::Started(ActId(0))),
+    (
+        1,
+        Attempt::Apply(ActId(0), Verb::Add(2)),
+        Reply::DeviceFailed,
+    ),
+    (1, Attempt::Finish(ActId(0)), Reply::Finished),
+];
+
+// A device was asked, also where it failed.
+fn kept_though_it_failed<D: Device>(rt: &impl Abort, alloc: Global, failing: D, other: D) {
+    let mut system = opened(rt, alloc, SUM, alone(rt, alloc, failing));
+    steps(rt, &mut system, FAILED);
+    replaces(rt, &mut system, other, Err(ReplaceFault::Used));
+    contains(rt, &system, &[3]);
+}
+
+#[test]
+fn failed_device_was_asked(rt: HostRuntime) {
+    let failing = failing_tally(&rt, rt.alloc(), 3, 1, 0);
+    let other = tally(&rt, rt.alloc(), 4);
+    kept_though_it_failed(&rt, rt.alloc(), failing, other);
+}
