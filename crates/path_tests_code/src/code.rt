@@ -1,7 +1,7 @@
 //! What paths are compiled to, and the listings that show it.
 
 use crate::in_turn::refuse_in_turn;
-use path_code::{Code, Epilogue, OpCode, Prologue, listing, translate};
+use path_code::{Code, Epilogue, OpCode, PathCode, Prologue, listing, translate};
 use path_decl::Decl;
 use path_lex::DeclFault;
 use path_model::{OpId, OutOfMemory, ResId};
@@ -24,6 +24,14 @@ const SEVERAL: &str =
     "resource r cell operation a, b, c path a ; b , c end path { b : 3 } ; { c } end end
     resource s cell operation d path ( { d } ) end end";
 
+const BOOK_LISTING: &str = "path 0 of book
+s0 = 1
+c0 = 0
+m0 = 1
+read: PP(c0,m0,P(s0)) | VV(c0,m0,V(s0))
+write: P(s0) | V(s0)
+";
+
 const LONE_LISTING: &str = "path 0 of r
 s0 = 1
 c0 = 0
@@ -31,69 +39,7 @@ m0 = 1
 a: PP(c0,m0,P(s0)) | VV(c0,m0,V(s0))
 ";
 
-// The declaration of a text, which is well formed.
-fn read_by<A: Allocator + Copy>(
-    rt: &impl Abort,
-    alloc: A,
-    text: &str,
-) -> Result<Decl<A>, OutOfMemory> {
-    match read(alloc, text.as_bytes()) {
-        Ok(decl) => Ok(decl),
-        Err(fault) => {
-            assert_eq!(rt; fault, DeclFault::OutOfMemory);
-            Err(OutOfMemory)
-        }
-    }
-}
-
-fn declared(rt: &impl Abort, heap: Global, text: &str) -> Decl {
-    match read_by(rt, heap, text) {
-        Ok(decl) => decl,
-        Err(OutOfMemory) => panic!(rt; "out of memory at {text:?}"),
-    }
-}
-
-fn translated<'d>(rt: &impl Abort, heap: Global, decl: &'d Decl) -> Code<'d> {
-    match translate(heap, decl) {
-        Ok(code) => code,
-        Err(OutOfMemory) => panic!(rt; "out of memory"),
-    }
-}
-
-// The code of the one text is listed with the names of the other.
-fn lists_with(rt: &impl Abort, heap: Global, text: &str, names: &str, want: &str) {
-    let decl = declared(rt, heap, text);
-    let code = translated(rt, heap, &decl);
-    match listing(heap, &declared(rt, heap, names), &code) {
-        Ok(listed) => assert_eq!(rt; listed.as_str(), want),
-        Err(OutOfMemory) => panic!(rt; "out of memory"),
-    }
-}
-
-fn lists(rt: &impl Abort, heap: Global, text: &str, want: &str) {
-    lists_with(rt, heap, text, text, want);
-}
-
-#[test]
-fn readers_and_writers(rt: HostRuntime) {
-    let want = "path 0 of book
-s0 = 1
-c0 = 0
-m0 = 1
-read: PP(c0,m0,P(s0)) | VV(c0,m0,V(s0))
-write: P(s0) | V(s0)
-";
-    lists(&rt, rt.alloc(), BOOK, want);
-}
-
-#[test]
-fn lone_burst(rt: HostRuntime) {
-    lists(&rt, rt.alloc(), LONE, LONE_LISTING);
-}
-
-#[test]
-fn crossing_listing(rt: HostRuntime) {
-    let want = "path 0 of r
+const CROSS_LISTING: &str = "path 0 of r
 s0 = 1
 s1 = 0
 c0 = 0
@@ -101,12 +47,8 @@ m0 = 1
 a: PP(c0,m0,P(s0)) | V(s1)
 b: P(s1) | VV(c0,m0,V(s0))
 ";
-    lists(&rt, rt.alloc(), CROSS, want);
-}
 
-#[test]
-fn pool_of_two(rt: HostRuntime) {
-    let want = "path 0 of r
+const POOL_LISTING: &str = "path 0 of r
 s0 = 1
 s1 = 2
 c0 = 0
@@ -114,12 +56,8 @@ m0 = 1
 read: P(s1); PP(c0,m0,P(s0)) | VV(c0,m0,V(s0)); V(s1)
 write: P(s0) | V(s0)
 ";
-    lists(&rt, rt.alloc(), POOL, want);
-}
 
-#[test]
-fn pipe_of_two(rt: HostRuntime) {
-    let want = "path 0 of r
+const PIPE_LISTING: &str = "path 0 of r
 s0 = 1
 s1 = 0
 s2 = 2
@@ -128,13 +66,9 @@ m0 = 1
 a: P(s2); PP(c0,m0,P(s0)) | V(s1)
 b: P(s1) | VV(c0,m0,V(s0)); V(s2)
 ";
-    lists(&rt, rt.alloc(), PIPE, want);
-}
 
 // Numbers count through the file.
-#[test]
-fn several_paths(rt: HostRuntime) {
-    let want = "path 0 of r
+const SEVERAL_LISTING: &str = "path 0 of r
 s0 = 1
 s1 = 0
 a: P(s0) | V(s1)
@@ -156,64 +90,160 @@ c2 = 0
 m2 = 1
 d: PP(c2,m2,P(s5)) | VV(c2,m2,V(s5))
 ";
-    lists(&rt, rt.alloc(), SEVERAL, want);
+
+// The declaration of a text, which is well formed.
+pub(crate) fn read_by<A: Allocator + Copy>(
+    rt: &impl Abort,
+    alloc: A,
+    text: &str,
+) -> Result<Decl<A>, OutOfMemory> {
+    match read(alloc, text.as_bytes()) {
+        Ok(decl) => Ok(decl),
+        Err(fault) => {
+            assert_eq!(rt; fault, DeclFault::OutOfMemory);
+            Err(OutOfMemory)
+        }
+    }
+}
+
+pub(crate) fn declared(rt: &impl Abort, heap: Global, text: &str) -> Decl {
+    match read_by(rt, heap, text) {
+        Ok(decl) => decl,
+        Err(OutOfMemory) => panic!(rt; "out of memory at {text:?}"),
+    }
+}
+
+pub(crate) fn translated<'d>(rt: &impl Abort, heap: Global, decl: &'d Decl) -> Code<'d> {
+    match translate(heap, decl) {
+        Ok(code) => code,
+        Err(OutOfMemory) => panic!(rt; "out of memory"),
+    }
+}
+
+// The listing of code, with the names of a declaration.
+pub(crate) fn listed_code<A: Allocator + Copy>(
+    rt: &impl Abort,
+    heap: Global,
+    names: &Decl<A>,
+    code: &Code<'_, A>,
+) -> String {
+    match listing(heap, names, code) {
+        Ok(text) => text,
+        Err(OutOfMemory) => panic!(rt; "out of memory"),
+    }
+}
+
+// The listing of a declaration's code, with the names of another one.
+fn listed_with(rt: &impl Abort, heap: Global, decl: &Decl, names: &Decl) -> String {
+    listed_code(rt, heap, names, &translated(rt, heap, decl))
+}
+
+// The listing of the code of a text.
+pub(crate) fn listed(rt: &impl Abort, heap: Global, text: &str) -> String {
+    let decl = declared(rt, heap, text);
+    listed_with(rt, heap, &decl, &decl)
+}
+
+// A text, and the listing of its code.
+const LISTINGS: &[(&str, &str)] = &[
+    ("resource r cell operation a end", ""),
+    (BOOK, BOOK_LISTING),
+    (LONE, LONE_LISTING),
+    (CROSS, CROSS_LISTING),
+    (POOL, POOL_LISTING),
+    (PIPE, PIPE_LISTING),
+    (SEVERAL, SEVERAL_LISTING),
+];
+
+fn lists(rt: &impl Abort, heap: Global, rows: &[(&str, &str)]) {
+    for (text, want) in rows {
+        assert_eq!(rt; listed(rt, heap, text).as_str(), *want);
+    }
 }
 
 #[test]
-fn no_paths(rt: HostRuntime) {
-    lists(&rt, rt.alloc(), "resource r cell operation a end", "");
+fn listings(rt: HostRuntime) {
+    lists(&rt, rt.alloc(), LISTINGS);
 }
 
-// The names are those of another declaration, as far as it has them.
-#[test]
-fn numbers_without_names(rt: HostRuntime) {
-    let text = "resource r cell operation a end resource s cell operation b, c path b ; c end end";
-    let want = "path 0 of #1
+const NUMBERED: &str =
+    "resource r cell operation a end resource s cell operation b, c path b ; c end end";
+
+const NUMBERED_LISTING: &str = "path 0 of #1
 s0 = 1
 s1 = 0
 d: P(s0) | V(s1)
 #2: P(s1) | V(s0)
 ";
-    lists_with(
-        &rt,
-        rt.alloc(),
-        text,
-        "resource t cell operation e, d end",
-        want,
-    );
+
+// The code of the one text is listed with the names of the other.
+fn lists_with(rt: &impl Abort, heap: Global, text: &str, names: &str, want: &str) {
+    let decl = declared(rt, heap, text);
+    let names = declared(rt, heap, names);
+    assert_eq!(rt; listed_with(rt, heap, &decl, &names).as_str(), want);
+}
+
+// The names are those of another declaration, as far as it has them.
+#[test]
+fn numbers_without_names(rt: HostRuntime) {
+    let names = "resource t cell operation e, d end";
+    lists_with(&rt, rt.alloc(), NUMBERED, names, NUMBERED_LISTING);
+}
+
+// What stands before and after the operations of the readers and writers.
+const BOOK_OPS: &[OpCode] = &[
+    OpCode {
+        op: OpId(0),
+        prologue: Prologue::PP(0, 0),
+        epilogue: Epilogue::VV(0, 0),
+    },
+    OpCode {
+        op: OpId(1),
+        prologue: Prologue::P(0),
+        epilogue: Epilogue::V(0),
+    },
+];
+
+fn expect_book(rt: &impl Abort, path: &PathCode<'_>) {
+    assert_eq!(rt; path.resource, ResId(0));
+    assert_eq!(rt; path.semaphores.as_slice(), [(0, 1)].as_slice());
+    assert_eq!(rt; path.braces.as_slice(), [0].as_slice());
+    assert_eq!(rt; path.ops.as_slice(), BOOK_OPS);
+}
+
+fn expect_book_alone(rt: &impl Abort, paths: &[PathCode<'_>]) {
+    assert_eq!(rt; paths.len(), 1);
+    for path in paths {
+        expect_book(rt, path);
+    }
 }
 
 #[test]
 fn fields_of_a_path(rt: HostRuntime) {
     let decl = declared(&rt, rt.alloc(), BOOK);
     let code = translated(&rt, rt.alloc(), &decl);
-    let want = [
-        OpCode {
-            op: OpId(0),
-            prologue: Prologue::PP(0, 0),
-            epilogue: Epilogue::VV(0, 0),
-        },
-        OpCode {
-            op: OpId(1),
-            prologue: Prologue::P(0),
-            epilogue: Epilogue::V(0),
-        },
-    ];
-    assert_eq!(rt; code.paths().len(), 1);
-    for path in code.paths() {
-        assert_eq!(rt; path.resource, ResId(0));
-        assert_eq!(rt; path.semaphores.as_slice(), [(0, 1)].as_slice());
-        assert_eq!(rt; path.braces.as_slice(), [0].as_slice());
-        assert_eq!(rt; path.ops.as_slice(), want.as_slice());
-    }
+    expect_book_alone(&rt, code.paths());
+}
+
+// Of how many paths a declaration has code.
+fn count_paths<A: Allocator + Copy>(alloc: A, decl: &Decl<A>) -> Result<usize, OutOfMemory> {
+    Ok(translate(alloc, decl)?.paths().len())
+}
+
+// Of how many paths a text has code.
+fn translates<A: Allocator + Copy>(
+    rt: &impl Abort,
+    alloc: A,
+    text: &str,
+) -> Result<usize, OutOfMemory> {
+    let decl = read_by(rt, alloc, text)?;
+    count_paths(alloc, &decl)
 }
 
 // Reading and translating the text want memory in turn, until there is the code of so many paths.
 fn translates_in_turn(rt: &impl Abort, heap: Global, text: &str, paths: usize) {
     refuse_in_turn(rt, heap, OutOfMemory, |refusing: &Refusing<Global>| {
-        let decl = read_by(rt, refusing, text)?;
-        let code = translate(refusing, &decl)?;
-        Ok(code.paths().len() == paths)
+        Ok(translates(rt, refusing, text)? == paths)
     });
 }
 
@@ -223,12 +253,25 @@ fn translating_wants_memory(rt: HostRuntime) {
     translates_in_turn(&rt, rt.alloc(), SEVERAL, 3);
 }
 
+// Whether the code is listed so.
+fn is_listed<A: Allocator + Copy>(
+    alloc: A,
+    code: &Code<'_>,
+    want: &str,
+) -> Result<bool, OutOfMemory> {
+    Ok(listing(alloc, code.decl(), code)?.as_str() == want)
+}
+
+// Listing the code wants memory in turn, until the listing is this one.
+fn lists_in_turn(rt: &impl Abort, heap: Global, code: &Code<'_>, want: &str) {
+    refuse_in_turn(rt, heap, OutOfMemory, |refusing: &Refusing<Global>| {
+        is_listed(refusing, code, want)
+    });
+}
+
 #[test]
 fn listing_wants_memory(rt: HostRuntime) {
     let decl = declared(&rt, rt.alloc(), LONE);
     let code = translated(&rt, rt.alloc(), &decl);
-    refuse_in_turn(&rt, rt.alloc(), OutOfMemory, |heap: &Refusing<Global>| {
-        let text = listing(heap, &decl, &code)?;
-        Ok(text.as_str() == LONE_LISTING)
-    });
+    lists_in_turn(&rt, rt.alloc(), &code, LONE_LISTING);
 }

@@ -1,172 +1,171 @@
 //! Braces, with a bound or without, and the faults that they bring.
 
-use crate::decl::{declared, draws, expect_faults, expect_read, reads_in_turn};
+use crate::decl::{draws, expect, expect_faults, put, reads_in_turn};
 use path_lex::DeclFault;
-use std::alloc::{AllocError, Global};
+use std::alloc::Global;
 use std::process::Abort;
-use std::test::Fail;
 
-// A declaration of one operation, a, with this path.
-fn with_path(heap: Global, path: &str) -> Result<String, AllocError> {
-    format!(in heap; "resource r cell operation a path {path} end end")
-}
+const TREES: &str = "resource r cell operation a, b, c path { a } , b ; c end path { a ; b : 3 } end
+    path { ( a , b ) } ; { c : 65535 } end path { a : 1 } end path (( { a } )) end end";
 
-// A text so many times.
-fn times(heap: Global, piece: &str, count: u32) -> Result<String, AllocError> {
-    let mut text = String::new(heap);
-    for _time in 0..count {
-        text.push_str(piece)?;
-    }
-    Ok(text)
-}
+const DRAWN: &[(u32, &str)] = &[
+    (0, "(; (, (* 0) 1) 2)"),
+    (1, "(*3 (; 0 1))"),
+    (2, "(; (* (, 0 1)) (*65535 2))"),
+    (3, "(*1 0)"),
+    (4, "(* 0)"),
+];
 
 #[test]
-fn trees_of_braces(rt: HostRuntime) -> Result<(), Fail> {
-    let heap = rt.alloc();
-    let text = "resource r cell operation a, b, c path { a } , b ; c end path { a ; b : 3 } end
-        path { ( a , b ) } ; { c : 65535 } end path { a : 1 } end path (( { a } )) end end";
-    let decl = declared(heap, text)?;
-    let rows = [
-        (0, "(; (, (* 0) 1) 2)"),
-        (1, "(*3 (; 0 1))"),
-        (2, "(; (* (, 0 1)) (*65535 2))"),
-        (3, "(*1 0)"),
-        (4, "(* 0)"),
-    ];
-    draws(&rt, heap, &decl, rows.as_slice())?;
-    Ok(())
+fn trees_of_braces(rt: HostRuntime) {
+    draws(&rt, rt.alloc(), TREES, DRAWN);
+}
+
+// A declaration of one operation, a, with this path has this fault, or none.
+fn expect_path(rt: &impl Abort, heap: Global, path: &str, want: Option<DeclFault>) {
+    let mut text = String::new(heap);
+    put(rt, &mut text, "resource r cell operation a path ");
+    put(rt, &mut text, path);
+    put(rt, &mut text, " end end");
+    expect(rt, heap, &text, want);
 }
 
 // A declaration of one operation with each of these paths has the fault beside it.
-fn paths_fault(rt: &impl Abort, heap: Global, rows: &[(&str, DeclFault)]) -> Result<(), Fail> {
+fn paths_fault(rt: &impl Abort, heap: Global, rows: &[(&str, DeclFault)]) {
     for (path, want) in rows {
-        let text = with_path(heap, path)?;
-        expect_faults(rt, heap, &[(text.as_str(), *want)]);
+        expect_path(rt, heap, path, Some(*want));
     }
-    Ok(())
 }
 
+const BAD_BOUNDS: &[(&str, DeclFault)] = &[
+    ("{ a : 0 }", DeclFault::BadCount(39)),
+    ("{ a : 00 }", DeclFault::BadCount(39)),
+    ("{ a : 007 }", DeclFault::BadCount(39)),
+    ("{ a:01}", DeclFault::BadCount(37)),
+    ("{ a : 65536 }", DeclFault::BadCount(39)),
+    ("{ a : 999999999 }", DeclFault::BadCount(39)),
+    ("{ a : 1000000000 }", DeclFault::NumberTooLong(39)),
+];
+
 #[test]
-fn bounds(rt: HostRuntime) -> Result<(), Fail> {
-    let heap = rt.alloc();
-    let rows = [
-        ("{ a : 0 }", DeclFault::BadCount(39)),
-        ("{ a : 00 }", DeclFault::BadCount(39)),
-        ("{ a : 007 }", DeclFault::BadCount(39)),
-        ("{ a:01}", DeclFault::BadCount(37)),
-        ("{ a : 65536 }", DeclFault::BadCount(39)),
-        ("{ a : 999999999 }", DeclFault::BadCount(39)),
-        ("{ a : 1000000000 }", DeclFault::NumberTooLong(39)),
-    ];
-    paths_fault(&rt, heap, rows.as_slice())?;
+fn bounds(rt: HostRuntime) {
+    paths_fault(&rt, rt.alloc(), BAD_BOUNDS);
     for path in ["{ a : 1 }", "{a:10}", "{ a : 65535 }"] {
-        expect_read(&rt, heap, with_path(heap, path)?.as_bytes());
+        expect_path(&rt, rt.alloc(), path, None);
     }
-    Ok(())
 }
 
+const UNEXPECTED_IN_BRACES: &[(&str, DeclFault)] = &[
+    ("{ a : }", DeclFault::Unexpected(39)),
+    ("{ a 2 }", DeclFault::Unexpected(37)),
+    ("a : 2", DeclFault::Unexpected(35)),
+    ("( a : 2 )", DeclFault::Unexpected(37)),
+    ("{ }", DeclFault::Unexpected(35)),
+    ("{ a ; }", DeclFault::Unexpected(39)),
+    ("{ a )", DeclFault::Unexpected(37)),
+    ("( a }", DeclFault::Unexpected(37)),
+    ("{ a : a }", DeclFault::Unexpected(39)),
+    ("{ a : 2 ; a }", DeclFault::Unexpected(41)),
+    ("{ a : 2", DeclFault::Unexpected(41)),
+    ("{ a", DeclFault::Unexpected(37)),
+];
+
 #[test]
-fn unexpected_in_braces(rt: HostRuntime) -> Result<(), Fail> {
-    let heap = rt.alloc();
-    let rows = [
-        ("{ a : }", DeclFault::Unexpected(39)),
-        ("{ a 2 }", DeclFault::Unexpected(37)),
-        ("a : 2", DeclFault::Unexpected(35)),
-        ("( a : 2 )", DeclFault::Unexpected(37)),
-        ("{ }", DeclFault::Unexpected(35)),
-        ("{ a ; }", DeclFault::Unexpected(39)),
-        ("{ a )", DeclFault::Unexpected(37)),
-        ("( a }", DeclFault::Unexpected(37)),
-        ("{ a : a }", DeclFault::Unexpected(39)),
-        ("{ a : 2 ; a }", DeclFault::Unexpected(41)),
-        ("{ a : 2", DeclFault::Unexpected(41)),
-        ("{ a", DeclFault::Unexpected(37)),
-    ];
-    paths_fault(&rt, heap, rows.as_slice())
+fn unexpected_in_braces(rt: HostRuntime) {
+    paths_fault(&rt, rt.alloc(), UNEXPECTED_IN_BRACES);
 }
 
 // Rules are broken at tokens, and the first token counts.
+const RULES_IN_THE_ORDER_OF_TOKENS: &[(&str, DeclFault)] = &[
+    ("{ a ; { x } }", DeclFault::NestedBraces(39)),
+    ("{ x ; { a } }", DeclFault::Undeclared(35)),
+    ("{ { x } }", DeclFault::NestedBraces(35)),
+    ("{ ( ( { a } ) ) }", DeclFault::NestedBraces(39)),
+    ("{ { a : 0 } }", DeclFault::NestedBraces(35)),
+    ("{ a ; { a : 2 } : 0 }", DeclFault::NestedBraces(39)),
+    ("{ x : 0 }", DeclFault::Undeclared(35)),
+    ("{ a : 0 } ; x", DeclFault::BadCount(39)),
+    ("x ; { a : 0 }", DeclFault::Undeclared(33)),
+    ("{ a , a : 0 }", DeclFault::RepeatedName(39)),
+    ("{ a : 2 } ; { a }", DeclFault::RepeatedName(47)),
+];
+
 #[test]
-fn rules_in_the_order_of_tokens(rt: HostRuntime) -> Result<(), Fail> {
-    let heap = rt.alloc();
-    let rows = [
-        ("{ a ; { x } }", DeclFault::NestedBraces(39)),
-        ("{ x ; { a } }", DeclFault::Undeclared(35)),
-        ("{ { x } }", DeclFault::NestedBraces(35)),
-        ("{ ( ( { a } ) ) }", DeclFault::NestedBraces(39)),
-        ("{ { a : 0 } }", DeclFault::NestedBraces(35)),
-        ("{ a ; { a : 2 } : 0 }", DeclFault::NestedBraces(39)),
-        ("{ x : 0 }", DeclFault::Undeclared(35)),
-        ("{ a : 0 } ; x", DeclFault::BadCount(39)),
-        ("x ; { a : 0 }", DeclFault::Undeclared(33)),
-        ("{ a , a : 0 }", DeclFault::RepeatedName(39)),
-        ("{ a : 2 } ; { a }", DeclFault::RepeatedName(47)),
-    ];
-    paths_fault(&rt, heap, rows.as_slice())
+fn rules_in_the_order_of_tokens(rt: HostRuntime) {
+    paths_fault(&rt, rt.alloc(), RULES_IN_THE_ORDER_OF_TOKENS);
 }
+
+const BAD_PAIRS: &[(&str, DeclFault)] = &[
+    (
+        "resource r cell operation a, b path a ; ( b , a ) end end",
+        DeclFault::RepeatedName(46),
+    ),
+    (
+        "resource r cell operation a, b path { a ; { b } } end end",
+        DeclFault::NestedBraces(42),
+    ),
+];
+
+const PAIR: &str = "resource r cell operation a, b path { a } ; { b : 2 } end path { b } end end";
 
 #[test]
 fn braces_of_two_operations(rt: HostRuntime) {
-    let heap = rt.alloc();
-    let rows = [
-        (
-            "resource r cell operation a, b path a ; ( b , a ) end end",
-            DeclFault::RepeatedName(46),
-        ),
-        (
-            "resource r cell operation a, b path { a ; { b } } end end",
-            DeclFault::NestedBraces(42),
-        ),
-    ];
-    expect_faults(&rt, heap, &rows);
-    expect_read(
-        &rt,
-        heap,
-        b"resource r cell operation a, b path { a } ; { b : 2 } end path { b } end end",
-    );
+    expect_faults(&rt, rt.alloc(), BAD_PAIRS);
+    expect(&rt, rt.alloc(), PAIR, None);
 }
 
-// So many parentheses round a text.
-fn wrapped(heap: Global, count: u32, inside: &str) -> Result<String, AllocError> {
-    let open = times(heap, "(", count)?;
-    let close = times(heap, ")", count)?;
-    format!(in heap; "{open}{inside}{close}")
+const OPENING: &str = "(((((((((((((((((((((((((((((((((";
+
+const CLOSING: &str = ")))))))))))))))))))))))))))))))))";
+
+// The first signs of a text, so many.
+fn signs<'t>(rt: &impl Abort, text: &'t str, count: usize) -> &'t str {
+    text.get(..count).expect(rt, "the text has so many signs")
+}
+
+// A path of so many parentheses, braces and again so many parentheses round an a has this fault, or none.
+fn deep(rt: &impl Abort, heap: Global, before: usize, within: usize, want: Option<DeclFault>) {
+    let mut path = String::new(heap);
+    put(rt, &mut path, signs(rt, OPENING, before));
+    put(rt, &mut path, "{");
+    put(rt, &mut path, signs(rt, OPENING, within));
+    put(rt, &mut path, "a");
+    put(rt, &mut path, signs(rt, CLOSING, within));
+    put(rt, &mut path, "}");
+    put(rt, &mut path, signs(rt, CLOSING, before));
+    expect_path(rt, heap, &path, want);
 }
 
 #[test]
-fn depth_of_braces(rt: HostRuntime) -> Result<(), Fail> {
-    let heap = rt.alloc();
+fn depth_of_braces(rt: HostRuntime) {
+    let fault = Some(DeclFault::TooDeep(65));
     for (before, within) in [(0, 31), (16, 15), (31, 0)] {
-        let held = wrapped(heap, within, "a")?;
-        let braces = format!(in heap; "{{{held}}}")?;
-        let path = wrapped(heap, before, &braces)?;
-        expect_read(&rt, heap, with_path(heap, &path)?.as_bytes());
-        let deeper = with_path(heap, &wrapped(heap, 1, &path)?)?;
-        expect_faults(&rt, heap, &[(deeper.as_str(), DeclFault::TooDeep(65))]);
+        deep(&rt, rt.alloc(), before, within, None);
+        deep(&rt, rt.alloc(), before + 1, within, fault);
     }
-    Ok(())
 }
 
 // What is too deep counts before what is nested.
+const OPEN_BRACES: &[(&str, DeclFault)] = &[
+    (
+        "{{{{{{{{{{{{{{{{{{{{{{{{{{{{{{{{a}}}}}}}}}}}}}}}}}}}}}}}}}}}}}}}}",
+        DeclFault::NestedBraces(34),
+    ),
+    (
+        "{{{{{{{{{{{{{{{{{{{{{{{{{{{{{{{{{a}}}}}}}}}}}}}}}}}}}}}}}}}}}}}}}}}",
+        DeclFault::TooDeep(65),
+    ),
+];
+
 #[test]
-fn many_open_braces(rt: HostRuntime) -> Result<(), Fail> {
-    let heap = rt.alloc();
-    for (count, want) in [
-        (32, DeclFault::NestedBraces(34)),
-        (33, DeclFault::TooDeep(65)),
-    ] {
-        let open = times(heap, "{", count)?;
-        let close = times(heap, "}", count)?;
-        let path = format!(in heap; "{open}a{close}")?;
-        let text = with_path(heap, &path)?;
-        expect_faults(&rt, heap, &[(text.as_str(), want)]);
-    }
-    Ok(())
+fn many_open_braces(rt: HostRuntime) {
+    paths_fault(&rt, rt.alloc(), OPEN_BRACES);
 }
+
+const BRACES: &str =
+    "resource r cell operation a, b, c path { a ; b } , { c : 3 } end path { c } end end";
 
 #[test]
 fn reading_braces_wants_memory(rt: HostRuntime) {
-    let text =
-        b"resource r cell operation a, b, c path { a ; b } , { c : 3 } end path { c } end end";
-    reads_in_turn(&rt, rt.alloc(), text, (3, 2));
+    reads_in_turn(&rt, rt.alloc(), BRACES, (1, 3, 2));
 }

@@ -7,6 +7,10 @@ mod braces;
 #[cfg(test)]
 mod decl;
 #[cfg(test)]
+mod faults;
+#[cfg(test)]
+mod hostile;
+#[cfg(test)]
 mod in_turn;
 #[cfg(test)]
 mod laws;

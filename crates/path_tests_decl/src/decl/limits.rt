@@ -1,146 +1,148 @@
 //! Texts on both sides of each limit.
 
-use super::{SLOT, expect_fault, expect_read};
+use super::{SLOT, expect, put, put_number};
 use path_lex::DeclFault;
-use std::alloc::{AllocError, Global};
-use std::test::Fail;
+use std::alloc::Global;
+use std::process::Abort;
 
 // A front, a piece so many times, and a back.
 fn repeated(
+    rt: &impl Abort,
     heap: Global,
     front: &str,
     piece: &str,
     times: u32,
     back: &str,
-) -> Result<String, AllocError> {
-    let mut text = String::from_str(heap, front)?;
+) -> String {
+    let mut text = String::new(heap);
+    put(rt, &mut text, front);
     for _time in 0..times {
-        text.push_str(piece)?;
+        put(rt, &mut text, piece);
     }
-    text.push_str(back)?;
-    Ok(text)
+    put(rt, &mut text, back);
+    text
 }
 
-// A front, so many names that differ with a sign between them, and a back.
-fn numbered(
-    heap: Global,
-    front: &str,
-    sign: &str,
-    times: u32,
-    back: &str,
-) -> Result<String, AllocError> {
-    let mut text = String::from_str(heap, front)?;
-    for number in 0..times {
-        let before = if number > 0 { sign } else { "" };
-        let name = format!(in heap; "{before}a{number}")?;
-        text.push_str(&name)?;
-    }
-    text.push_str(back)?;
-    Ok(text)
-}
+/// A front, a piece, how often it stands there, a back, and the fault of the text, if it has one.
+type Repeated<'a> = (&'a str, &'a str, u32, &'a str, Option<DeclFault>);
 
-#[test]
-fn longest_words(rt: HostRuntime) -> Result<(), Fail> {
-    let heap = rt.alloc();
-    let text = repeated(heap, "resource ", "x", 32, "")?;
-    expect_fault(&rt, heap, text.as_bytes(), DeclFault::Unexpected(41));
-    let text = repeated(heap, "resource ", "x", 33, "")?;
-    expect_fault(&rt, heap, text.as_bytes(), DeclFault::WordTooLong(9));
-    Ok(())
-}
-
-#[test]
-fn longest_text(rt: HostRuntime) -> Result<(), Fail> {
-    let heap = rt.alloc();
-    let text = repeated(heap, SLOT, " ", 65_536 - 74, "")?;
-    assert_eq!(rt; text.len(), 65_536);
-    expect_read(&rt, heap, text.as_bytes());
-    let text = repeated(heap, SLOT, " ", 65_536 - 74, "_")?;
-    expect_fault(&rt, heap, text.as_bytes(), DeclFault::TooLong);
-    Ok(())
-}
-
-fn nested(heap: Global, depth: u32) -> Result<String, AllocError> {
-    let open = repeated(heap, "resource r cell operation a path ", "(", depth, "a")?;
-    repeated(heap, &open, ")", depth, " end end")
-}
-
-#[test]
-fn depth(rt: HostRuntime) -> Result<(), Fail> {
-    let heap = rt.alloc();
-    expect_read(&rt, heap, nested(heap, 32)?.as_bytes());
-    expect_fault(
-        &rt,
-        heap,
-        nested(heap, 33)?.as_bytes(),
-        DeclFault::TooDeep(65),
-    );
-    Ok(())
-}
-
-#[test]
-fn most_operations(rt: HostRuntime) -> Result<(), Fail> {
-    let heap = rt.alloc();
-    let text = numbered(heap, "resource r cell operation ", ",", 256, " end")?;
-    expect_read(&rt, heap, text.as_bytes());
-    let text = numbered(heap, "resource r cell operation ", ",", 257, " end")?;
-    expect_fault(&rt, heap, text.as_bytes(), DeclFault::TooMany(1196));
-    Ok(())
-}
-
-#[test]
-fn most_paths(rt: HostRuntime) -> Result<(), Fail> {
-    let heap = rt.alloc();
-    let text = repeated(
-        heap,
+const REPEATED: &[Repeated<'static>] = &[
+    // The longest word.
+    ("resource ", "x", 32, "", Some(DeclFault::Unexpected(41))),
+    ("resource ", "x", 33, "", Some(DeclFault::WordTooLong(9))),
+    // The longest text.
+    (SLOT, " ", 65_536 - 74, "", None),
+    (SLOT, " ", 65_536 - 74, "_", Some(DeclFault::TooLong)),
+    // The most paths.
+    (
         "resource r cell operation a ",
         "path a end ",
         256,
         "end",
-    )?;
-    expect_read(&rt, heap, text.as_bytes());
-    let text = repeated(
-        heap,
+        None,
+    ),
+    (
         "resource r cell operation a ",
         "path a end ",
         257,
         "end",
-    )?;
-    expect_fault(&rt, heap, text.as_bytes(), DeclFault::TooMany(2844));
-    Ok(())
-}
+        Some(DeclFault::TooMany(2844)),
+    ),
+    // A path of very many names is no deep tree.
+    (
+        "resource r cell operation a path a",
+        ";a",
+        20_000,
+        " end end",
+        Some(DeclFault::RepeatedName(35)),
+    ),
+];
 
-#[test]
-fn most_names(rt: HostRuntime) -> Result<(), Fail> {
-    let heap = rt.alloc();
-    let front = numbered(heap, "resource r cell operation ", ",", 65, " path ")?;
-    let text = numbered(heap, &front, ";", 64, " end end")?;
-    expect_read(&rt, heap, text.as_bytes());
-    let text = numbered(heap, &front, ";", 65, " end end")?;
-    expect_fault(&rt, heap, text.as_bytes(), DeclFault::TooMany(527));
-    Ok(())
-}
-
-#[test]
-fn most_resources(rt: HostRuntime) -> Result<(), Fail> {
-    let heap = rt.alloc();
-    let mut text = String::new(heap);
-    for number in 0..64u32 {
-        let piece = format!(in heap; "resource r{number} cell operation a{number} end ")?;
-        text.push_str(&piece)?;
+// Each of these texts has the fault beside it, or none.
+fn expect_repeated(rt: &impl Abort, heap: Global, rows: &[Repeated<'_>]) {
+    for (front, piece, times, back, want) in rows {
+        let text = repeated(rt, heap, front, piece, *times, back);
+        expect(rt, heap, &text, *want);
     }
-    expect_read(&rt, heap, text.as_bytes());
-    text.push_str("resource r cell operation a end")?;
-    expect_fault(&rt, heap, text.as_bytes(), DeclFault::TooMany(2293));
-    Ok(())
 }
 
-// A path of very many names is no deep tree.
 #[test]
-fn long_path(rt: HostRuntime) -> Result<(), Fail> {
-    let heap = rt.alloc();
-    let front = "resource r cell operation a path a";
-    let text = repeated(heap, front, ";a", 20_000, " end end")?;
-    expect_fault(&rt, heap, text.as_bytes(), DeclFault::RepeatedName(35));
-    Ok(())
+fn repetitions(rt: HostRuntime) {
+    expect_repeated(&rt, rt.alloc(), REPEATED);
+}
+
+// A path within so many parentheses has this fault, or none.
+fn nested(rt: &impl Abort, heap: Global, depth: u32, want: Option<DeclFault>) {
+    let front = "resource r cell operation a path ";
+    let open = repeated(rt, heap, front, "(", depth, "a");
+    let text = repeated(rt, heap, &open, ")", depth, " end end");
+    expect(rt, heap, &text, want);
+}
+
+#[test]
+fn depth(rt: HostRuntime) {
+    nested(&rt, rt.alloc(), 32, None);
+    nested(&rt, rt.alloc(), 33, Some(DeclFault::TooDeep(65)));
+}
+
+// So many names that differ, with a sign after each but the last.
+fn put_names(rt: &impl Abort, text: &mut String, sign: &str, times: u32) {
+    for number in 0..times {
+        put(rt, text, if number > 0 { sign } else { "" });
+        put(rt, text, "a");
+        put_number(rt, text, number);
+    }
+}
+
+// A declaration of so many operations has this fault, or none.
+fn operations(rt: &impl Abort, heap: Global, count: u32, want: Option<DeclFault>) {
+    let mut text = String::new(heap);
+    put(rt, &mut text, "resource r cell operation ");
+    put_names(rt, &mut text, ",", count);
+    put(rt, &mut text, " end");
+    expect(rt, heap, &text, want);
+}
+
+#[test]
+fn most_operations(rt: HostRuntime) {
+    operations(&rt, rt.alloc(), 256, None);
+    operations(&rt, rt.alloc(), 257, Some(DeclFault::TooMany(1196)));
+}
+
+// A path of so many of 65 operations has this fault, or none.
+fn names(rt: &impl Abort, heap: Global, count: u32, want: Option<DeclFault>) {
+    let mut text = String::new(heap);
+    put(rt, &mut text, "resource r cell operation ");
+    put_names(rt, &mut text, ",", 65);
+    put(rt, &mut text, " path ");
+    put_names(rt, &mut text, ";", count);
+    put(rt, &mut text, " end end");
+    expect(rt, heap, &text, want);
+}
+
+#[test]
+fn most_names(rt: HostRuntime) {
+    names(&rt, rt.alloc(), 64, None);
+    names(&rt, rt.alloc(), 65, Some(DeclFault::TooMany(527)));
+}
+
+// As many resources as a file may have, each with an operation, and then this text have this fault, or none.
+fn after_resources(rt: &impl Abort, heap: Global, back: &str, want: Option<DeclFault>) {
+    let mut text = String::new(heap);
+    for number in 0..64 {
+        put(rt, &mut text, "resource r");
+        put_number(rt, &mut text, number);
+        put(rt, &mut text, " cell operation a");
+        put_number(rt, &mut text, number);
+        put(rt, &mut text, " end ");
+    }
+    put(rt, &mut text, back);
+    expect(rt, heap, &text, want);
+}
+
+#[test]
+fn most_resources(rt: HostRuntime) {
+    after_resources(&rt, rt.alloc(), "", None);
+    let fault = Some(DeclFault::TooMany(2293));
+    after_resources(&rt, rt.alloc(), "resource r cell operation a end", fault);
 }

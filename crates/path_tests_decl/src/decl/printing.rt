@@ -1,10 +1,9 @@
 //! Declarations, and the texts that they are printed as.
 
+use super::declared;
 use crate::in_turn::refuse_in_turn;
-use path_decl::Decl;
 use path_model::OutOfMemory;
 use path_print::print;
-use path_read::read;
 use refusing::Refusing;
 use std::alloc::Global;
 use std::process::Abort;
@@ -17,71 +16,60 @@ const LAWS: &str =
 
 const POOL: &str = "resource r cell operation read, write path { read: 2 }, write end end\n";
 
-fn declared(rt: &impl Abort, heap: Global, text: &str) -> Decl {
-    match read(heap, text.as_bytes()) {
-        Ok(decl) => decl,
-        Err(fault) => panic!(rt; "{fault:?}"),
+// The text that a declaration of this text is printed as.
+fn printed(rt: &impl Abort, heap: Global, text: &str) -> String {
+    print(heap, &declared(rt, heap, text)).expect(rt, "memory is ample")
+}
+
+// Each text is printed as the one beside it.
+fn prints(rt: &impl Abort, heap: Global, rows: &[(&str, &str)]) {
+    for (text, want) in rows {
+        assert_eq!(rt; printed(rt, heap, text).as_str(), *want);
     }
 }
 
-fn prints(rt: &impl Abort, heap: Global, text: &str, want: &str) {
-    match print(heap, &declared(rt, heap, text)) {
-        Ok(printed) => assert_eq!(rt; printed.as_str(), want),
-        Err(OutOfMemory) => panic!(rt; "out of memory"),
-    }
-}
+const PRINTED: &[(&str, &str)] = &[
+    (
+        "resource r cell operation a,b,c path (a , b) ; c end end",
+        "resource r cell operation a, b, c path a, b; c end end\n",
+    ),
+    (
+        "resource r cell operation a , b , c path (a ; b) , c end end",
+        "resource r cell operation a, b, c path ( a; b ), c end end\n",
+    ),
+    (
+        "resource r cell operation a, b, c path a ; b ; c end path a ; ( b ; c ) end end",
+        OTHER_TREES,
+    ),
+    (
+        "resource r\ncell operation a,b,c\npath (a, b), c end path a, (b, c) end end\n",
+        "resource r cell operation a, b, c path a, b, c end path a, ( b, c ) end end\n",
+    ),
+    (
+        "resource r cell operation a end\nresource s cell operation b path b end end",
+        "resource r cell operation a end resource s cell operation b path b end end\n",
+    ),
+    (
+        "resource t tally\noperation a , b end\nresource q queue\t1024operation c path c end end",
+        LAWS,
+    ),
+    (
+        "resource r cell operation read, write path { read : 2 } , write end end",
+        "resource r cell operation read, write path { read: 2 }, write end end\n",
+    ),
+    (
+        "resource r cell operation a, b, c path {(a;b)};c end path {(a,b):65535} end end",
+        "resource r cell operation a, b, c path { a; b }; c end path { a, b: 65535 } end end\n",
+    ),
+    (
+        "resource r cell operation a path ((((((((((((((((((((((((((((((((a)))))))))))))))))))))))))))))))) end end",
+        "resource r cell operation a path a end end\n",
+    ),
+];
 
 #[test]
 fn prints_the_tokens(rt: HostRuntime) {
-    let rows = [
-        (
-            "resource r cell operation a,b,c path (a , b) ; c end end",
-            "resource r cell operation a, b, c path a, b; c end end\n",
-        ),
-        (
-            "resource r cell operation a , b , c path (a ; b) , c end end",
-            "resource r cell operation a, b, c path ( a; b ), c end end\n",
-        ),
-        (
-            "resource r cell operation a, b, c path a ; b ; c end path a ; ( b ; c ) end end",
-            OTHER_TREES,
-        ),
-        (
-            "resource r\ncell operation a,b,c\npath (a, b), c end path a, (b, c) end end\n",
-            "resource r cell operation a, b, c path a, b, c end path a, ( b, c ) end end\n",
-        ),
-        (
-            "resource r cell operation a end\nresource s cell operation b path b end end",
-            "resource r cell operation a end resource s cell operation b path b end end\n",
-        ),
-        (
-            "resource t tally\noperation a , b end\nresource q queue\t1024operation c path c end end",
-            LAWS,
-        ),
-        (
-            "resource r cell operation read, write path { read : 2 } , write end end",
-            "resource r cell operation read, write path { read: 2 }, write end end\n",
-        ),
-        (
-            "resource r cell operation a, b, c path {(a;b)};c end path {(a,b):65535} end end",
-            "resource r cell operation a, b, c path { a; b }; c end path { a, b: 65535 } end end\n",
-        ),
-    ];
-    for (text, want) in rows {
-        prints(&rt, rt.alloc(), text, want);
-    }
-}
-
-#[test]
-fn prints_no_needless_parentheses(rt: HostRuntime) {
-    let text =
-        "resource r cell operation a path ((((((((((((((((((((((((((((((((a)))))))))))))))))))))))))))))))) end end";
-    prints(
-        &rt,
-        rt.alloc(),
-        text,
-        "resource r cell operation a path a end end\n",
-    );
+    prints(&rt, rt.alloc(), PRINTED);
 }
 
 // Printing the text, which is laid out as it is printed, wants memory in turn.
