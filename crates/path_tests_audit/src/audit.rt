@@ -1,200 +1,333 @@
 //! Verdicts on journals.
 
-use crate::in_turn::refuse_in_turn;
+use crate::verdict::{DEPOSITED, Refusal, SLOT, declared, opened, verdict};
 use path_audit::{AuditFault, Verdict, audit};
-use path_journal::read_journal;
-use path_lex::DeclFault;
+use path_decl::Decl;
 use path_lines::TextFault;
-use path_model::{OutOfMemory, ResId};
-use path_read::read;
-use refusing::Refusing;
-use std::alloc::{Allocator, Global};
-use std::test::Fail;
-
-// One resource, in which every deposit is followed by a remove.
-const SLOT: &[u8] = b"resource slot cell operation deposit, remove path deposit ; remove end end";
+use path_model::ResId;
+use std::alloc::Global;
+use std::process::Abort;
 
 const QUEUE: &[u8] = b"resource q queue 2 operation a end";
 
 const TALLY: &[u8] = b"resource t tally operation a end";
 
-// A deposit of 7 and its removal, with an attempt to remove too early.
-const DEPOSITED: &str =
-    "1 start deposit: started 0\n2 start remove: blocked 0\n1 use 0 put 7: used 0\n\
-    1 finish 0: finished\n2 start remove: started 1\n2 use 1 look: used 7\n";
+type Judged = (&'static str, u32, Result<Verdict, Refusal>);
 
-// Why there is no verdict.
-#[derive(Clone, Copy, Debug, PartialEq, Eq)]
-enum Want {
-    Decl(DeclFault),
-    Text(TextFault),
-    Audit(AuditFault),
-    Memory,
-}
-
-// The verdict on the text of a journal of a declaration with one resource, which opens with these numbers.
-fn verdict<A: Allocator + Copy>(
-    alloc: A,
-    declaration: &[u8],
-    room: u32,
-    opening: &[u64],
-    text: &str,
-) -> Result<Verdict, Want> {
-    let decl = read(alloc, declaration).map_err(Want::Decl)?;
-    let journal = read_journal(alloc, &decl, text.as_bytes()).map_err(Want::Text)?;
-    let mut numbers = Vec::new(alloc);
-    for number in opening {
-        numbers.push(*number).map_err(|_| Want::Memory)?;
+// Each text has this verdict in this room, if it names no other, where its declaration's resource opens so.
+fn are_judged_so(rt: &impl Abort, heap: Global, decl: &Decl, numbers: &[u64], rows: &[Judged]) {
+    let openings = opened(rt, heap, numbers);
+    for (text, room, want) in rows {
+        let found = verdict(heap, decl, *room, &openings, text);
+        assert_eq!(rt; found, *want, "{text}");
     }
-    let mut openings = Vec::new(alloc);
-    openings.push(numbers).map_err(|_| Want::Memory)?;
-    audit(alloc, &decl, room, &openings, &journal.lines).map_err(Want::Audit)
 }
+
+/// Journals of the slot.
+const ROWS: [Judged; 18] = [
+    ("", 1, Ok(Verdict::Sound)),
+    (DEPOSITED, 4096, Ok(Verdict::Sound)),
+    (DEPOSITED, 1_048_576, Ok(Verdict::Sound)),
+    (DEPOSITED, 7, Ok(Verdict::Sound)),
+    (DEPOSITED, 6, Ok(Verdict::WrongLine(5))),
+    (DEPOSITED, 5, Ok(Verdict::WrongLine(4))),
+    (
+        "1 start deposit: started 0\n2 start remove: started 1\n1 use 0 put 7: used 0\n\
+        1 finish 0: finished\n2 start remove: started 1\n2 use 1 look: used 7\n",
+        4096,
+        Ok(Verdict::WrongLine(1)),
+    ),
+    (
+        "1 start deposit: started 0\n2 start remove: blocked 0\n1 use 0 put 7: device failed\n\
+        1 finish 0: finished\n2 start remove: started 1\n2 use 1 look: used 7\n",
+        4096,
+        Ok(Verdict::WrongLine(5)),
+    ),
+    (
+        "1 start deposit: started 0\n2 start remove: blocked 0\n1 use 0 put 7: device failed\n\
+        1 finish 0: finished\n2 start remove: started 1\n2 use 1 look: used 0\n",
+        4096,
+        Ok(Verdict::Sound),
+    ),
+    (
+        "1 start deposit: started 0\n2 start remove: blocked 0\n1 use 0 put 7: used 0\n\
+        1 finish 0: finished\n2 start remove: started 1\n2 use 1 look: device failed\n",
+        4096,
+        Ok(Verdict::Sound),
+    ),
+    (
+        "1 start deposit: started 0\n1 use 0 take: device failed\n",
+        4096,
+        Ok(Verdict::WrongLine(1)),
+    ),
+    (
+        "1 start deposit: started 0\n1 use 0 look: used 0\n",
+        2,
+        Ok(Verdict::WrongLine(1)),
+    ),
+    ("1 start deposit: no room\n", 1, Ok(Verdict::WrongLine(0))),
+    (
+        "1 start deposit: started 0\n1 finish 0: finished\n",
+        2,
+        Ok(Verdict::Sound),
+    ),
+    (
+        "1 start deposit: started 0\n1 finish 0: finished\n",
+        1,
+        Ok(Verdict::WrongLine(0)),
+    ),
+    (
+        "1 start deposit: started 0\n1 finish 0: finished\n1 finish 0: stale\n",
+        4,
+        Ok(Verdict::Sound),
+    ),
+    (
+        "1 start deposit: started 0\n2 finish 0: not yours\n1 finish 0: finished\n1 finish 0: finished\n",
+        9,
+        Ok(Verdict::WrongLine(3)),
+    ),
+    ("1 start #2: unknown operation\n", 9, Ok(Verdict::Sound)),
+];
 
 #[test]
 fn audits_rows(rt: HostRuntime) {
-    let second_first =
-        "1 start deposit: started 0\n2 start remove: started 1\n1 use 0 put 7: used 0\n\
-        1 finish 0: finished\n2 start remove: started 1\n2 use 1 look: used 7\n";
-    let failed_put =
-        "1 start deposit: started 0\n2 start remove: blocked 0\n1 use 0 put 7: device failed\n\
-        1 finish 0: finished\n2 start remove: started 1\n2 use 1 look: used 7\n";
-    let failed_put_seen =
-        "1 start deposit: started 0\n2 start remove: blocked 0\n1 use 0 put 7: device failed\n\
-        1 finish 0: finished\n2 start remove: started 1\n2 use 1 look: used 0\n";
-    let failed_look =
-        "1 start deposit: started 0\n2 start remove: blocked 0\n1 use 0 put 7: used 0\n\
-        1 finish 0: finished\n2 start remove: started 1\n2 use 1 look: device failed\n";
-    let failed_take = "1 start deposit: started 0\n1 use 0 take: device failed\n";
-    let two_places = "1 start deposit: started 0\n1 use 0 look: used 0\n";
-    let rows = [
-        ("", 1, Verdict::Sound),
-        (DEPOSITED, 4096, Verdict::Sound),
-        (DEPOSITED, 1_048_576, Verdict::Sound),
-        (DEPOSITED, 7, Verdict::Sound),
-        (DEPOSITED, 6, Verdict::WrongLine(5)),
-        (DEPOSITED, 5, Verdict::WrongLine(4)),
-        (second_first, 4096, Verdict::WrongLine(1)),
-        (failed_put, 4096, Verdict::WrongLine(5)),
-        (failed_put_seen, 4096, Verdict::Sound),
-        (failed_look, 4096, Verdict::Sound),
-        (failed_take, 4096, Verdict::WrongLine(1)),
-        (two_places, 2, Verdict::WrongLine(1)),
-        ("1 start deposit: no room\n", 1, Verdict::WrongLine(0)),
-        (
-            "1 start deposit: started 0\n1 finish 0: finished\n",
-            2,
-            Verdict::Sound,
-        ),
-        (
-            "1 start deposit: started 0\n1 finish 0: finished\n",
-            1,
-            Verdict::WrongLine(0),
-        ),
-        (
-            "1 start deposit: started 0\n1 finish 0: finished\n1 finish 0: stale\n",
-            4,
-            Verdict::Sound,
-        ),
-        (
-            "1 start deposit: started 0\n2 finish 0: not yours\n1 finish 0: finished\n1 finish 0: finished\n",
-            9,
-            Verdict::WrongLine(3),
-        ),
-        ("1 start #2: unknown operation\n", 9, Verdict::Sound),
-    ];
-    for (text, room, expected) in rows {
-        assert_eq!(rt;
-            verdict(rt.alloc(), SLOT, room, &[0], text),
-            Ok(expected),
-            "{text}"
-        );
+    let decl = declared(&rt, rt.alloc(), SLOT);
+    are_judged_so(&rt, rt.alloc(), &decl, &[0], &ROWS);
+}
+
+const BAD_HEAD: Result<Verdict, Refusal> = Err(Refusal::Text(TextFault::BadLine(0)));
+
+/// A text may name its room, from which no other room frees it.
+const ROOMS: [Judged; 8] = [
+    (
+        "journal 2 room 2\n1 start deposit: started 0\n1 finish 0: finished\n",
+        1,
+        Ok(Verdict::Sound),
+    ),
+    (
+        "journal 2 room 1\n1 start deposit: started 0\n1 finish 0: finished\n",
+        4096,
+        Ok(Verdict::WrongLine(0)),
+    ),
+    (
+        "journal 2 room 1048576\n1 start deposit: started 0\n1 finish 0: finished",
+        1,
+        Ok(Verdict::Sound),
+    ),
+    ("journal 2 room 1", 4096, Ok(Verdict::Sound)),
+    (
+        "journal 2 room 1048577\n1 start deposit: started 0\n1 finish 0: finished\n",
+        4096,
+        BAD_HEAD,
+    ),
+    (
+        "journal 2 room 0\n1 start deposit: started 0\n1 finish 0: finished\n",
+        4096,
+        BAD_HEAD,
+    ),
+    (
+        "journal 3 room 2\n1 start deposit: started 0\n1 finish 0: finished\n",
+        4096,
+        BAD_HEAD,
+    ),
+    (
+        "journal 2 room 2\n1 start deposit: started 0\n1 finish 0: started 1\n",
+        4096,
+        Ok(Verdict::WrongLine(1)),
+    ),
+];
+
+#[test]
+fn audits_in_the_room_of_the_text(rt: HostRuntime) {
+    let decl = declared(&rt, rt.alloc(), SLOT);
+    are_judged_so(&rt, rt.alloc(), &decl, &[0], &ROOMS);
+}
+
+/// The largest numbers that lines can name.
+const LARGEST: [Judged; 9] = [
+    (
+        "1 use 18446744073709551615 look: stale\n",
+        9,
+        Ok(Verdict::Sound),
+    ),
+    (
+        "1 use 18446744073709551615 look: used 0\n",
+        9,
+        Ok(Verdict::WrongLine(0)),
+    ),
+    (
+        "1 use 18446744073709551615 put 18446744073709551615: device failed\n",
+        9,
+        Ok(Verdict::WrongLine(0)),
+    ),
+    (
+        "1 finish 18446744073709551615: stale\n",
+        9,
+        Ok(Verdict::Sound),
+    ),
+    (
+        "1 finish 18446744073709551615: finished\n",
+        9,
+        Ok(Verdict::WrongLine(0)),
+    ),
+    (
+        "4294967295 start #4294967295: unknown operation\n",
+        9,
+        Ok(Verdict::Sound),
+    ),
+    (
+        "1 start #4294967295: started 0\n",
+        9,
+        Ok(Verdict::WrongLine(0)),
+    ),
+    (
+        "1 start deposit: started 18446744073709551615\n",
+        9,
+        Ok(Verdict::WrongLine(0)),
+    ),
+    (
+        "1 start remove: blocked 4294967295\n",
+        9,
+        Ok(Verdict::WrongLine(0)),
+    ),
+];
+
+#[test]
+fn audits_the_largest_numbers(rt: HostRuntime) {
+    let decl = declared(&rt, rt.alloc(), SLOT);
+    are_judged_so(&rt, rt.alloc(), &decl, &[0], &LARGEST);
+}
+
+/// Journals of the queue that opens with 5.
+const QUEUED: [Judged; 3] = [
+    (
+        "1 start a: started 0\n1 use 0 look: used 5\n1 use 0 put 6: used 2\n1 use 0 put 7: full\n1 use 0 take: used 5\n\
+        1 use 0 take: used 6\n1 use 0 take: empty\n1 use 0 look: empty\n1 use 0 add 1: not offered\n",
+        64,
+        Ok(Verdict::Sound),
+    ),
+    (
+        "1 start a: started 0\n1 use 0 put 6: used 2\n1 use 0 put 7: device failed\n",
+        64,
+        Ok(Verdict::WrongLine(2)),
+    ),
+    (
+        "1 start a: started 0\n1 use 0 put 6: used 2\n1 use 0 take: used 6\n",
+        64,
+        Ok(Verdict::WrongLine(2)),
+    ),
+];
+
+#[test]
+fn audits_queues(rt: HostRuntime) {
+    let decl = declared(&rt, rt.alloc(), QUEUE);
+    are_judged_so(&rt, rt.alloc(), &decl, &[5], &QUEUED);
+}
+
+/// Journals of the tally that opens with the number below the largest.
+const TOTALLED: [Judged; 2] = [
+    (
+        "1 start a: started 0\n1 use 0 add 1: used 18446744073709551615\n1 use 0 add 1: overflow\n\
+        1 use 0 look: used 18446744073709551615\n1 use 0 put 1: not offered\n1 use 0 take: not offered\n",
+        64,
+        Ok(Verdict::Sound),
+    ),
+    (
+        "1 start a: started 0\n1 use 0 add 2: used 0\n",
+        64,
+        Ok(Verdict::WrongLine(1)),
+    ),
+];
+
+#[test]
+fn audits_tallies(rt: HostRuntime) {
+    let decl = declared(&rt, rt.alloc(), TALLY);
+    are_judged_so(&rt, rt.alloc(), &decl, &[u64::MAX - 1], &TOTALLED);
+}
+
+/// A room, what the one resource opens with, unless there are no openings at all, and what is found of no lines.
+type Opened = (u32, Option<&'static [u64]>, Result<Verdict, AuditFault>);
+
+const OF_SLOTS: [Opened; 9] = [
+    (0, Some(&[0]), Err(AuditFault::BadRoom)),
+    (1_048_577, Some(&[0]), Err(AuditFault::BadRoom)),
+    (0, Some(&[1, 2]), Err(AuditFault::BadRoom)),
+    (0, None, Err(AuditFault::BadRoom)),
+    (4096, None, Err(AuditFault::WrongCount)),
+    (4096, Some(&[1, 2]), Err(AuditFault::BadOpening(ResId(0)))),
+    (4096, Some(&[]), Err(AuditFault::BadOpening(ResId(0)))),
+    (1, Some(&[1]), Ok(Verdict::Sound)),
+    (1_048_576, Some(&[u64::MAX]), Ok(Verdict::Sound)),
+];
+
+const OF_QUEUES: [Opened; 3] = [
+    (64, Some(&[]), Ok(Verdict::Sound)),
+    (64, Some(&[5, 6]), Ok(Verdict::Sound)),
+    (64, Some(&[5, 6, 7]), Err(AuditFault::BadOpening(ResId(0)))),
+];
+
+const OF_TALLIES: [Opened; 2] = [
+    (64, Some(&[7]), Ok(Verdict::Sound)),
+    (64, Some(&[]), Err(AuditFault::BadOpening(ResId(0)))),
+];
+
+// What is found of no lines.
+fn found(
+    heap: Global,
+    decl: &Decl,
+    room: u32,
+    openings: &[Vec<u64>],
+) -> Result<Verdict, AuditFault> {
+    audit(heap, decl, room, openings, &[])
+}
+
+// What is found of no lines where the one resource opens so, or where there are no openings.
+fn found_so(
+    rt: &impl Abort,
+    heap: Global,
+    decl: &Decl,
+    room: u32,
+    numbers: Option<&[u64]>,
+) -> Result<Verdict, AuditFault> {
+    match numbers {
+        Some(numbers) => found(heap, decl, room, &opened(rt, heap, numbers)),
+        None => found(heap, decl, room, &[]),
     }
 }
 
-#[test]
-fn audits_each_law(rt: HostRuntime) {
-    let queued =
-        "1 start a: started 0\n1 use 0 look: used 5\n1 use 0 put 6: used 2\n1 use 0 put 7: full\n1 use 0 take: used 5\n\
-        1 use 0 take: used 6\n1 use 0 take: empty\n1 use 0 look: empty\n1 use 0 add 1: not offered\n";
-    let failed_full = "1 start a: started 0\n1 use 0 put 6: used 2\n1 use 0 put 7: device failed\n";
-    let last_first = "1 start a: started 0\n1 use 0 put 6: used 2\n1 use 0 take: used 6\n";
-    let totalled =
-        "1 start a: started 0\n1 use 0 add 1: used 18446744073709551615\n1 use 0 add 1: overflow\n\
-        1 use 0 look: used 18446744073709551615\n1 use 0 put 1: not offered\n1 use 0 take: not offered\n";
-    let wrapped = "1 start a: started 0\n1 use 0 add 2: used 0\n";
-    let rows: [(&[u8], &[u64], &str, Result<Verdict, AuditFault>); 8] = [
-        (QUEUE, &[5], queued, Ok(Verdict::Sound)),
-        (QUEUE, &[5], failed_full, Ok(Verdict::WrongLine(2))),
-        (QUEUE, &[5], last_first, Ok(Verdict::WrongLine(2))),
-        (QUEUE, &[5, 6], "", Ok(Verdict::Sound)),
-        (QUEUE, &[5, 6, 7], "", Err(AuditFault::BadOpening(ResId(0)))),
-        (TALLY, &[u64::MAX - 1], totalled, Ok(Verdict::Sound)),
-        (TALLY, &[u64::MAX - 1], wrapped, Ok(Verdict::WrongLine(1))),
-        (TALLY, &[], "", Err(AuditFault::BadOpening(ResId(0)))),
-    ];
-    for (declaration, opening, text, expected) in rows {
-        let found = verdict(rt.alloc(), declaration, 64, opening, text);
-        assert_eq!(rt; found, expected.map_err(Want::Audit), "{text}");
+fn open_so(rt: &impl Abort, heap: Global, declaration: &[u8], rows: &[Opened]) {
+    let decl = declared(rt, heap, declaration);
+    for (room, numbers, want) in rows {
+        let found = found_so(rt, heap, &decl, *room, *numbers);
+        assert!(rt; found == *want, "{room}, {numbers:?}");
     }
 }
 
 #[test]
 fn refuses_rooms_and_openings(rt: HostRuntime) {
-    let rows: [(u32, &[u64], AuditFault); 5] = [
-        (0, &[0], AuditFault::BadRoom),
-        (1_048_577, &[0], AuditFault::BadRoom),
-        (0, &[1, 2], AuditFault::BadRoom),
-        (4096, &[1, 2], AuditFault::BadOpening(ResId(0))),
-        (4096, &[], AuditFault::BadOpening(ResId(0))),
-    ];
-    for (room, opening, fault) in rows {
-        assert_eq!(rt;
-            verdict(rt.alloc(), SLOT, room, opening, DEPOSITED),
-            Err(Want::Audit(fault))
-        );
+    open_so(&rt, rt.alloc(), SLOT, &OF_SLOTS);
+    open_so(&rt, rt.alloc(), QUEUE, &OF_QUEUES);
+    open_so(&rt, rt.alloc(), TALLY, &OF_TALLIES);
+}
+
+const SPELLED: [(AuditFault, &str); 4] = [
+    (AuditFault::BadRoom, "bad room"),
+    (AuditFault::WrongCount, "wrong count"),
+    (AuditFault::BadOpening(ResId(3)), "bad opening 3"),
+    (AuditFault::OutOfMemory, "out of memory"),
+];
+
+// Each fault is spelled so.
+fn are_spelled_so(rt: &impl Abort, heap: Global, rows: &[(AuditFault, &str)]) {
+    for (fault, want) in rows {
+        match format!(in heap; "{fault}") {
+            Ok(text) => assert!(rt; text.as_str() == *want, "at {want}"),
+            Err(_) => panic!(rt; "no memory"),
+        }
     }
-    let Ok(decl) = read(rt.alloc(), SLOT) else {
-        panic!(rt; "no declaration");
-    };
-    assert_eq!(rt;
-        audit(rt.alloc(), &decl, 4096, &[], &[]),
-        Err(AuditFault::WrongCount)
-    );
-    assert_eq!(rt;
-        audit(rt.alloc(), &decl, 0, &[], &[]),
-        Err(AuditFault::BadRoom)
-    );
 }
 
 #[test]
 fn spells_faults(rt: HostRuntime) {
-    let rows = [
-        (AuditFault::BadRoom, "bad room"),
-        (AuditFault::WrongCount, "wrong count"),
-        (AuditFault::BadOpening(ResId(3)), "bad opening 3"),
-        (AuditFault::OutOfMemory, "out of memory"),
-    ];
-    for (fault, expected) in rows {
-        let Ok(text) = format!(in rt.alloc(); "{fault}") else {
-            panic!(rt; "no memory");
-        };
-        assert_eq!(rt; text.as_str(), expected);
-    }
-}
-
-#[test]
-fn each_request_is_refused(rt: HostRuntime) {
-    refuse_in_turn(&rt, rt.alloc(), OutOfMemory, |heap: &Refusing<Global>| {
-        match verdict(heap, SLOT, 4096, &[0], DEPOSITED) {
-            Ok(verdict) => Ok(verdict == Verdict::Sound),
-            Err(
-                Want::Decl(DeclFault::OutOfMemory)
-                | Want::Text(TextFault::OutOfMemory)
-                | Want::Audit(AuditFault::OutOfMemory)
-                | Want::Memory,
-            ) => Err(OutOfMemory),
-            Err(_) => Ok(false),
-        }
-    });
+    are_spelled_so(&rt, rt.alloc(), &SPELLED);
 }

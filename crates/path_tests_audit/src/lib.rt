@@ -4,4 +4,12 @@
 #[cfg(test)]
 mod audit;
 #[cfg(test)]
+mod forged;
+#[cfg(test)]
 mod in_turn;
+#[cfg(test)]
+mod memory;
+#[cfg(test)]
+mod overlap;
+#[cfg(test)]
+mod verdict;

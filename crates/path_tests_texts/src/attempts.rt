@@ -5,36 +5,68 @@ use path_decl::Decl;
 use path_lines::{
     FirstLine, LineFault, TextFault, fault_at, first_entry, read_attempts, write_line,
 };
-use path_model::{ActId, Attempt, Line, OpId, OutOfMemory, Reply, Verb};
+use path_model::{ActId, Attempt, Line, OpId, Reply, Verb};
 use refusing::Refusing;
 use std::alloc::Global;
 use std::process::Abort;
-use std::test::Fail;
 
 const DECLARATION: &[u8] = b"resource r cell operation a, b path a ; b end end";
 
-// The text tells these attempts.
-fn tells(rt: &impl Abort, heap: Global, decl: &Decl, text: &[u8], want: &[(u32, Attempt)]) {
-    let Ok(entries) = read_attempts(heap, decl, text) else {
-        panic!(rt; "refused");
-    };
-    assert_eq!(rt; entries.as_slice(), want);
+/// What a text of attempts tells: each attempt with its worker.
+type Told<'a> = Result<&'a [(u32, Attempt)], TextFault>;
+
+// Whether this is what a text tells.
+fn tells(heap: Global, decl: &Decl, text: &str, want: Told) -> bool {
+    match read_attempts(heap, decl, text.as_bytes()) {
+        Ok(entries) => want == Ok(entries.as_slice()),
+        Err(fault) => want == Err(fault),
+    }
 }
 
+// Each text tells what stands beside it.
+fn tell_so(rt: &impl Abort, heap: Global, decl: &Decl, rows: &[(&str, Told)]) {
+    for (text, want) in rows {
+        assert!(rt; tells(heap, decl, text, *want), "at {text:?}");
+    }
+}
+
+/// Each form; texts without their last line feed; and texts with a line that is none, of which the first is named.
+const TEXTS: [(&str, Told<'static>); 8] = [
+    (
+        "0 start b\n1 use 2 put 3\n4 use 5 take\n6 use 7 look\n8 use 9 add 10\n11 finish 12",
+        Ok(&[
+            (0, Attempt::Start(OpId(1))),
+            (1, Attempt::Apply(ActId(2), Verb::Put(3))),
+            (4, Attempt::Apply(ActId(5), Verb::Take)),
+            (6, Attempt::Apply(ActId(7), Verb::Look)),
+            (8, Attempt::Apply(ActId(9), Verb::Add(10))),
+            (11, Attempt::Finish(ActId(12))),
+        ]),
+    ),
+    ("", Ok(&[])),
+    ("1 start #2", Ok(&[(1, Attempt::Start(OpId(2)))])),
+    ("1 start #2\n", Ok(&[(1, Attempt::Start(OpId(2)))])),
+    ("1 start a\n\n", Err(TextFault::BadLine(1))),
+    (
+        "1 start a\n1 start c\n1 start #0\n",
+        Err(TextFault::Undeclared(1)),
+    ),
+    (
+        "1 start a\n1 start #2\n1 start #1",
+        Err(TextFault::BadLine(2)),
+    ),
+    ("\n", Err(TextFault::BadLine(0))),
+];
+
 #[test]
-fn reads_each_form(rt: HostRuntime) {
+fn reads_attempts(rt: HostRuntime) {
     let decl = declared(&rt, rt.alloc(), DECLARATION);
-    let text =
-        b"0 start b\n1 use 2 put 3\n4 use 5 take\n6 use 7 look\n8 use 9 add 10\n11 finish 12";
-    let want = [
-        (0, Attempt::Start(OpId(1))),
-        (1, Attempt::Apply(ActId(2), Verb::Put(3))),
-        (4, Attempt::Apply(ActId(5), Verb::Take)),
-        (6, Attempt::Apply(ActId(7), Verb::Look)),
-        (8, Attempt::Apply(ActId(9), Verb::Add(10))),
-        (11, Attempt::Finish(ActId(12))),
-    ];
-    tells(&rt, rt.alloc(), &decl, text, want.as_slice());
+    tell_so(&rt, rt.alloc(), &decl, &TEXTS);
+}
+
+// What the first line of a text tells.
+fn first_line(decl: &Decl, text: &str) -> Result<FirstLine, LineFault> {
+    first_entry(decl, text.as_bytes())
 }
 
 // What the first line of each text tells: the worker, the attempt, and its length.
@@ -45,201 +77,189 @@ fn first_lines_tell(rt: &impl Abort, decl: &Decl, rows: &[(&str, u32, Attempt, u
             attempt: *attempt,
             length: *length,
         };
-        assert_eq!(rt; first_entry(decl, text.as_bytes()), Ok(want), "at {text}");
+        assert!(rt; first_line(decl, text) == Ok(want), "at {text}");
     }
 }
+
+const FIRST_LINES: [(&str, u32, Attempt, usize); 9] = [
+    ("1 start b\n2 start a\n", 1, Attempt::Start(OpId(1)), 9),
+    ("4294967295 start #2", u32::MAX, Attempt::Start(OpId(2)), 19),
+    ("1 start #256\n", 1, Attempt::Start(OpId(256)), 12),
+    (
+        "1 start #4294967295\nx",
+        1,
+        Attempt::Start(OpId(u32::MAX)),
+        19,
+    ),
+    (
+        "0 use 0 put 0\n",
+        0,
+        Attempt::Apply(ActId(0), Verb::Put(0)),
+        13,
+    ),
+    (
+        "0 use 1 take\n\n",
+        0,
+        Attempt::Apply(ActId(1), Verb::Take),
+        12,
+    ),
+    ("0 use 1 look", 0, Attempt::Apply(ActId(1), Verb::Look), 12),
+    (
+        "0 use 18446744073709551615 add 18446744073709551615\n",
+        0,
+        Attempt::Apply(ActId(u64::MAX), Verb::Add(u64::MAX)),
+        51,
+    ),
+    ("7 finish 10\n", 7, Attempt::Finish(ActId(10)), 11),
+];
+
+// The first line of each text has this fault.
+fn first_lines_fault(rt: &impl Abort, decl: &Decl, texts: &[&str], want: LineFault) {
+    for text in texts {
+        assert!(rt; first_line(decl, text) == Err(want), "at {text:?}");
+    }
+}
+
+/// No first line of these is an attempt. The declaration has the operations 0 and 1.
+const BAD: [&str; 41] = [
+    "",
+    "\n1 start a",
+    "1",
+    "1 ",
+    "1 start",
+    "1 start ",
+    "1 start  a",
+    "1  start a",
+    " 1 start a",
+    "1 start a ",
+    "1 start a\r\n",
+    "1 start a b",
+    "1 start #",
+    "1 start #0",
+    "1 start #1",
+    "1 start #02",
+    "1 start #2 ",
+    "1 start ##2",
+    "1 start 2",
+    "1 start #4294967296",
+    "1 start path",
+    "1 start abcdefghijklmnopqrstuvwxyzabcdefg",
+    "1 start \u{e9}",
+    "4294967296 start a",
+    "01 start a",
+    "x start c",
+    "1 Start a",
+    "1 use 0",
+    "1 use 0 ",
+    "1 use 00 look",
+    "1 use 0 look ",
+    "1 use 0 put",
+    "1 use 0 put ",
+    "1 use 0 put 01",
+    "1 use 0 put 18446744073709551616",
+    "1 use 0 drop 1",
+    "1 finish",
+    "1 finish ",
+    "1 finish #0",
+    "1 finish 0 ",
+    "%",
+];
+
+/// The first line of each of these names no operation that is declared.
+const UNDECLARED: [&str; 4] = [
+    "1 start c",
+    "1 start c\n1 start a\n",
+    "1 start A",
+    "1 start abcdefghijklmnopqrstuvwxyzabcdef",
+];
 
 /// What a line tells, and nothing of what follows it.
 #[test]
 fn reads_the_first_line(rt: HostRuntime) {
     let decl = declared(&rt, rt.alloc(), DECLARATION);
-    let rows = [
-        ("1 start b\n2 start a\n", 1, Attempt::Start(OpId(1)), 9),
-        ("4294967295 start #2", u32::MAX, Attempt::Start(OpId(2)), 19),
-        ("1 start #256\n", 1, Attempt::Start(OpId(256)), 12),
-        (
-            "1 start #4294967295\nx",
-            1,
-            Attempt::Start(OpId(u32::MAX)),
-            19,
-        ),
-        (
-            "0 use 0 put 0\n",
-            0,
-            Attempt::Apply(ActId(0), Verb::Put(0)),
-            13,
-        ),
-        (
-            "0 use 1 take\n\n",
-            0,
-            Attempt::Apply(ActId(1), Verb::Take),
-            12,
-        ),
-        ("0 use 1 look", 0, Attempt::Apply(ActId(1), Verb::Look), 12),
-        (
-            "0 use 18446744073709551615 add 18446744073709551615\n",
-            0,
-            Attempt::Apply(ActId(u64::MAX), Verb::Add(u64::MAX)),
-            51,
-        ),
-        ("7 finish 10\n", 7, Attempt::Finish(ActId(10)), 11),
-    ];
-    first_lines_tell(&rt, &decl, rows.as_slice());
-}
-
-// The first line of each text has this fault.
-fn first_lines_fault(rt: &impl Abort, decl: &Decl, texts: &[&str], want: LineFault) {
-    for text in texts {
-        assert_eq!(rt;
-            first_entry(decl, text.as_bytes()),
-            Err(want),
-            "at {text:?}"
-        );
-    }
-}
-
-/// The declaration has the operations 0 and 1.
-#[test]
-fn names_the_fault_of_the_first_line(rt: HostRuntime) {
-    let decl = declared(&rt, rt.alloc(), DECLARATION);
-    let bad = [
-        "",
-        "\n1 start a",
-        "1",
-        "1 ",
-        "1 start",
-        "1 start ",
-        "1 start  a",
-        "1  start a",
-        " 1 start a",
-        "1 start a ",
-        "1 start a\r\n",
-        "1 start a b",
-        "1 start #",
-        "1 start #0",
-        "1 start #1",
-        "1 start #02",
-        "1 start #2 ",
-        "1 start ##2",
-        "1 start 2",
-        "1 start #4294967296",
-        "1 start path",
-        "1 start abcdefghijklmnopqrstuvwxyzabcdefg",
-        "1 start \u{e9}",
-        "4294967296 start a",
-        "01 start a",
-        "x start c",
-        "1 Start a",
-        "1 use 0",
-        "1 use 0 ",
-        "1 use 00 look",
-        "1 use 0 look ",
-        "1 use 0 put",
-        "1 use 0 put ",
-        "1 use 0 put 01",
-        "1 use 0 put 18446744073709551616",
-        "1 use 0 drop 1",
-        "1 finish",
-        "1 finish ",
-        "1 finish #0",
-        "1 finish 0 ",
-        "%",
-    ];
-    first_lines_fault(&rt, &decl, bad.as_slice(), LineFault::Bad);
-}
-
-#[test]
-fn names_what_is_undeclared_in_the_first_line(rt: HostRuntime) {
-    let decl = declared(&rt, rt.alloc(), DECLARATION);
-    let undeclared = [
-        "1 start c",
-        "1 start c\n1 start a\n",
-        "1 start A",
-        "1 start abcdefghijklmnopqrstuvwxyzabcdef",
-    ];
-    first_lines_fault(&rt, &decl, undeclared.as_slice(), LineFault::Undeclared);
+    first_lines_tell(&rt, &decl, &FIRST_LINES);
+    first_lines_fault(&rt, &decl, &BAD, LineFault::Bad);
+    first_lines_fault(&rt, &decl, &UNDECLARED, LineFault::Undeclared);
 }
 
 #[test]
 fn places_a_fault(rt: HostRuntime) {
-    assert_eq!(rt; fault_at(3, LineFault::Bad), TextFault::BadLine(3));
-    assert_eq!(rt;
-        fault_at(3, LineFault::Undeclared),
-        TextFault::Undeclared(3)
-    );
+    assert!(rt; fault_at(3, LineFault::Bad) == TextFault::BadLine(3));
+    assert!(rt; fault_at(3, LineFault::Undeclared) == TextFault::Undeclared(3));
 }
 
-// The first line of the text is written so again, with a reply.
-fn is_written_back(rt: &impl Abort, heap: Global, decl: &Decl, text: &str, want: &str) {
-    let Ok(first) = first_entry(decl, text.as_bytes()) else {
-        panic!(rt; "refused");
-    };
+// Whether this attempt is written so, with a reply.
+fn is_written_so(heap: Global, decl: &Decl, first: FirstLine, want: &str) -> bool {
     let line = Line {
         worker: first.worker,
         attempt: first.attempt,
         reply: Reply::UnknownOperation,
     };
     match write_line(heap, decl, &line) {
-        Ok(written) => assert_eq!(rt; written.as_str(), want),
-        Err(OutOfMemory) => panic!(rt; "no memory"),
+        Ok(written) => written.as_str() == want,
+        Err(_) => false,
     }
 }
 
-/// An operation that isn't declared is read by its number, and written so again.
-#[test]
-fn numbers_of_operations_are_written_back(rt: HostRuntime) {
-    let decl = declared(&rt, rt.alloc(), DECLARATION);
-    let want = "1 start #256: unknown operation";
-    is_written_back(&rt, rt.alloc(), &decl, "1 start #256", want);
-}
-
-// Each text is refused with the fault beside it.
-fn refuses(rt: &impl Abort, heap: Global, decl: &Decl, rows: &[(&str, TextFault)]) {
+// Each text of an attempt is written again as the text beside it.
+fn are_written_back(rt: &impl Abort, heap: Global, decl: &Decl, rows: &[(&str, &str)]) {
     for (text, want) in rows {
-        match read_attempts(heap, decl, text.as_bytes()) {
-            Ok(_) => panic!(rt; "taken: {text:?}"),
-            Err(fault) => assert_eq!(rt; fault, *want, "at {text:?}"),
+        match first_line(decl, text) {
+            Ok(first) => assert!(rt; is_written_so(heap, decl, first, want), "at {text}"),
+            Err(_) => panic!(rt; "refused: {text}"),
         }
     }
 }
 
-/// The first line that is none is named, by its place.
+/// Numbers of operations and activations, at the ends of what a line can name, and what is written of each.
+const WRITTEN_BACK: [(&str, &str); 6] = [
+    ("1 start #256", "1 start #256: unknown operation"),
+    ("1 start #2", "1 start #2: unknown operation"),
+    (
+        "1 start #4294967295",
+        "1 start #4294967295: unknown operation",
+    ),
+    (
+        "4294967295 use 18446744073709551615 look",
+        "4294967295 use 18446744073709551615 look: unknown operation",
+    ),
+    (
+        "0 use 18446744073709551615 add 18446744073709551615",
+        "0 use 18446744073709551615 add 18446744073709551615: unknown operation",
+    ),
+    (
+        "1 finish 18446744073709551615",
+        "1 finish 18446744073709551615: unknown operation",
+    ),
+];
+
+/// An operation that isn't declared is read by its number, and written so again.
 #[test]
-fn names_the_first_faulty_line(rt: HostRuntime) {
+fn numbers_are_written_back(rt: HostRuntime) {
     let decl = declared(&rt, rt.alloc(), DECLARATION);
-    let rows = [
-        ("1 start a\n\n", TextFault::BadLine(1)),
-        (
-            "1 start a\n1 start c\n1 start #0\n",
-            TextFault::Undeclared(1),
-        ),
-        ("1 start a\n1 start #2\n1 start #1", TextFault::BadLine(2)),
-        ("\n", TextFault::BadLine(0)),
-    ];
-    refuses(&rt, rt.alloc(), &decl, rows.as_slice());
+    are_written_back(&rt, rt.alloc(), &decl, &WRITTEN_BACK);
 }
 
-#[test]
-fn takes_texts_without_a_last_line_feed(rt: HostRuntime) {
-    let decl = declared(&rt, rt.alloc(), DECLARATION);
-    tells(&rt, rt.alloc(), &decl, b"", &[]);
-    let want = [(1, Attempt::Start(OpId(2)))];
-    tells(&rt, rt.alloc(), &decl, b"1 start #2", want.as_slice());
-    tells(&rt, rt.alloc(), &decl, b"1 start #2\n", want.as_slice());
-}
-
-#[test]
-fn fault_texts(rt: HostRuntime) -> Result<(), Fail> {
-    let rows = [
-        (TextFault::TooLong, "too long"),
-        (TextFault::BadLine(3), "bad line 3"),
-        (TextFault::Undeclared(3), "undeclared in line 3"),
-        (TextFault::OutOfMemory, "out of memory"),
-    ];
+// Each fault is spelled so.
+fn are_spelled_so(rt: &impl Abort, heap: Global, rows: &[(TextFault, &str)]) {
     for (fault, want) in rows {
-        assert_eq!(rt; format!(in rt.alloc(); "{fault}")?.as_str(), want);
+        match format!(in heap; "{fault}") {
+            Ok(text) => assert!(rt; text.as_str() == *want, "at {want}"),
+            Err(_) => panic!(rt; "no memory"),
+        }
     }
-    Ok(())
+}
+
+const SPELLED: [(TextFault, &str); 4] = [
+    (TextFault::TooLong, "too long"),
+    (TextFault::BadLine(3), "bad line 3"),
+    (TextFault::Undeclared(3), "undeclared in line 3"),
+    (TextFault::OutOfMemory, "out of memory"),
+];
+
+#[test]
+fn spells_faults(rt: HostRuntime) {
+    are_spelled_so(&rt, rt.alloc(), &SPELLED);
 }
 
 // How many attempts a text tells where this request is refused, and whether it was made.
@@ -256,13 +276,12 @@ fn counted_without(
     }
 }
 
+const TWO: &[u8] = b"1 start a\n2 start b\n";
+
 #[test]
 fn each_request_of_a_reading_is_refused(rt: HostRuntime) {
     let decl = declared(&rt, rt.alloc(), DECLARATION);
-    let text = b"1 start a\n2 start b\n";
-    assert_eq!(rt;
-        counted_without(rt.alloc(), &decl, text, 1),
-        (Err(TextFault::OutOfMemory), true)
-    );
-    assert_eq!(rt; counted_without(rt.alloc(), &decl, text, 2), (Ok(2), false));
+    let refused = counted_without(rt.alloc(), &decl, TWO, 1);
+    assert!(rt; refused == (Err(TextFault::OutOfMemory), true));
+    assert!(rt; counted_without(rt.alloc(), &decl, TWO, 2) == (Ok(2), false));
 }

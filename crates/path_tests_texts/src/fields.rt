@@ -1,100 +1,127 @@
 //! Fields of texts.
 
 use path_fields::{after_line, at_end, cut, last_number, number, strip, until};
+use std::process::Abort;
+
+// Whether a text begins with this number, and this much follows it.
+fn begins_so(text: &str, value: u64, rest: &str) -> bool {
+    number(text.as_bytes()) == Some((value, rest.as_bytes()))
+}
+
+fn begin_so(rt: &impl Abort, rows: &[(&str, u64, &str)]) {
+    for (text, value, rest) in rows {
+        assert!(rt; begins_so(text, *value, rest), "at {text}");
+    }
+}
+
+const NUMBERS: [(&str, u64, &str); 6] = [
+    ("0", 0, ""),
+    ("7 put", 7, " put"),
+    ("0 01", 0, " 01"),
+    ("4096\n", 4096, "\n"),
+    ("1a", 1, "a"),
+    ("18446744073709551615:", u64::MAX, ":"),
+];
 
 #[test]
 fn numbers(rt: HostRuntime) {
-    let right = [
-        ("0", 0, ""),
-        ("7 put", 7, " put"),
-        ("0 01", 0, " 01"),
-        ("4096\n", 4096, "\n"),
-        ("1a", 1, "a"),
-        ("18446744073709551615:", u64::MAX, ":"),
-    ];
-    for (text, value, rest) in right {
-        assert_eq!(rt;
-            number(text.as_bytes()),
-            Some((value, rest.as_bytes())),
-            "at {text}"
-        );
+    begin_so(&rt, &NUMBERS);
+}
+
+fn begins_with_a_number(text: &str) -> bool {
+    number(text.as_bytes()).is_some()
+}
+
+fn begin_with_none(rt: &impl Abort, texts: &[&str]) {
+    for text in texts {
+        assert!(rt; !begins_with_a_number(text), "at {text}");
     }
-    let wrong = [
-        "",
-        "00",
-        "01",
-        "+1",
-        "-1",
-        " 1",
-        "a1",
-        "18446744073709551616",
-        "99999999999999999999",
-        "184467440737095516150",
-    ];
-    for text in wrong {
-        assert_eq!(rt; number(text.as_bytes()), None, "at {text}");
-    }
+}
+
+const NO_NUMBERS: [&str; 10] = [
+    "",
+    "00",
+    "01",
+    "+1",
+    "-1",
+    " 1",
+    "a1",
+    "18446744073709551616",
+    "99999999999999999999",
+    "184467440737095516150",
+];
+
+#[test]
+fn no_numbers(rt: HostRuntime) {
+    begin_with_none(&rt, &NO_NUMBERS);
+}
+
+// The two parts of a text at the first space.
+fn parts(text: &[u8]) -> Option<(&[u8], &[u8])> {
+    cut(text, b' ')
+}
+
+// The text up to its first line feed, and the text from there on.
+fn line_and_rest(text: &[u8]) -> (&[u8], &[u8]) {
+    until(text, b'\n')
 }
 
 #[test]
 fn cuts_at_the_first(rt: HostRuntime) {
-    let rows: [(&[u8], Option<(&[u8], &[u8])>); 2] = [
-        (b"1 use 0", Some((b"1", b"use 0"))),
-        (b"", None),
-    ];
-    for (text, parts) in rows {
-        assert_eq!(rt; cut(text, b' '), parts, "at {text:?}");
-    }
-    let rows: [(&[u8], (&[u8], &[u8])); 2] = [(b"a\nb\n", (b"a", b"\nb\n")), (b"a", (b"a", b""))];
-    for (text, parts) in rows {
-        assert_eq!(rt; until(text, b'\n'), parts, "at {text:?}");
-    }
+    assert!(rt; parts(b"1 use 0") == Some((b"1".as_slice(), b"use 0".as_slice())));
+    assert!(rt; parts(b"").is_none());
+    assert!(rt; line_and_rest(b"a\nb\n") == (b"a".as_slice(), b"\nb\n".as_slice()));
+    assert!(rt; line_and_rest(b"a") == (b"a".as_slice(), b"".as_slice()));
+}
+
+// What follows a word in a text.
+fn put(text: &[u8]) -> Option<&[u8]> {
+    strip(text, b"put ")
 }
 
 #[test]
 fn strips_a_front(rt: HostRuntime) {
-    let rows: [(&[u8], Option<&[u8]>); 4] = [
-        (b"put 7", Some(b"7")),
-        (b"put ", Some(b"")),
-        (b"pu", None),
-        (b"add 7", None),
-    ];
-    for (text, rest) in rows {
-        assert_eq!(rt; strip(text, b"put "), rest, "at {text:?}");
-    }
+    assert!(rt; put(b"put 7") == Some(b"7".as_slice()));
+    assert!(rt; put(b"put ") == Some(b"".as_slice()));
+    assert!(rt; put(b"pu").is_none());
+    assert!(rt; put(b"add 7").is_none());
+}
+
+// What begins where a line ends.
+fn line_end(text: &[u8]) -> Option<&[u8]> {
+    at_end(text)
 }
 
 #[test]
 fn ends_of_lines(rt: HostRuntime) {
-    let rows: [(&[u8], Option<&[u8]>); 4] = [
-        (b"", Some(b"")),
-        (b"\nx", Some(b"\nx")),
-        (b"x", None),
-        (b"\r\n", None),
-    ];
-    for (text, rest) in rows {
-        assert_eq!(rt; at_end(text), rest, "at {text:?}");
-    }
+    assert!(rt; line_end(b"") == Some(b"".as_slice()));
+    assert!(rt; line_end(b"\nx") == Some(b"\nx".as_slice()));
+    assert!(rt; line_end(b"x").is_none());
+    assert!(rt; line_end(b"\r\n").is_none());
+}
+
+// The number that a line ends with, and the rest of the text.
+fn ending(text: &[u8]) -> Option<(u64, &[u8])> {
+    last_number(text)
 }
 
 #[test]
 fn numbers_at_ends_of_lines(rt: HostRuntime) {
-    let rows: [(&[u8], Option<(u64, &[u8])>); 5] = [
-        (b"7\n8", Some((7, b"\n8"))),
-        (b"18446744073709551615", Some((u64::MAX, b""))),
-        (b"7 \n", None),
-        (b"07\n", None),
-        (b"\n", None),
-    ];
-    for (text, want) in rows {
-        assert_eq!(rt; last_number(text), want, "at {text:?}");
-    }
+    assert!(rt; ending(b"7\n8") == Some((7, b"\n8".as_slice())));
+    assert!(rt; ending(b"18446744073709551615") == Some((u64::MAX, b"".as_slice())));
+    assert!(rt; ending(b"7 \n").is_none());
+    assert!(rt; ending(b"07\n").is_none());
+    assert!(rt; ending(b"\n").is_none());
+}
+
+// What comes after a line of two bytes.
+fn after_two(text: &[u8]) -> &[u8] {
+    after_line(text, text.len().min(2))
 }
 
 #[test]
 fn what_comes_after_a_line(rt: HostRuntime) {
-    let rows: [(&[u8], &[u8]); 3] = [(b"ab\ncd", b"cd"), (b"ab\n", b""), (b"ab", b"")];
-    for (text, rest) in rows {
-        assert_eq!(rt; after_line(text, text.len().min(2)), rest, "at {text:?}");
-    }
+    assert!(rt; after_two(b"ab\ncd") == b"cd".as_slice());
+    assert!(rt; after_two(b"ab\n").is_empty());
+    assert!(rt; after_two(b"ab").is_empty());
 }

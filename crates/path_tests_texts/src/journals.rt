@@ -1,6 +1,7 @@
 //! Texts of journals.
 
 use crate::declaration::declared;
+use crate::in_turn::refuse_in_turn;
 use path_decl::Decl;
 use path_journal::{read_journal, write_head};
 use path_lines::{TextFault, write_line};
@@ -46,43 +47,73 @@ const ATTEMPTS: [Attempt; 10] = [
     Attempt::Finish(ActId(u64::MAX)),
 ];
 
-fn fault_of<A: Allocator + Copy>(alloc: A, decl: &Decl<A>, text: &str) -> Option<TextFault> {
-    match read_journal(alloc, decl, text.as_bytes()) {
-        Ok(_) => None,
-        Err(fault) => Some(fault),
+// Whether a text is a journal of this room and these lines.
+fn is_journal<A: Allocator + Copy>(
+    alloc: A,
+    decl: &Decl,
+    text: &str,
+    room: Option<u32>,
+    lines: &[Line],
+) -> Result<bool, TextFault> {
+    let journal = read_journal(alloc, decl, text.as_bytes())?;
+    Ok(journal.room == room && journal.lines.as_slice() == lines)
+}
+
+// Whether the text of a line is a journal of that line.
+fn is_read_again(heap: Global, decl: &Decl, line: Line) -> bool {
+    match write_line(heap, decl, &line) {
+        Ok(text) => is_journal(heap, decl, text.as_str(), None, &[line]) == Ok(true),
+        Err(OutOfMemory) => false,
     }
 }
 
-// The text of a line is a journal of that line.
-fn is_read_again(rt: &impl Abort, heap: Global, decl: &Decl, line: Line) {
-    let Ok(text) = write_line(heap, decl, &line) else {
-        panic!(rt; "no memory");
-    };
-    let Ok(journal) = read_journal(heap, decl, text.as_bytes()) else {
-        panic!(rt; "refused: {text}");
-    };
-    assert_eq!(rt; journal.room, None);
-    assert_eq!(rt; journal.lines.as_slice(), [line].as_slice());
+// Each of these replies after an attempt.
+fn are_read_again(rt: &impl Abort, heap: Global, decl: &Decl, attempt: Attempt, replies: &[Reply]) {
+    for reply in replies {
+        let line = Line {
+            worker: 7,
+            attempt,
+            reply: *reply,
+        };
+        assert!(rt; is_read_again(heap, decl, line), "{attempt:?}, {reply:?}");
+    }
+}
+
+// Each of these replies after each of these attempts.
+fn all_are_read_again(
+    rt: &impl Abort,
+    heap: Global,
+    decl: &Decl,
+    attempts: &[Attempt],
+    replies: &[Reply],
+) {
+    for attempt in attempts {
+        are_read_again(rt, heap, decl, *attempt, replies);
+    }
 }
 
 /// What is written is read again, each reply after each attempt.
 #[test]
 fn reads_what_was_written(rt: HostRuntime) {
     let decl = declared(&rt, rt.alloc(), DECLARATION);
-    for attempt in ATTEMPTS {
-        for reply in REPLIES {
-            let line = Line {
-                worker: 7,
-                attempt,
-                reply,
-            };
-            is_read_again(&rt, rt.alloc(), &decl, line);
-        }
-    }
+    all_are_read_again(&rt, rt.alloc(), &decl, &ATTEMPTS, &REPLIES);
 }
 
+const LINES: [Line; 2] = [
+    Line {
+        worker: 1,
+        attempt: Attempt::Start(OpId(0)),
+        reply: Reply::Started(ActId(0)),
+    },
+    Line {
+        worker: 1,
+        attempt: Attempt::Finish(ActId(0)),
+        reply: Reply::Finished,
+    },
+];
+
 // Each text, with the room that it names, and how many of these lines it has, from the first on.
-fn reads_so(
+fn are_read_so(
     rt: &impl Abort,
     heap: Global,
     decl: &Decl,
@@ -90,271 +121,248 @@ fn reads_so(
     rows: &[(&str, Option<u32>, usize)],
 ) {
     for (text, room, count) in rows {
-        let Ok(journal) = read_journal(heap, decl, text.as_bytes()) else {
-            panic!(rt; "refused: {text}");
+        let is_read = match lines.get(..*count) {
+            Some(front) => is_journal(heap, decl, text, *room, front) == Ok(true),
+            None => false,
         };
-        assert_eq!(rt; journal.room, *room, "at {text}");
-        assert_eq!(rt;
-            Some(journal.lines.as_slice()),
-            lines.get(..*count),
-            "at {text}"
-        );
+        assert!(rt; is_read, "at {text}");
     }
 }
+
+const VERSIONS: [(&str, Option<u32>, usize); 12] = [
+    ("", None, 0),
+    ("1 start deposit: started 0", None, 1),
+    ("1 start deposit: started 0\n", None, 1),
+    ("1 start deposit: started 0\n1 finish 0: finished", None, 2),
+    (
+        "1 start deposit: started 0\n1 finish 0: finished\n",
+        None,
+        2,
+    ),
+    ("journal 2 room 1", Some(1), 0),
+    ("journal 2 room 1\n", Some(1), 0),
+    ("journal 2 room 1048576\n", Some(1_048_576), 0),
+    ("journal 2 room 2\n1 start deposit: started 0", Some(2), 1),
+    ("journal 2 room 2\n1 start deposit: started 0\n", Some(2), 1),
+    (
+        "journal 2 room 2\n1 start deposit: started 0\n1 finish 0: finished",
+        Some(2),
+        2,
+    ),
+    (
+        "journal 2 room 1\n1 start deposit: started 0\n1 finish 0: finished\n",
+        Some(1),
+        2,
+    ),
+];
 
 #[test]
 fn reads_lines_of_both_versions(rt: HostRuntime) {
     let decl = declared(&rt, rt.alloc(), DECLARATION);
-    let first = Line {
-        worker: 1,
-        attempt: Attempt::Start(OpId(0)),
-        reply: Reply::Started(ActId(0)),
-    };
-    let second = Line {
-        worker: 1,
-        attempt: Attempt::Finish(ActId(0)),
-        reply: Reply::Finished,
-    };
-    let rows: [(&str, Option<u32>, usize); 12] = [
-        ("", None, 0),
-        ("1 start deposit: started 0", None, 1),
-        ("1 start deposit: started 0\n", None, 1),
-        ("1 start deposit: started 0\n1 finish 0: finished", None, 2),
-        (
-            "1 start deposit: started 0\n1 finish 0: finished\n",
-            None,
-            2,
-        ),
-        ("journal 2 room 1", Some(1), 0),
-        ("journal 2 room 1\n", Some(1), 0),
-        ("journal 2 room 1048576\n", Some(1_048_576), 0),
-        ("journal 2 room 2\n1 start deposit: started 0", Some(2), 1),
-        ("journal 2 room 2\n1 start deposit: started 0\n", Some(2), 1),
-        (
-            "journal 2 room 2\n1 start deposit: started 0\n1 finish 0: finished",
-            Some(2),
-            2,
-        ),
-        (
-            "journal 2 room 1\n1 start deposit: started 0\n1 finish 0: finished\n",
-            Some(1),
-            2,
-        ),
-    ];
-    let lines = [first, second];
-    reads_so(&rt, rt.alloc(), &decl, lines.as_slice(), rows.as_slice());
+    are_read_so(&rt, rt.alloc(), &decl, &LINES, &VERSIONS);
+}
+
+// Why a text is refused, if it is.
+fn fault_of(heap: Global, decl: &Decl, text: &str) -> Option<TextFault> {
+    match read_journal(heap, decl, text.as_bytes()) {
+        Ok(_) => None,
+        Err(fault) => Some(fault),
+    }
 }
 
 // Each of these texts has a bad first line.
 fn are_bad(rt: &impl Abort, heap: Global, decl: &Decl, texts: &[&str]) {
     for text in texts {
-        assert_eq!(rt;
-            fault_of(heap, decl, text),
-            Some(TextFault::BadLine(0)),
-            "at {text:?}"
-        );
+        let fault = fault_of(heap, decl, text);
+        assert!(rt; fault == Some(TextFault::BadLine(0)), "at {text:?}");
     }
 }
 
 /// No line has a second spelling.
-#[test]
-fn refuses_second_spellings(rt: HostRuntime) {
-    let decl = declared(&rt, rt.alloc(), DECLARATION);
-    let bad = [
-        "\n",
-        " ",
-        "1 start deposit",
-        "1 start deposit\n",
-        "1 start deposit:",
-        "1 start deposit: ",
-        "1 start deposit:started 0",
-        "1 start deposit:  started 0",
-        "1 start deposit : started 0",
-        "1 start deposit: started",
-        "1 start deposit: started ",
-        "1 start deposit: started  0",
-        "1 start deposit: started 00",
-        "1 start deposit: started 01",
-        "1 start deposit: started +1",
-        "1 start deposit: started 0 ",
-        "1 start deposit: started 0\r",
-        "1 start deposit: started 0\r\n",
-        "1 start deposit: started 18446744073709551616",
-        "1 start deposit: Started 0",
-        "1 start deposit: blocked 00",
-        "1 start deposit: blocked 4294967296",
-        "1 start deposit: used",
-        "1 start deposit: used 0x0",
-        "1 start deposit: unknown  operation",
-        "1 start deposit: unknown",
-        "1 start deposit: not yours ",
-        "1 start deposit: not",
-        "1 start deposit: stale 0",
-        "1 start deposit: finished 0",
-        "1 start deposit: no room: no room",
-        "1 start deposit\n: started 0",
-        "1 start deposit: \nstarted 0",
-        "1 start\ndeposit: started 0",
-        "01 start deposit: started 0",
-        "1  start deposit: started 0",
-        " 1 start deposit: started 0",
-        "4294967296 start deposit: started 0",
-        "1 start #0: unknown operation",
-        "1 start #01: unknown operation",
-        "1 start #4294967296: unknown operation",
-        "1 start path: unknown operation",
-        "1 use 00 look: used 0",
-        "1 finish 0 : finished",
-        "%",
-        "Journal 2 room 2",
-    ];
-    are_bad(&rt, rt.alloc(), &decl, bad.as_slice());
-}
+const SECOND_SPELLINGS: [&str; 46] = [
+    "\n",
+    " ",
+    "1 start deposit",
+    "1 start deposit\n",
+    "1 start deposit:",
+    "1 start deposit: ",
+    "1 start deposit:started 0",
+    "1 start deposit:  started 0",
+    "1 start deposit : started 0",
+    "1 start deposit: started",
+    "1 start deposit: started ",
+    "1 start deposit: started  0",
+    "1 start deposit: started 00",
+    "1 start deposit: started 01",
+    "1 start deposit: started +1",
+    "1 start deposit: started 0 ",
+    "1 start deposit: started 0\r",
+    "1 start deposit: started 0\r\n",
+    "1 start deposit: started 18446744073709551616",
+    "1 start deposit: Started 0",
+    "1 start deposit: blocked 00",
+    "1 start deposit: blocked 4294967296",
+    "1 start deposit: used",
+    "1 start deposit: used 0x0",
+    "1 start deposit: unknown  operation",
+    "1 start deposit: unknown",
+    "1 start deposit: not yours ",
+    "1 start deposit: not",
+    "1 start deposit: stale 0",
+    "1 start deposit: finished 0",
+    "1 start deposit: no room: no room",
+    "1 start deposit\n: started 0",
+    "1 start deposit: \nstarted 0",
+    "1 start\ndeposit: started 0",
+    "01 start deposit: started 0",
+    "1  start deposit: started 0",
+    " 1 start deposit: started 0",
+    "4294967296 start deposit: started 0",
+    "1 start #0: unknown operation",
+    "1 start #01: unknown operation",
+    "1 start #4294967296: unknown operation",
+    "1 start path: unknown operation",
+    "1 use 00 look: used 0",
+    "1 finish 0 : finished",
+    "%",
+    "Journal 2 room 2",
+];
 
 /// A first line that begins with `j` is a head, or bad.
-#[test]
-fn refuses_other_heads(rt: HostRuntime) {
-    let decl = declared(&rt, rt.alloc(), DECLARATION);
-    let bad = [
-        "j",
-        "journal",
-        "journal 2 room",
-        "journal 2 room ",
-        "journal 2 room 0",
-        "journal 2 room 01",
-        "journal 2 room 2 ",
-        "journal 2 room 2\r\n",
-        "journal 2  room 2",
-        "journal 2 room  2",
-        "journal 02 room 2",
-        "journal 1 room 2",
-        "journal 3 room 2",
-        "journal 2 room 1048577",
-        "journal 2 room 18446744073709551616",
-        "journal 2 room #2",
-        "journal 2 Room 2",
-        "journal 2 room 2: started 0",
-        "j\n1 start deposit: started 0\n",
-        "journal 2 room 0\n1 start deposit: started 0\n",
-    ];
-    are_bad(&rt, rt.alloc(), &decl, bad.as_slice());
-}
+const OTHER_HEADS: [&str; 20] = [
+    "j",
+    "journal",
+    "journal 2 room",
+    "journal 2 room ",
+    "journal 2 room 0",
+    "journal 2 room 01",
+    "journal 2 room 2 ",
+    "journal 2 room 2\r\n",
+    "journal 2  room 2",
+    "journal 2 room  2",
+    "journal 02 room 2",
+    "journal 1 room 2",
+    "journal 3 room 2",
+    "journal 2 room 1048577",
+    "journal 2 room 18446744073709551616",
+    "journal 2 room #2",
+    "journal 2 Room 2",
+    "journal 2 room 2: started 0",
+    "j\n1 start deposit: started 0\n",
+    "journal 2 room 0\n1 start deposit: started 0\n",
+];
 
 // Each text is refused with the fault beside it.
 fn are_refused(rt: &impl Abort, heap: Global, decl: &Decl, rows: &[(&str, TextFault)]) {
     for (text, want) in rows {
-        assert_eq!(rt; fault_of(heap, decl, text), Some(*want), "at {text:?}");
+        assert!(rt; fault_of(heap, decl, text) == Some(*want), "at {text:?}");
     }
 }
 
 /// The first faulty line is named, and the head is a line.
+const FAULTY: [(&str, TextFault); 16] = [
+    ("1 start deposit: started 0\n\n", TextFault::BadLine(1)),
+    (
+        "1 start deposit: started 0\n1 start x: started 1\n\n",
+        TextFault::Undeclared(1),
+    ),
+    ("1 start x: started 0", TextFault::Undeclared(0)),
+    ("1 start x: started", TextFault::BadLine(0)),
+    ("1 start x", TextFault::BadLine(0)),
+    ("1 start x: no room\n%", TextFault::Undeclared(0)),
+    ("1 start Deposit: blocked 0", TextFault::Undeclared(0)),
+    (
+        "1 start abcdefghijklmnopqrstuvwxyzabcdef: stale",
+        TextFault::Undeclared(0),
+    ),
+    (
+        "1 start abcdefghijklmnopqrstuvwxyzabcdefg: stale",
+        TextFault::BadLine(0),
+    ),
+    ("1 start queue: stale", TextFault::BadLine(0)),
+    ("1 start x\n: started 0", TextFault::BadLine(0)),
+    ("journal 2 room 2\n\n", TextFault::BadLine(1)),
+    (
+        "journal 2 room 2\njournal 2 room 2\n",
+        TextFault::BadLine(1),
+    ),
+    (
+        "journal 2 room 2\n1 start x: started 0\n",
+        TextFault::Undeclared(1),
+    ),
+    (
+        "journal 2 room 2\n1 start deposit: started 0\n1 finish 0: finished \n",
+        TextFault::BadLine(2),
+    ),
+    (
+        "1 start deposit: started 0\njournal 2 room 2\n",
+        TextFault::BadLine(1),
+    ),
+];
+
 #[test]
-fn names_the_first_faulty_line_of_a_journal(rt: HostRuntime) {
+fn refuses_other_texts(rt: HostRuntime) {
     let decl = declared(&rt, rt.alloc(), DECLARATION);
-    let rows = [
-        ("1 start deposit: started 0\n\n", TextFault::BadLine(1)),
-        (
-            "1 start deposit: started 0\n1 start x: started 1\n\n",
-            TextFault::Undeclared(1),
-        ),
-        ("1 start x: started 0", TextFault::Undeclared(0)),
-        ("1 start x: started", TextFault::BadLine(0)),
-        ("1 start x", TextFault::BadLine(0)),
-        ("1 start x: no room\n%", TextFault::Undeclared(0)),
-        ("1 start Deposit: blocked 0", TextFault::Undeclared(0)),
-        (
-            "1 start abcdefghijklmnopqrstuvwxyzabcdef: stale",
-            TextFault::Undeclared(0),
-        ),
-        (
-            "1 start abcdefghijklmnopqrstuvwxyzabcdefg: stale",
-            TextFault::BadLine(0),
-        ),
-        ("1 start queue: stale", TextFault::BadLine(0)),
-        ("1 start x\n: started 0", TextFault::BadLine(0)),
-        ("journal 2 room 2\n\n", TextFault::BadLine(1)),
-        (
-            "journal 2 room 2\njournal 2 room 2\n",
-            TextFault::BadLine(1),
-        ),
-        (
-            "journal 2 room 2\n1 start x: started 0\n",
-            TextFault::Undeclared(1),
-        ),
-        (
-            "journal 2 room 2\n1 start deposit: started 0\n1 finish 0: finished \n",
-            TextFault::BadLine(2),
-        ),
-        (
-            "1 start deposit: started 0\njournal 2 room 2\n",
-            TextFault::BadLine(1),
-        ),
-    ];
-    are_refused(&rt, rt.alloc(), &decl, rows.as_slice());
+    are_bad(&rt, rt.alloc(), &decl, &SECOND_SPELLINGS);
+    are_bad(&rt, rt.alloc(), &decl, &OTHER_HEADS);
+    are_refused(&rt, rt.alloc(), &decl, &FAULTY);
 }
 
-// The head of a room has this text, which is a journal without lines.
-fn has_head(rt: &impl Abort, heap: Global, decl: &Decl, room: u32, want: &str) {
-    assert!(rt; 1 <= room && room <= MOST_LINES);
-    match write_head(heap, room) {
-        Ok(text) => assert_eq!(rt; text.as_str(), want),
-        Err(OutOfMemory) => panic!(rt; "no memory"),
+// Whether the head of a room has this text.
+fn is_head_of<A: Allocator + Copy>(alloc: A, room: u32, want: &str) -> Result<bool, OutOfMemory> {
+    if room == 0 || room > MOST_LINES {
+        return Ok(false);
     }
-    reads_so(rt, heap, decl, &[], &[(want, Some(room), 0)]);
+    let text = write_head(alloc, room)?;
+    Ok(text.as_str() == want)
 }
+
+// The head of each room has this text, which is a journal without lines.
+fn have_heads(rt: &impl Abort, heap: Global, decl: &Decl, rows: &[(u32, &str)]) {
+    for (room, text) in rows {
+        assert!(rt; is_head_of(heap, *room, text) == Ok(true), "at {text}");
+        assert!(rt;
+            is_journal(heap, decl, text, Some(*room), &[]) == Ok(true),
+            "at {text}"
+        );
+    }
+}
+
+const HEADS: [(u32, &str); 4] = [
+    (1, "journal 2 room 1"),
+    (2, "journal 2 room 2"),
+    (4096, "journal 2 room 4096"),
+    (1_048_576, "journal 2 room 1048576"),
+];
 
 #[test]
 fn each_head_is_read_again(rt: HostRuntime) {
     let decl = declared(&rt, rt.alloc(), DECLARATION);
-    has_head(&rt, rt.alloc(), &decl, 1, "journal 2 room 1");
-    has_head(&rt, rt.alloc(), &decl, 2, "journal 2 room 2");
-    has_head(&rt, rt.alloc(), &decl, 4096, "journal 2 room 4096");
-    has_head(&rt, rt.alloc(), &decl, 1_048_576, "journal 2 room 1048576");
+    have_heads(&rt, rt.alloc(), &decl, &HEADS);
 }
 
 #[test]
 fn each_request_of_a_head_is_refused(rt: HostRuntime) {
-    for k in 1..50u64 {
-        let refusing = Refusing::new(rt.alloc(), k);
-        match write_head(&refusing, 1_048_576) {
-            Ok(text) => {
-                assert!(rt; k > 1);
-                assert!(rt; !refusing.has_refused());
-                assert_eq!(rt; text.as_str(), "journal 2 room 1048576");
-                return;
-            }
-            Err(OutOfMemory) => assert!(rt; refusing.has_refused()),
-        }
-    }
-    panic!(rt; "never passed");
+    refuse_in_turn(&rt, rt.alloc(), OutOfMemory, |heap: &Refusing<Global>| {
+        is_head_of(heap, MOST_LINES, "journal 2 room 1048576")
+    });
 }
 
-// How many lines a text has where this request is refused, and whether it was made.
-fn counted_without(
-    heap: Global,
-    decl: &Decl,
-    text: &[u8],
-    number: u64,
-) -> (Result<usize, TextFault>, bool) {
-    let refusing = Refusing::new(heap, number);
-    match read_journal(&refusing, decl, text) {
-        Ok(journal) => (Ok(journal.lines.len()), refusing.has_refused()),
-        Err(fault) => (Err(fault), refusing.has_refused()),
-    }
+// Each request for memory of the reading of a text is refused in turn, and then these lines are read.
+fn is_refused_in_turn(rt: &impl Abort, heap: Global, decl: &Decl, text: &str, room: Option<u32>) {
+    refuse_in_turn(
+        rt,
+        heap,
+        TextFault::OutOfMemory,
+        |heap: &Refusing<Global>| { is_journal(heap, decl, text, room, &LINES) },
+    );
 }
 
 #[test]
 fn each_request_of_a_journal_is_refused(rt: HostRuntime) {
     let decl = declared(&rt, rt.alloc(), DECLARATION);
-    let texts: [&[u8]; 2] = [
-        b"1 start deposit: started 0\n1 finish 0: finished\n",
-        b"journal 2 room 2\n1 start deposit: started 0\n1 finish 0: finished",
-    ];
-    for text in texts {
-        assert_eq!(rt;
-            counted_without(rt.alloc(), &decl, text, 1),
-            (Err(TextFault::OutOfMemory), true)
-        );
-        assert_eq!(rt; counted_without(rt.alloc(), &decl, text, 2), (Ok(2), false));
-    }
+    let first = "1 start deposit: started 0\n1 finish 0: finished\n";
+    is_refused_in_turn(&rt, rt.alloc(), &decl, first, None);
+    let second = "journal 2 room 2\n1 start deposit: started 0\n1 finish 0: finished";
+    is_refused_in_turn(&rt, rt.alloc(), &decl, second, Some(2));
 }

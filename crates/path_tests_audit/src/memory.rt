@@ -1,0 +1,48 @@
+//! Each request for memory of an audit refused.
+
+use crate::in_turn::refuse_in_turn;
+use crate::verdict::{DEPOSITED, Refusal, SLOT, opening, verdict};
+use path_audit::{AuditFault, Verdict};
+use path_decl::Decl;
+use path_lex::DeclFault;
+use path_lines::TextFault;
+use path_model::OutOfMemory;
+use path_read::read;
+use refusing::Refusing;
+use std::alloc::{Allocator, Global};
+
+// Whether a text is a sound journal of a slot that opens with 0.
+fn is_sound_of<A: Allocator + Copy>(
+    alloc: A,
+    decl: &Decl<A>,
+    text: &str,
+) -> Result<bool, OutOfMemory> {
+    let openings = opening(alloc, &[0])?;
+    match verdict(alloc, decl, 4096, &openings, text) {
+        Ok(found) => Ok(found == Verdict::Sound),
+        Err(Refusal::Text(TextFault::OutOfMemory) | Refusal::Audit(AuditFault::OutOfMemory)) => {
+            Err(OutOfMemory)
+        }
+        Err(_) => Ok(false),
+    }
+}
+
+// Whether a text is a sound journal of another text's declaration.
+fn is_sound<A: Allocator + Copy>(
+    alloc: A,
+    declaration: &[u8],
+    text: &str,
+) -> Result<bool, OutOfMemory> {
+    match read(alloc, declaration) {
+        Ok(decl) => is_sound_of(alloc, &decl, text),
+        Err(DeclFault::OutOfMemory) => Err(OutOfMemory),
+        Err(_) => Ok(false),
+    }
+}
+
+#[test]
+fn each_request_is_refused(rt: HostRuntime) {
+    refuse_in_turn(&rt, rt.alloc(), OutOfMemory, |heap: &Refusing<Global>| {
+        is_sound(heap, SLOT, DEPOSITED)
+    });
+}

@@ -1,0 +1,91 @@
+//! Journals in which many activations are live.
+
+use crate::verdict::{declared, opened};
+use path_audit::{AuditFault, Verdict, audit};
+use path_decl::Decl;
+use path_model::{ActId, Attempt, Line, OpId, OutOfMemory, Reply};
+use std::alloc::Global;
+use std::process::Abort;
+
+/// An operation that any number of workers may be in.
+const READERS: &[u8] = b"resource book cell operation read path { read } end end";
+
+// The line of a worker's start of its own activation.
+fn start_of(worker: u32) -> Line {
+    Line {
+        worker,
+        attempt: Attempt::Start(OpId(0)),
+        reply: Reply::Started(ActId(u64::from(worker))),
+    }
+}
+
+// The line of its finish.
+fn finish_of(worker: u32) -> Line {
+    Line {
+        worker,
+        attempt: Attempt::Finish(ActId(u64::from(worker))),
+        reply: Reply::Finished,
+    }
+}
+
+// Adds a start for each of so many workers.
+fn add_starts(lines: &mut Vec<Line>, count: u32) -> Result<(), OutOfMemory> {
+    for worker in 0..count {
+        lines.push(start_of(worker))?;
+    }
+    Ok(())
+}
+
+// Adds their finishes, the last started first or in order of start.
+fn add_finishes(lines: &mut Vec<Line>, count: u32, last_first: bool) -> Result<(), OutOfMemory> {
+    for n in 0..count {
+        let worker = if last_first { count - 1 - n } else { n };
+        lines.push(finish_of(worker))?;
+    }
+    Ok(())
+}
+
+// The starts of so many activations and then their finishes.
+fn overlapping(heap: Global, count: u32, last_first: bool) -> Result<Vec<Line>, OutOfMemory> {
+    let mut lines = Vec::new(heap);
+    add_starts(&mut lines, count)?;
+    add_finishes(&mut lines, count, last_first)?;
+    Ok(lines)
+}
+
+// What is found of these lines in this room.
+fn found(
+    heap: Global,
+    decl: &Decl,
+    openings: &[Vec<u64>],
+    room: u32,
+    lines: &[Line],
+) -> Result<Verdict, AuditFault> {
+    audit(heap, decl, room, openings, lines)
+}
+
+// The last start wants a room for all lines; and nothing finishes twice.
+fn are_judged(rt: &impl Abort, heap: Global, decl: &Decl, last_first: bool) {
+    let openings = opened(rt, heap, &[0]);
+    let mut lines = overlapping(heap, 300, last_first).expect(rt, "there is memory");
+    assert_eq!(rt;
+        found(heap, decl, &openings, 600, &lines),
+        Ok(Verdict::Sound)
+    );
+    assert_eq!(rt;
+        found(heap, decl, &openings, 599, &lines),
+        Ok(Verdict::WrongLine(299))
+    );
+    assert!(rt; lines.push(finish_of(0)).is_ok());
+    assert_eq!(rt;
+        found(heap, decl, &openings, 4096, &lines),
+        Ok(Verdict::WrongLine(600))
+    );
+}
+
+#[test]
+fn audits_many_live_activations(rt: HostRuntime) {
+    let decl = declared(&rt, rt.alloc(), READERS);
+    are_judged(&rt, rt.alloc(), &decl, false);
+    are_judged(&rt, rt.alloc(), &decl, true);
+}
