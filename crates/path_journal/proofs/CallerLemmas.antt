@@ -1,5 +1,5 @@
 -- What callers cite: the text that a line is written as tells that line.
-use Rattle.std.proofs.Common.{ℕ, List, [], ◌∷◌, ◌++◌, None, inr, sym, All, refl}
+use Rattle.std.proofs.Common.{[], ◌∷◌, None, inr, sym}
 use Rattle.std.proofs.lemmas.List.{append-nil}
 use Rattle.std.proofs.lemmas.List.Elements.{All-cons, All-nil}
 use Rattle.path_model.specs.declared.journal.Line.{Line}
