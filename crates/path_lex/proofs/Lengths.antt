@@ -6,16 +6,16 @@ use Rattle.std.proofs.Common.{map}
 use Rattle.path_lex.specs.declared.fault.DeclFault.{DeclFault}
 use Rattle.path_lex.specs.declared.fault.DeclFault.TheVariants as faults
 use Rattle.path_lex.specs.declared.token.Token.{Token}
-use Rattle.path_lex.specs.Spelling.{piece_of, view, views, Piece, name, number, Placed, placed, Spells, IsWithin, AreWithin, FirstLong}
+use Rattle.path_lex.specs.Spelling.{view, views, name, number, Placed, placed, Spells, IsWithin, AreWithin, FirstLong}
 use Rattle.path_lex.specs.Tokenless.{CutFails, LongFails, NoTokens, HasNoTokens}
 
 -- a list, as what stands before an item, that item, and what stands after it
 pub parted : {A B : Type 0} (f : A → B) (xs : List A) (i : ℕ) (d : A) → i < length xs → map f xs ≡ map f (take i xs) ++ f (get_or xs i d) ∷ map f (drop (i + 1) xs)
 parted f xs i d h = ap (map f) (sym (take-append-drop i xs) ∙ ap (λ x. take i xs ++ x) (drop_more xs i d h)) ∙ map-append f (take i xs) (get_or xs i d ∷ drop (i + 1) xs)
 
--- the same of tokens, at a piece
-pub parted_at : (ts : List Token) (i : ℕ) (d : Token) (p : Piece) → i < length ts → piece_of (get_or ts i d).kind ≡ p → views ts ≡ views (take i ts) ++ placed p (get_or ts i d).at ∷ views (drop (i + 1) ts)
-parted_at ts i d p h e = parted view ts i d h ∙ ap (λ (x : Piece). views (take i ts) ++ placed x (get_or ts i d).at ∷ views (drop (i + 1) ts)) e
+-- the same of tokens, at what one of them shows
+pub parted_at : (ts : List Token) (i : ℕ) (d : Token) (t : Placed) → i < length ts → view (get_or ts i d) ≡ t → views ts ≡ views (take i ts) ++ t ∷ views (drop (i + 1) ts)
+parted_at ts i d t h e = parted view ts i d h ∙ ap (λ (x : Placed). views (take i ts) ++ x ∷ views (drop (i + 1) ts)) e
 
 within_at : (before : List Placed) (t : Placed) (after : List Placed) → AreWithin (before ++ t ∷ after) → IsWithin t
 within_at [] t after w = w.0

@@ -4,9 +4,8 @@ use Rattle.std.specs.List.{prefix_len, AllByRecursion}
 use Rattle.path_lex.specs.declared.token.Sign.{Sign}
 use Rattle.path_lex.specs.declared.token.Reserved.{Reserved}
 use Rattle.path_lex.specs.declared.token.Class.TheVariants as classes
-use Rattle.path_lex.specs.declared.token.Kind.{Kind}
-use Rattle.path_lex.specs.declared.token.Kind.TheVariants as kinds
 use Rattle.path_lex.specs.declared.token.Token.{Token}
+use Rattle.path_lex.specs.declared.token.Token.TheVariants as tokens
 use Rattle.path_lex.specs.Bytes.{class_of, is_word_byte, is_number_byte}
 use Rattle.path_lex.specs.Names.{reserved_of}
 
@@ -22,14 +21,14 @@ pub record Placed : Type 0 where
   pub piece : Piece
   pub at : ℕ
 
-abbrev pub piece_of : Kind → Piece
-piece_of (kinds.Sign s) = sign s
-piece_of (kinds.Reserved r) = reserved r
-piece_of (kinds.Name n) = name n.now
-piece_of (kinds.Number n) = number n.now
+abbrev pub placed : Piece → ℕ → Placed
+placed p i = record { piece = p; at = i }
 
 abbrev pub view : Token → Placed
-view t = record { piece = piece_of t.kind; at = t.at }
+view (tokens.Sign at s) = placed (sign s) at
+view (tokens.Reserved at r) = placed (reserved r) at
+view (tokens.Name at n) = placed (name n.now) at
+view (tokens.Number at n) = placed (number n.now) at
 
 abbrev pub views : List Token → List Placed
 views ts = map view ts
@@ -37,9 +36,6 @@ views ts = map view ts
 -- tokens without their places
 abbrev pub pieces : List Placed → List Piece
 pieces ts = map (λ t. t.piece) ts
-
-abbrev pub placed : Piece → ℕ → Placed
-placed p i = record { piece = p; at = i }
 
 -- a word, where it is reserved or not
 abbrev pub word_or : Option Reserved → List ℕ → Piece

@@ -4,12 +4,12 @@ ghost use Rattle.std.specs.Prelude.{◌≡◌, ◌⊎◌, ℕ, ◌+◌, ◌-◌,
 ghost use Rattle.std.specs.Str.{IsAscii};
 ghost use Rattle.path_lex.specs.Bytes.{class_of, IsBad, IsFirstBad};
 ghost use Rattle.path_lex.specs.Names.{reserved_of, IsWordText, IsName};
-ghost use Rattle.path_lex.specs.Spelling.{word_len, number_len, piece_of, word, Placed, views, Spells, AreWithin, AreTokensOf};
+ghost use Rattle.path_lex.specs.Spelling.{word_len, number_len, word, Placed, placed, view, views, Spells, AreWithin, AreTokensOf};
 ghost use Rattle.path_lex.specs.Spelling.{IsFirstLongWord, IsFirstLongNumber};
 ghost use Rattle.path_lex.specs.Tokenless.{CutFails, LongFails, NoTokens};
 
 use crate::fault::DeclFault;
-use crate::token::{Class, Kind, Reserved, Sign, Token};
+use crate::token::{Class, Reserved, Sign, Token};
 use std::alloc::Allocator;
 
 /// The most bytes of a text.
@@ -114,18 +114,16 @@ pub fn is_name(text: &[u8]) -> bool
     reserved(text).is_none()
 }
 
-/// What a word is: reserved, or a name.
-fn word_kind(text: &[u8]) -> Kind<'_>
+/// The token of a word at this place: reserved, or a name. The bytes of a word are ASCII.
+fn word_token(at: u32, text: &[u8]) -> Token<'_>
     requires { IsAscii text.now }
-    ensures { piece_of result ≡ word text.now }
+    ensures { view result ≡ placed (word text.now) at }
 {
     if let Some(reserved) = reserved(text) {
-        return Kind::Reserved(reserved);
+        return Token::Reserved(at, reserved);
     }
-    let Ok(name) = str::from_utf8(text) else {
-        unreachable!()
-    };
-    Kind::Name(name)
+    let name = unsafe { std::str::from_utf8_unchecked(text) };
+    Token::Name(at, name)
 }
 
 /// The tokens of a text, of any lengths.
@@ -142,28 +140,17 @@ fn cut<A: Allocator + Copy>(alloc: A, text: &[u8]) -> Result<Vec<Token<'_>, A>, 
         match class(text[at]) {
             Class::Space => at += 1,
             Class::Sign(sign) => {
-                tokens.push(Token {
-                    kind: Kind::Sign(sign),
-                    at: at as u32,
-                })?;
+                tokens.push(Token::Sign(at as u32, sign))?;
                 at += 1;
             }
             Class::Letter => {
                 let end = at + 1 + word_part(&text[at + 1..]);
-                let kind = word_kind(&text[at..end]);
-                tokens.push(Token {
-                    kind,
-                    at: at as u32,
-                })?;
+                tokens.push(word_token(at as u32, &text[at..end]))?;
                 at = end;
             }
             Class::Digit => {
                 let end = at + 1 + number_part(&text[at + 1..]);
-                let digits = &text[at..end];
-                tokens.push(Token {
-                    kind: Kind::Number(digits),
-                    at: at as u32,
-                })?;
+                tokens.push(Token::Number(at as u32, &text[at..end]))?;
                 at = end;
             }
             Class::Underscore | Class::Other => return Err(DeclFault::BadByte(at as u32)),
@@ -178,12 +165,12 @@ fn check_lengths(tokens: &[Token<'_>]) -> Result<(), DeclFault>
     ensures err { IfErr result (λ e. LongFails (views tokens.now) e) }
 {
     for token in tokens {
-        match token.kind {
-            Kind::Name(name) if name.len() > LONGEST_WORD => {
-                return Err(DeclFault::WordTooLong(token.at));
+        match token {
+            Token::Name(at, name) if name.len() > LONGEST_WORD => {
+                return Err(DeclFault::WordTooLong(*at));
             }
-            Kind::Number(digits) if digits.len() > LONGEST_NUMBER => {
-                return Err(DeclFault::NumberTooLong(token.at));
+            Token::Number(at, digits) if digits.len() > LONGEST_NUMBER => {
+                return Err(DeclFault::NumberTooLong(*at));
             }
             _ => {}
         }

@@ -10,4 +10,4 @@ mod token;
 
 pub use fault::DeclFault;
 pub use lex::{is_name, tokens};
-pub use token::{Kind, Reserved, Sign, Token};
+pub use token::{Reserved, Sign, Token};

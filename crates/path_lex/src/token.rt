@@ -35,18 +35,28 @@ pub enum Class {
     Other,
 }
 
-/// A token without its place.
+/// A token, with the offset of its first byte.
 #[derive(Clone, Copy, Debug)]
-pub enum Kind<'a> {
-    Sign(Sign),
-    Reserved(Reserved),
-    Name(&'a str),
-    Number(&'a [u8]),
+pub enum Token<'a> {
+    Sign(u32, Sign),
+    Reserved(u32, Reserved),
+    Name(u32, &'a str),
+    Number(u32, &'a [u8]),
 }
 
-/// A token, and the offset of its first byte.
-#[derive(Clone, Copy, Debug)]
-pub struct Token<'a> {
-    pub kind: Kind<'a>,
-    pub at: u32,
+impl Token<'_> {
+    ghost use Rattle.std.specs.Prelude.{◌≡◌};
+    ghost use Rattle.path_lex.specs.Spelling.{view};
+
+    /// The offset of its first byte.
+    pub fn at(&self) -> u32
+        ensures { result ≡ (view self.now).at }
+    {
+        match self {
+            Token::Sign(at, _)
+            | Token::Reserved(at, _)
+            | Token::Name(at, _)
+            | Token::Number(at, _) => *at,
+        }
+    }
 }

@@ -8,12 +8,12 @@ ghost use Rattle.path_read.specs.Parts.{law_said};
 ghost use Rattle.path_read.specs.Reading.{told, Begins, Fails};
 
 use crate::part::LawText;
-use path_lex::{DeclFault, Kind, Reserved, Sign, Token};
+use path_lex::{DeclFault, Reserved, Sign, Token};
 
 /// Where the next token stands, or the text ends.
 pub(crate) fn place(tokens: &[Token<'_>], end: u32) -> u32 {
     match tokens.first() {
-        Some(token) => token.at,
+        Some(token) => token.at(),
         None => end,
     }
 }
@@ -28,11 +28,11 @@ pub(crate) fn after_sign<'t, 'a>(
     ensures none { IfNone result (Begins (a_sign wanted) (told tokens.now) → ⊥) }
 {
     let (first, rest) = tokens.split_first()?;
-    let Kind::Sign(sign) = first.kind else {
+    let Token::Sign(at, sign) = first else {
         return None;
     };
-    if sign == wanted {
-        Some((first.at, rest))
+    if *sign == wanted {
+        Some((*at, rest))
     } else {
         None
     }
@@ -48,11 +48,11 @@ pub(crate) fn after_word<'t, 'a>(
     ensures none { IfNone result (Begins (a_word wanted) (told tokens.now) → ⊥) }
 {
     let (first, rest) = tokens.split_first()?;
-    let Kind::Reserved(word) = first.kind else {
+    let Token::Reserved(at, word) = first else {
         return None;
     };
-    if word == wanted {
-        Some((first.at, rest))
+    if *word == wanted {
+        Some((*at, rest))
     } else {
         None
     }
@@ -65,10 +65,10 @@ pub(crate) fn split_name<'t, 'a>(tokens: &'t [Token<'a>]) -> Option<(&'a str, u3
     ensures none { IfNone result ((n : List ℕ) → Begins (a_name n) (told tokens.now) → ⊥) }
 {
     let (first, rest) = tokens.split_first()?;
-    let Kind::Name(name) = first.kind else {
+    let Token::Name(at, name) = first else {
         return None;
     };
-    Some((name, first.at, rest))
+    Some((*name, *at, rest))
 }
 
 /// The digits of the number that comes first, their place and the tokens after them.
@@ -78,10 +78,10 @@ fn split_number<'t, 'a>(tokens: &'t [Token<'a>]) -> Option<(&'a [u8], u32, &'t [
     ensures none { IfNone result ((n : List ℕ) → Begins (a_number n) (told tokens.now) → ⊥) }
 {
     let (first, rest) = tokens.split_first()?;
-    let Kind::Number(digits) = first.kind else {
+    let Token::Number(at, digits) = first else {
         return None;
     };
-    Some((digits, first.at, rest))
+    Some((*digits, *at, rest))
 }
 
 /// The tokens after this word, which has to come first.

@@ -1,5 +1,5 @@
 use Rattle.std.proofs.Common.{◌+◌, take, drop, ap}
-use Rattle.path_lex.specs.Spelling.{name, number, piece_of, views}
+use Rattle.path_lex.specs.Spelling.{name, number, placed, view, views}
 use Rattle.path_lex.proofs.Lengths.{parted_at}
 use Rattle.path_lex.proofs.lex.check_lengths.Goals as goal
 
@@ -14,7 +14,7 @@ returns-in-Name-clause-err c =
       after = views (drop (i + 1) ts);
       long = c.if-name-gt-LONGEST_WORD.true;
       within = c.loop-token.invariant;
-      parts = parted_at ts i _ (name w) c.loop-token-test.true (ap piece_of c.in-Name.is);
+      parts = parted_at ts i _ (placed (name w) c.in-Name.at) c.loop-token-test.true (ap view c.in-Name.is);
     }
 
 pub returns-in-Number-clause-err : goal.returns-in-Number-clause-err
@@ -28,5 +28,5 @@ returns-in-Number-clause-err c =
       after = views (drop (i + 1) ts);
       long = c.if-digits-gt-LONGEST_NUMBER.true;
       within = c.loop-token.invariant;
-      parts = parted_at ts i _ (number n) c.loop-token-test.true (ap piece_of c.in-Number.is);
+      parts = parted_at ts i _ (placed (number n) c.in-Number.at) c.loop-token-test.true (ap view c.in-Number.is);
     }

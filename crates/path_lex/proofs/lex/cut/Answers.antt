@@ -2,7 +2,7 @@ use Rattle.std.proofs.Common.{◌≡◌, ◌+◌, true, [], ◌∷◌, ◌++◌,
 use Rattle.std.proofs.lemmas.List.{map_push}
 use Rattle.path_lex.specs.declared.token.Class.TheVariants as classes
 use Rattle.path_lex.specs.Bytes.{class_of, begins_none}
-use Rattle.path_lex.specs.Spelling.{word_len, number_len, placed, view, views}
+use Rattle.path_lex.specs.Spelling.{word_len, number_len, view, views}
 use Rattle.path_lex.proofs.Cut.{Reached, past_space, past_mark, past_word, past_number, clean_one, clean_word, clean_number, is_stuck, is_first_bad, all_of, only_these, rest_whole, none_bad, word_ascii}
 use Rattle.path_lex.proofs.lex.cut.Goals as goal
 
@@ -32,7 +32,7 @@ loop-at-preserved-in-Letter g c =
     let e : class_of (get_or c.args.text.now c.loop-at.at 0) ≡ classes.Letter = sym c.in-Letter.ensures in
     let i = c.loop-at.invariant in
     let ends : c.loop-at.at + 1 + c.word_part.result ≡ c.loop-at.at + 1 + word_len (drop (c.loop-at.at + 1) c.args.text.now) = ap (λ n. c.loop-at.at + 1 + n) (c.word_part.ensures.part ∙ ap word_len (rest_whole c.args.text.now (c.loop-at.at + 1))) in
-    let p = ap views c.in_ok-push-in-Letter.ensures.items ∙ map_push view c.loop-at.tokens.items _ ∙ ap (λ x. views c.loop-at.tokens.items ++ placed x c.loop-at.at ∷ []) c.word_kind-kind.ensures in
+    let p = ap views c.in_ok-push-in-Letter.ensures.items ∙ map_push view c.loop-at.tokens.items _ ∙ ap (λ x. views c.loop-at.tokens.items ++ x ∷ []) c.word_token.ensures in
     record {
       within = omega (arith, c.word_part.ensures.within);
       reached = subst (λ ts. Reached c.args.text.now ts (c.loop-at.at + 1 + c.word_part.result)) (sym p) (past_word _ _ _ _ _ c.loop-at-test.true e ends refl i.reached);
@@ -68,7 +68,7 @@ returns-clause-only g c = only_these _ _ _ (omega arith) c.loop-at.invariant.rea
 pub returns-clause-good : goal.returns-clause-good
 returns-clause-good g c = none_bad _ _ (omega arith) c.loop-at.invariant.clean
 
-pub word_kind-kind-requires : goal.word_kind-kind-requires
-word_kind-kind-requires g c =
+pub word_token-requires : goal.word_token-requires
+word_token-requires g c =
     let e : class_of (get_or c.args.text.now c.loop-at.at 0) ≡ classes.Letter = sym c.in-Letter.ensures in
     word_ascii c.args.text.now c.loop-at.at _ c.loop-at-test.true e (c.word_part.ensures.part ∙ ap word_len (rest_whole c.args.text.now (c.loop-at.at + 1)))
