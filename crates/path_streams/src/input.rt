@@ -7,18 +7,21 @@ use std::alloc::Allocator;
 use std::io::Read;
 
 /// All bytes of a reader, which is told by its name in a fault: `TooLong` where it has more than the limit, `Unreadable`
-/// where it fails, `OutOfMemory` for want of memory. Reads at most one byte past the limit. What the bytes leave of the memory
-/// that was taken for them is given back.
+/// where it fails, `OutOfMemory` for want of memory. Reads at most one byte past the limit. Places for the bytes that are
+/// expected are taken at once; where there are others, it costs no more than time. What the bytes leave of the memory that was
+/// taken for them is given back.
 pub fn read_all<'a, A: Allocator + Copy, R: Read + Drop>(
     alloc: A,
     reader: R,
+    expected: usize,
     limit: usize,
     name: &'a str,
 ) -> Result<Vec<u8, A>, Fault<'a>>
     ensures ok { IfOk result (λ v. (length v.items ≤ limit) × IfSome (R.remaining reader) (λ bytes. v.items ≡ bytes)) }
     ensures too_long { IsErrOf result (Fault.TooLong name.entry) → IfSome (R.remaining reader) (λ bytes. limit < length bytes) }
 {
-    let mut bytes = Vec::new(alloc);
+    // One place more shows the end without growing.
+    let mut bytes = Vec::with_capacity(alloc, expected.min(limit).saturating_add(1))?;
     let most = (limit as u64).saturating_add(1);
     match reader.take(most).read_to_end(&mut bytes) {
         Ok(_) if bytes.len() > limit => Err(Fault::TooLong(name)),

@@ -2,7 +2,7 @@
 
 use path_streams::{Fault, read_all};
 use refusing::Refusing;
-use std::alloc::Allocator;
+use std::alloc::{Allocator, Global};
 use std::io;
 use std::io::{ErrorKind, Read};
 use std::process::Abort;
@@ -24,55 +24,57 @@ impl Read for Failing {
     }
 }
 
-// What is read of a text, at most three bytes.
-fn read<A: Allocator + Copy>(alloc: A, text: &str) -> Result<Vec<u8, A>, Fault<'static>> {
-    read_all(alloc, text.as_bytes(), 3, "standard input")
+// What is read of a text where so many bytes are expected, at most three.
+fn read<A: Allocator + Copy>(
+    alloc: A,
+    text: &str,
+    expected: usize,
+) -> Result<Vec<u8, A>, Fault<'static>> {
+    read_all(alloc, text.as_bytes(), expected, 3, "standard input")
+}
+
+// Whether the text is read whole where so many bytes are expected.
+fn is_read(heap: Global, text: &str, expected: usize) -> bool {
+    match read(heap, text, expected) {
+        Ok(bytes) => bytes.as_slice() == text.as_bytes(),
+        Err(_) => false,
+    }
 }
 
 #[test]
 fn reads_up_to_the_limit(rt: HostRuntime) {
-    for text in ["", "a", "abc"] {
-        match read(rt.alloc(), text) {
-            Ok(bytes) => assert_eq!(rt; bytes.as_slice(), text.as_bytes()),
-            Err(_) => panic!(rt; "not read"),
-        }
+    for (text, expected) in [("", 0), ("a", 1), ("abc", 2), ("abc", 9)] {
+        assert!(rt; is_read(rt.alloc(), text, expected), "at {text:?}");
     }
 }
 
-fn refuses(rt: &impl Abort, read: Result<Vec<u8>, Fault<'static>>, want: Fault<'static>) {
-    match read {
-        Ok(_) => panic!(rt; "read"),
-        Err(fault) => assert_eq!(rt; fault, want),
-    }
+// It was refused for this.
+fn is_fault(rt: &impl Abort, found: Option<Fault<'_>>, want: Fault<'_>) {
+    assert_eq!(rt; found, Some(want));
 }
 
 #[test]
 fn refuses_what_is_too_long(rt: HostRuntime) {
-    refuses(
-        &rt,
-        read(rt.alloc(), "abcd"),
-        Fault::TooLong("standard input"),
-    );
-    refuses(
-        &rt,
-        read(rt.alloc(), "abcde"),
-        Fault::TooLong("standard input"),
-    );
+    for (text, expected) in [("abcd", 4), ("abcde", 0)] {
+        let fault = read(rt.alloc(), text, expected).err();
+        is_fault(&rt, fault, Fault::TooLong("standard input"));
+    }
 }
 
 #[test]
 fn refuses_what_fails(rt: HostRuntime) {
     for left in 0..4u32 {
-        let read = read_all(rt.alloc(), Failing { left }, 9, "slot");
-        refuses(&rt, read, Fault::Unreadable("slot"));
+        let fault = read_all(rt.alloc(), Failing { left }, 0, 9, "slot").err();
+        is_fault(&rt, fault, Fault::Unreadable("slot"));
     }
 }
 
 #[test]
 fn says_that_memory_is_wanting(rt: HostRuntime) {
-    let refusing = Refusing::new(rt.alloc(), 1);
-    match read(&refusing, "abc") {
-        Ok(_) => panic!(rt; "read"),
-        Err(fault) => assert_eq!(rt; fault, Fault::OutOfMemory),
+    // The places that are expected, and where more come, those.
+    for request in 1..3 {
+        let refusing = Refusing::new(rt.alloc(), request);
+        let fault = read(&refusing, "abc", 0).err();
+        is_fault(&rt, fault, Fault::OutOfMemory);
     }
 }
