@@ -1,5 +1,6 @@
 -- How far the loops over names, paths and resources have come.
 use Rattle.std.proofs.Common.{◌≡◌, ℕ, List, [], ◌∷◌, ◌++◌, map, refl, sym, ap, ◌∙◌, subst, append_assoc, arith, ◌⊎◌, inl, inr, Result, Ok, Err, IfOk, IfErr}
+use Rattle.std.specs.Result.{OnOk, result_and}
 use Rattle.std.proofs.lemmas.List.{append-nil, map-append}
 use Rattle.path_lex.specs.declared.token.Sign.TheVariants as signs
 use Rattle.path_lex.specs.declared.token.Reserved.TheVariants as words
@@ -13,8 +14,7 @@ use Rattle.path_decl.specs.Forms.{Form, LawForm, ResourceForm}
 use Rattle.path_decl.specs.Grammar.{IsLaw}
 use Rattle.path_read.specs.Parts.{Saying, a_resource, a_law, an_operation, a_path, an_end, form_parts, body_parts, path_parts, inner_parts, resource_parts, file_parts}
 use Rattle.path_read.specs.Reading.{Begins, ReadsSeq, ReadsPath, by_path, ReadsPaths, no_path, one_path, ReadsMore, no_name, one_name, ReadsNames, by_names, ReadsBody, by_body, ReadsResource, by_resource, ReadsResources, no_resource, one_resource, ReadsFile, by_file}
-use Rattle.path_read.specs.Building.{nothing}
-use Rattle.path_read.specs.Taking.{Taking, sound, Follows, Adds}
+use Rattle.path_read.specs.Taking.{Taking, Follows, Adds}
 use Rattle.path_read.proofs.Once.{Same, seq_once, same_tail}
 use Rattle.path_read.proofs.Following.{follows, follows_as}
 use Rattle.path_read.proofs.Laws.{NoLaw, law_once}
@@ -251,21 +251,21 @@ file_once (by_file q m) (by_file q' m') =
     let e = resource_once q q' in both_cons e.1 (resources_once m (resources_at e.0 m'))
 
 -- the resources so far
-pub record ReachedFile (ts : List Piece) (left : List Piece) (out : Taking) : Type 0 where
+pub record ReachedFile (ts : List Piece) (old : Taking) (left : List Piece) (out : Taking) : Type 0 where
   pub resources : List ResourceForm
   pub forth : (rs : List ResourceForm) → ReadsResources left rs → ReadsFile ts (resources ++ rs)
   pub back : (rs : List ResourceForm) → ReadsFile ts rs → (qs : List ResourceForm) × ReadsResources left qs
-  pub says : Follows (file_parts resources) (sound nothing) out
+  pub says : Follows (file_parts resources) old out
 
 after_resource : {ts mid : List Piece} {r : ResourceForm} {rs : List ResourceForm} → ReadsResource ts mid r → ReadsFile ts rs → (qs : List ResourceForm) × ReadsResources mid qs
 after_resource q (by_file {rs} q' m) = let e = resource_once q q' in (rs, resources_at e.0 m)
 
-pub first_resource : (ts mid : List Piece) (out : Taking) → Adds resource_parts (ReadsResource ts mid) (sound nothing) out → ReachedFile ts mid out
-first_resource ts mid out a = record {
+pub first_resource : (ts mid : List Piece) (old out : Taking) → Adds resource_parts (ReadsResource ts mid) old out → ReachedFile ts old mid out
+first_resource ts mid old out a = record {
   resources = a.0 ∷ [];
   forth = λ rs m. by_file a.1 m;
   back = λ rs q. after_resource a.1 q;
-  says = follows_as _ _ (sound nothing) out (sym (append-nil (resource_parts a.0))) a.2;
+  says = follows_as _ _ old out (sym (append-nil (resource_parts a.0))) a.2;
 }
 
 file_parts-push : (rs : List ResourceForm) (r : ResourceForm) → file_parts (rs ++ r ∷ []) ≡ file_parts rs ++ resource_parts r
@@ -277,26 +277,26 @@ beyond : {left mid : List Piece} {r : ResourceForm} {rs : List ResourceForm} →
 beyond q no_resource = absurd (let e = word_first q in cc (e.1))
 beyond q (one_resource {rs} q' m) = let e = resource_once q q' in (rs, resources_at e.0 m)
 
-pub next_resource : (ts left mid : List Piece) (out new : Taking) → Adds resource_parts (ReadsResource left mid) out new → ReachedFile ts left out → ReachedFile ts mid new
-next_resource ts left mid out new a r = record {
+pub next_resource : (ts left mid : List Piece) (old out new : Taking) → Adds resource_parts (ReadsResource left mid) out new → ReachedFile ts old left out → ReachedFile ts old mid new
+next_resource ts left mid old out new a r = record {
   resources = r.resources ++ a.0 ∷ [];
   forth = λ rs m. subst (λ x. ReadsFile ts x) (sym (append_assoc r.resources (a.0 ∷ []) rs)) (r.forth (a.0 ∷ rs) (one_resource a.1 m));
   back = λ rs q. let b = r.back rs q in beyond a.1 b.1;
-  says = follows_as _ _ (sound nothing) new (sym (file_parts-push r.resources a.0)) (follows (file_parts r.resources) (resource_parts a.0) (sound nothing) out new r.says a.2);
+  says = follows_as _ _ old new (sym (file_parts-push r.resources a.0)) (follows (file_parts r.resources) (resource_parts a.0) old out new r.says a.2);
 }
 
 no_more : {left : List Piece} {rs : List ResourceForm} → NoResource left → ReadsResources left rs → (left ≡ []) ⊎ ⊥
 no_more none no_resource = inl refl
 no_more none (one_resource q m) = absurd (none _ _ q)
 
-pub no_file_at : (ts left : List Piece) (out : Taking) → (left ≡ [] → ⊥) → NoResource left → ReachedFile ts left out → (rs : List ResourceForm) → ReadsFile ts rs → ⊥
-no_file_at ts left out some none r rs q = let b = r.back rs q in elim (no_more none b.1) [ inl e ↦ some e | inr f ↦ f ]
+pub no_file_at : (ts left : List Piece) (old out : Taking) → (left ≡ [] → ⊥) → NoResource left → ReachedFile ts old left out → (rs : List ResourceForm) → ReadsFile ts rs → ⊥
+no_file_at ts left old out some none r rs q = let b = r.back rs q in elim (no_more none b.1) [ inl e ↦ some e | inr f ↦ f ]
 
 pub no_file : (ts : List Piece) → NoResource ts → (rs : List ResourceForm) → ReadsFile ts rs → ⊥
 no_file ts none rs (by_file q m) = none _ _ q
 
-pub file_ends : (ts left : List Piece) (out : Taking) → left ≡ [] → ReachedFile ts left out → (rs : List ResourceForm) × ReadsFile ts rs × Follows (file_parts rs) (sound nothing) out
-file_ends ts left out e r = (r.resources, subst (λ x. ReadsFile ts x) (append-nil r.resources) (r.forth [] (subst (λ x. ReadsResources x []) (sym e) no_resource)), r.says)
+pub file_ends : (ts left : List Piece) (old out : Taking) → left ≡ [] → ReachedFile ts old left out → Adds file_parts (ReadsFile ts) old out
+file_ends ts left old out e r = (r.resources, subst (λ x. ReadsFile ts x) (append-nil r.resources) (r.forth [] (subst (λ x. ReadsResources x []) (sym e) no_resource)), r.says)
 
 -- a clause on a result, weakened
 pub ok_then : {T E : Type 0} (r : Result T E) {P Q : T → Type 0} → ((x : T) → P x → Q x) → IfOk r P → IfOk r Q
@@ -307,6 +307,15 @@ pub err_then : {T E : Type 0} (r : Result T E) {P Q : E → Type 0} → ((e : E)
 err_then (Ok x) f h = tt
 err_then (Err e) f h = f e h
 
+-- what is known of two results, of the first that failed and of the second otherwise
+pub both_ok : {T U E : Type 0} (r : Result T E) (s : Result U E) (P : Type 0) (Q : U → Type 0) → OnOk r P → (P → IfOk s Q) → IfOk (result_and r s) Q
+both_ok (Ok x) s P Q p f = f p
+both_ok (Err e) s P Q p f = tt
+
+pub both_err : {T U E : Type 0} (r : Result T E) (s : Result U E) (P : Type 0) (Q : E → Type 0) → OnOk r P → IfErr r Q → (P → IfErr s Q) → IfErr (result_and r s) Q
+both_err (Ok x) s P Q p e f = f p
+both_err (Err x) s P Q p e f = e
+
 -- no token is left, or some is
 pub told_none : (ts : List Token) {b : Bool} → b ≡ true → b ≡ nat_eq (length ts) 0 → told ts ≡ []
 told_none [] e f = refl
@@ -315,3 +324,10 @@ told_none (t ∷ ts) e f = absurd (grind (arith, nat_tests))
 pub told_some : (ts : List Token) {b : Bool} → b ≡ false → b ≡ nat_eq (length ts) 0 → told ts ≡ [] → ⊥
 told_some [] e f n = grind (arith, nat_tests)
 told_some (t ∷ ts) e f n = cc
+
+-- what is missing at the start of a path or of a body
+pub no_path_at : (ts : List Piece) → ((rest : List Piece) (f : Form) → ReadsSeq 32 ts rest f → ⊥) → (rest : List Piece) (f : Form) → ReadsPath ts rest f → ⊥
+no_path_at ts none rest f (by_path s) = none _ _ s
+
+pub no_first_names : (ts : List Piece) → ((rest : List Piece) (ns : List (List ℕ)) → ReadsNames ts rest ns → ⊥) → (rest : List Piece) (ns : List (List ℕ)) (fs : List Form) → ReadsBody ts rest ns fs → ⊥
+no_first_names ts none rest ns fs (by_body r p) = none _ _ r

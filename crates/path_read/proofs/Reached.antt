@@ -81,3 +81,10 @@ alt_ends d ts left old out none r = (r.form, r.forth left r.form (no_unit none),
 
 pub seq_ends : (d : ℕ) (ts left : List Piece) (old out : Taking) → (Begins (sign signs.Semicolon) left → ⊥) → ReachedSeq d ts old left out → Adds form_parts (ReadsSeq d ts left) old out
 seq_ends d ts left old out none r = (r.form, r.forth left r.form (no_alt none), r.says)
+
+-- what is missing at the start
+pub no_first_unit : (d : ℕ) (ts : List Piece) → ((rest : List Piece) (f : Form) → ReadsUnit d ts rest f → ⊥) → (rest : List Piece) (f : Form) → ReadsAlt d ts rest f → ⊥
+no_first_unit d ts none rest f (by_units u m) = none _ _ u
+
+pub no_first_alt : (d : ℕ) (ts : List Piece) → ((rest : List Piece) (f : Form) → ReadsAlt d ts rest f → ⊥) → (rest : List Piece) (f : Form) → ReadsSeq d ts rest f → ⊥
+no_first_alt d ts none rest f (by_alts u m) = none _ _ u

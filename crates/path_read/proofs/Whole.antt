@@ -1,5 +1,7 @@
 -- What is read of a whole text.
-use Rattle.std.proofs.Common.{◌≡◌, ℕ, List, [], sym, ap, ◌∙◌, subst, arith}
+use Rattle.std.proofs.Common.{◌≡◌, ℕ, ◌<◌, ◌≤◌, List, [], Bool, true, false, nat_lt, Ok, refl, sym, ap, ◌∙◌, subst, arith}
+use Rattle.std.specs.Result.{IsErrOf}
+use Rattle.std.proofs.lemmas.Bool.Decides.{nat_tests}
 use Rattle.path_model.specs.Declarations.{Resource, Operation, Path, Declaration}
 use Rattle.path_lex.specs.declared.fault.DeclFault.{DeclFault}
 use Rattle.path_lex.specs.declared.fault.DeclFault.TheVariants as faults
@@ -60,3 +62,13 @@ refuses_then s (faults.BadByte at) f h = absurd h
 refuses_then s (faults.WordTooLong at) f h = absurd h
 refuses_then s (faults.NumberTooLong at) f h = absurd h
 refuses_then s _ f h = f h
+
+not_above : {T : Type 0} (v : T) (n : ℕ) (b : Bool) → b ≡ nat_lt 65536 n → (65536 < n → IsErrOf {E = DeclFault} (Ok v) faults.TooLong) → n ≤ 65536
+not_above v n true e h =
+    let above : 65536 < n = grind (arith, nat_tests) in
+    absurd (cc (h above))
+not_above v n false e h = grind (arith, nat_tests)
+
+-- the length of a text that isn't too long
+pub short_enough : {T : Type 0} (v : T) (n : ℕ) → (65536 < n → IsErrOf {E = DeclFault} (Ok v) faults.TooLong) → n ≤ 65536
+short_enough v n h = not_above v n (nat_lt 65536 n) refl h

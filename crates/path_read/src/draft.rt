@@ -63,7 +63,7 @@ fn has_name<V, A: Allocator + Copy>(names: &Names<V, A>, name: &str) -> bool
 }
 
 impl<A: Allocator + Copy> Draft<A> {
-    ghost use Rattle.path_read.specs.Building.{drafted, nothing, HasTwo, Allowed, after};
+    ghost use Rattle.path_read.specs.Building.{drafted, nothing, HasOne, Allowed, after};
 
     /// Nothing is declared.
     pub(crate) fn new(alloc: A) -> Draft<A>
@@ -163,25 +163,17 @@ impl<A: Allocator + Copy> Draft<A> {
         Ok(())
     }
 
-    /// Takes the last two trees of the path.
-    fn operands(
-        &mut self,
-        alloc: A,
-        at: u32,
-    ) -> Result<(Box<Expr<A>, A>, Box<Expr<A>, A>), DeclFault>
-        ensures ok { IfOk result (λ p. drafted self.old
-            ≡ record (drafted self.new) { open_trees = shape p.1.value ∷ shape p.0.value ∷ (drafted self.new).open_trees }) }
-        ensures err { IfErr result (λ e. Fails e (HasTwo (drafted self.old).open_trees → ⊥)) }
+    /// Takes the last tree of the path.
+    fn operand(&mut self, alloc: A, at: u32) -> Result<Box<Expr<A>, A>, DeclFault>
+        ensures ok { IfOk result (λ tree. drafted self.old
+            ≡ record (drafted self.new) { open_trees = shape tree.value ∷ (drafted self.new).open_trees }) }
+        ensures err { IfErr result (λ e. Fails e (HasOne (drafted self.old).open_trees → ⊥)) }
     {
-        let Some(right) = self.open_trees.pop() else {
+        let Some(tree) = self.open_trees.pop() else {
             return Err(DeclFault::Unexpected(at));
         };
-        let Some(left) = self.open_trees.pop() else {
-            return Err(DeclFault::Unexpected(at));
-        };
-        let left = Box::new(alloc, left)?;
-        let right = Box::new(alloc, right)?;
-        Ok((left, right))
+        let operand = Box::new(alloc, tree)?;
+        Ok(operand)
     }
 
     /// The last two trees of the path, one after the other.
@@ -189,7 +181,8 @@ impl<A: Allocator + Copy> Draft<A> {
         ensures ok { OnOk result (Allowed a_sequence (drafted self.old) × (drafted self.new ≡ after a_sequence (drafted self.old))) }
         ensures err { IfErr result (λ e. Fails e (Allowed a_sequence (drafted self.old) → ⊥)) }
     {
-        let (left, right) = self.operands(alloc, at)?;
+        let right = self.operand(alloc, at)?;
+        let left = self.operand(alloc, at)?;
         self.open_trees.push(Expr::Seq(left, right))?;
         Ok(())
     }
@@ -199,7 +192,8 @@ impl<A: Allocator + Copy> Draft<A> {
         ensures ok { OnOk result (Allowed a_selection (drafted self.old) × (drafted self.new ≡ after a_selection (drafted self.old))) }
         ensures err { IfErr result (λ e. Fails e (Allowed a_selection (drafted self.old) → ⊥)) }
     {
-        let (left, right) = self.operands(alloc, at)?;
+        let right = self.operand(alloc, at)?;
+        let left = self.operand(alloc, at)?;
         self.open_trees.push(Expr::Alt(left, right))?;
         Ok(())
     }
@@ -222,10 +216,7 @@ impl<A: Allocator + Copy> Draft<A> {
             × (drafted self.new ≡ after (a_closing None) (drafted self.old))) }
         ensures err { IfErr result (λ e. Fails e (Allowed (a_closing None) (drafted self.old) → ⊥)) }
     {
-        let Some(tree) = self.open_trees.pop() else {
-            return Err(DeclFault::Unexpected(at));
-        };
-        let inner = Box::new(alloc, tree)?;
+        let inner = self.operand(alloc, at)?;
         self.open_trees.push(Expr::Burst(inner))?;
         self.in_braces = false;
         Ok(())
@@ -240,10 +231,7 @@ impl<A: Allocator + Copy> Draft<A> {
         let Some(count) = number_up_to(MOST_AT_ONCE, digits) else {
             return Err(DeclFault::BadCount(at));
         };
-        let Some(tree) = self.open_trees.pop() else {
-            return Err(DeclFault::Unexpected(at));
-        };
-        let inner = Box::new(alloc, tree)?;
+        let inner = self.operand(alloc, at)?;
         self.open_trees.push(Expr::Counted(inner, count))?;
         self.in_braces = false;
         Ok(())

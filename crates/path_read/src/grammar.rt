@@ -25,22 +25,18 @@ fn closing<'t, 'a, A: Allocator + Copy>(
     ensures shorter { IfOk result (λ rest. length rest.now < length tokens.now) }
     ensures none { IfErr result (λ e. Fails e ((rest : List Piece) (b : Option (List ℕ)) → IsClosing (told tokens.now) rest b → ⊥)) }
 {
-    let (part, at, rest) = match after_sign(tokens, Sign::Colon) {
-        Some((_, bounded)) => {
-            let (digits, at, last) = expect_number(bounded, end)?;
-            let Some((_, rest)) = after_sign(last, Sign::CloseBrace) else {
-                return Err(DeclFault::Unexpected(place(last, end)));
-            };
-            (Part::Bound(digits), at, rest)
-        }
-        None => {
-            let Some((at, rest)) = after_sign(tokens, Sign::CloseBrace) else {
-                return Err(DeclFault::Unexpected(place(tokens, end)));
-            };
-            (Part::Closing, at, rest)
-        }
+    if let Some((_, bounded)) = after_sign(tokens, Sign::Colon) {
+        let (digits, at, last) = expect_number(bounded, end)?;
+        let Some((_, rest)) = after_sign(last, Sign::CloseBrace) else {
+            return Err(DeclFault::Unexpected(place(last, end)));
+        };
+        out.take(Part::Bound(digits), at);
+        return Ok(rest);
+    }
+    let Some((at, rest)) = after_sign(tokens, Sign::CloseBrace) else {
+        return Err(DeclFault::Unexpected(place(tokens, end)));
     };
-    out.take(part, at);
+    out.take(Part::Closing, at);
     Ok(rest)
 }
 

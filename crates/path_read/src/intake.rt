@@ -48,14 +48,9 @@ impl<A: Allocator + Copy> Intake<A> {
         ensures ok { IfOk result (λ draft. taken self ≡ sound (drafted draft)) }
         ensures err { IfErr result (λ e. taken self ≡ broken e) }
     {
-        let Intake {
-            alloc: _,
-            draft,
-            fault,
-        } = self;
-        match fault {
+        match self.fault {
             Some(fault) => Err(fault),
-            None => Ok(draft),
+            None => Ok(self.draft),
         }
     }
 }

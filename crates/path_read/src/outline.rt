@@ -1,13 +1,13 @@
 //! Files: from tokens to parts, by the grammar.
 
-ghost use Rattle.std.specs.Prelude.{◌≡◌, ℕ, ◌<◌, List, [], ◌∷◌, length, map, IfOk, IfErr};
+ghost use Rattle.std.specs.Prelude.{◌≡◌, ℕ, ◌<◌, List, [], ◌∷◌, length, map, IfOk, OnOk, IfErr};
 ghost use Rattle.path_lex.specs.Spelling.{Piece};
 ghost use Rattle.path_decl.specs.Forms.{Form, LawForm, ResourceForm};
 ghost use Rattle.path_decl.specs.Grammar.{IsLaw, IsFile};
 ghost use Rattle.path_read.specs.Parts.{a_law, an_operation, body_parts, inner_parts, resource_parts, file_parts};
 ghost use Rattle.path_read.specs.Reading.{told, Fails, ReadsNames, ReadsPath, ReadsBody, ReadsResource};
 ghost use Rattle.path_read.specs.Building.{drafted, nothing, AllAllowed, after_all};
-ghost use Rattle.path_read.specs.Taking.{sound, taken, Follows, Adds};
+ghost use Rattle.path_read.specs.Taking.{taken, Adds};
 
 use crate::ahead::{after_sign, after_word, expect_law, expect_name, expect_word, place};
 use crate::draft::Draft;
@@ -118,20 +118,18 @@ fn resource<'t, 'a, A: Allocator + Copy>(
 
 /// Reads resources up to the end of the text, and takes their parts.
 fn resources<A: Allocator + Copy>(
-    alloc: A,
+    out: &mut Intake<A>,
     tokens: &[Token<'_>],
     end: u32,
-) -> Result<Intake<A>, DeclFault>
-    ensures found { IfOk result (λ out.
-        (rs : List ResourceForm) × IsFile (told tokens.now) rs × Follows (file_parts rs) (sound nothing) (taken out)) }
+) -> Result<(), DeclFault>
+    ensures found { OnOk result (Adds file_parts (IsFile (told tokens.now)) (taken out.old) (taken out.new)) }
     ensures none { IfErr result (λ e. Fails e ((rs : List ResourceForm) → IsFile (told tokens.now) rs → ⊥)) }
 {
-    let mut out = Intake::new(alloc);
-    let mut rest = resource(&mut out, tokens, end)?;
+    let mut rest = resource(out, tokens, end)?;
     while !rest.is_empty() {
-        rest = resource(&mut out, rest, end)?;
+        rest = resource(out, rest, end)?;
     }
-    Ok(out)
+    Ok(())
 }
 
 /// Reads the tokens of a whole file: the draft of its parts. The text ends at `end`. The first fault is named: the first
@@ -149,6 +147,6 @@ pub(crate) fn file<A: Allocator + Copy>(
     ensures none { IfErr result (λ e.
         Fails e ((rs : List ResourceForm) → IsFile (told tokens.now) rs → AllAllowed (file_parts rs) nothing → ⊥)) }
 {
-    let out = resources(alloc, tokens, end)?;
-    out.finish()
+    let mut out = Intake::new(alloc);
+    resources(&mut out, tokens, end).and(out.finish())
 }

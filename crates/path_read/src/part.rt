@@ -1,7 +1,7 @@
 //! What a declaration text says, part by part.
 
 /// A law as a text has it.
-#[derive(Clone, Copy, Debug)]
+#[derive(Clone, Copy)]
 pub(crate) enum LawText<'a> {
     /// A cell.
     Cell,
@@ -12,7 +12,7 @@ pub(crate) enum LawText<'a> {
 }
 
 /// A part of what a text says. In a path operands come before their operator, and braces before and after what they hold.
-#[derive(Clone, Copy, Debug)]
+#[derive(Clone, Copy)]
 pub(crate) enum Part<'a> {
     /// A resource has this name.
     Resource(&'a str),

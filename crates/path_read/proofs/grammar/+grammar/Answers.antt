@@ -1,11 +1,11 @@
 use Rattle.std.proofs.Common.{arith}
 use Rattle.std.proofs.lemmas.Result.{err_from_is_err_and}
 use Rattle.path_read.specs.Taking.{taken}
-use Rattle.path_read.proofs.Reached.{first_reached, next_reached, no_alt_at, alt_ends, first_step_reached, next_step_reached, no_seq_at, seq_ends}
+use Rattle.path_read.proofs.Reached.{first_reached, next_reached, no_alt_at, alt_ends, first_step_reached, next_step_reached, no_seq_at, seq_ends, no_first_unit, no_first_alt}
 use Rattle.path_read.specs.Reading.{told}
 use Rattle.path_read.proofs.Lists.{ok_then, err_then}
 use Rattle.path_read.proofs.Unit.{name_unit, group_unit, no_group, group_open, none_of, braces_unit, no_braces, no_sequence, braces_open, braces_closed}
-use Rattle.path_read.proofs.Following.{fails_then}
+use Rattle.path_read.proofs.Following.{fails_then, no_value, handed_on}
 use Rattle.path_read.proofs.grammar.+grammar.Goals as goal
 
 pub alt-loop-at-init : goal.alt-loop-at-init
@@ -82,3 +82,45 @@ braces-returns-clause-found g t c =
 
 pub braces-returns-clause-none : goal.braces-returns-clause-none
 braces-returns-clause-none g t c = err_then _ (λ e. fails_then e (λ none. braces_open _ _ _ _ _ c.if-depth-eq0.false c.in_ok-left.ensures.found none)) c.closing.ensures.none
+
+pub alt-returns-in_err-rest-clause-found : goal.alt-returns-in_err-rest-clause-found
+alt-returns-in_err-rest-clause-found g t c = no_value c.from_residual.result _ _ c.from_residual.ensures.1
+
+pub alt-returns-in_err-rest-clause-shorter : goal.alt-returns-in_err-rest-clause-shorter
+alt-returns-in_err-rest-clause-shorter g t c = no_value c.from_residual.result _ _ c.from_residual.ensures.1
+
+pub alt-returns-in_err-rest-2-clause-found : goal.alt-returns-in_err-rest-2-clause-found
+alt-returns-in_err-rest-2-clause-found g t c = no_value c.from_residual-in_err-rest-2.result _ _ c.from_residual-in_err-rest-2.ensures.1
+
+pub alt-returns-in_err-rest-2-clause-shorter : goal.alt-returns-in_err-rest-2-clause-shorter
+alt-returns-in_err-rest-2-clause-shorter g t c = no_value c.from_residual-in_err-rest-2.result _ _ c.from_residual-in_err-rest-2.ensures.1
+
+pub alt-returns-in_err-rest-clause-none : goal.alt-returns-in_err-rest-clause-none
+alt-returns-in_err-rest-clause-none g t c = handed_on c.from_residual.result _ _ _ c.from_residual.ensures.1 (no_first_unit c.args.depth (told c.args.tokens.now)) c.in_err-rest.ensures.none
+
+pub seq-returns-in_err-rest-clause-found : goal.seq-returns-in_err-rest-clause-found
+seq-returns-in_err-rest-clause-found g t c = no_value c.from_residual.result _ _ c.from_residual.ensures.1
+
+pub seq-returns-in_err-rest-clause-shorter : goal.seq-returns-in_err-rest-clause-shorter
+seq-returns-in_err-rest-clause-shorter g t c = no_value c.from_residual.result _ _ c.from_residual.ensures.1
+
+pub seq-returns-in_err-rest-2-clause-found : goal.seq-returns-in_err-rest-2-clause-found
+seq-returns-in_err-rest-2-clause-found g t c = no_value c.from_residual-in_err-rest-2.result _ _ c.from_residual-in_err-rest-2.ensures.1
+
+pub seq-returns-in_err-rest-2-clause-shorter : goal.seq-returns-in_err-rest-2-clause-shorter
+seq-returns-in_err-rest-2-clause-shorter g t c = no_value c.from_residual-in_err-rest-2.result _ _ c.from_residual-in_err-rest-2.ensures.1
+
+pub seq-returns-in_err-rest-clause-none : goal.seq-returns-in_err-rest-clause-none
+seq-returns-in_err-rest-clause-none g t c = handed_on c.from_residual.result _ _ _ c.from_residual.ensures.1 (no_first_alt c.args.depth (told c.args.tokens.now)) c.in_err-rest.ensures.none
+
+pub braces-returns-in_err-left-clause-found : goal.braces-returns-in_err-left-clause-found
+braces-returns-in_err-left-clause-found g t c = no_value c.from_residual.result _ _ c.from_residual.ensures.1
+
+pub braces-returns-in_err-left-clause-shorter : goal.braces-returns-in_err-left-clause-shorter
+braces-returns-in_err-left-clause-shorter g t c = no_value c.from_residual.result _ _ c.from_residual.ensures.1
+
+pub unit-returns-in_err-left-clause-found : goal.unit-returns-in_err-left-clause-found
+unit-returns-in_err-left-clause-found g t c = no_value c.from_residual.result _ _ c.from_residual.ensures.1
+
+pub unit-returns-in_err-left-clause-shorter : goal.unit-returns-in_err-left-clause-shorter
+unit-returns-in_err-left-clause-shorter g t c = no_value c.from_residual.result _ _ c.from_residual.ensures.1

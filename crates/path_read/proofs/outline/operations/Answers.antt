@@ -1,6 +1,6 @@
 use Rattle.std.proofs.Common.{arith}
 use Rattle.std.proofs.lemmas.Result.{err_from_is_err_and}
-use Rattle.path_read.proofs.Following.{fails_then}
+use Rattle.path_read.proofs.Following.{fails_then, no_value}
 use Rattle.path_read.proofs.Lists.{first_name, next_name, no_names_at, no_first_name, names_end}
 use Rattle.path_read.proofs.outline.operations.Goals as goal
 
@@ -25,3 +25,15 @@ loop-left-preserved g c = record {
 
 pub returns-clause-found : goal.returns-clause-found
 returns-clause-found g c = names_end _ _ _ _ c.in_default.ensures.none c.loop-left.invariant.reached
+
+pub returns-in_err-name-clause-found : goal.returns-in_err-name-clause-found
+returns-in_err-name-clause-found g c = no_value c.from_residual.result _ _ c.from_residual.ensures.1
+
+pub returns-in_err-name-clause-shorter : goal.returns-in_err-name-clause-shorter
+returns-in_err-name-clause-shorter g c = no_value c.from_residual.result _ _ c.from_residual.ensures.1
+
+pub returns-in_err-name-2-clause-found : goal.returns-in_err-name-2-clause-found
+returns-in_err-name-2-clause-found g c = no_value c.from_residual-in_err-name-2.result _ _ c.from_residual-in_err-name-2.ensures.1
+
+pub returns-in_err-name-2-clause-shorter : goal.returns-in_err-name-2-clause-shorter
+returns-in_err-name-2-clause-shorter g c = no_value c.from_residual-in_err-name-2.result _ _ c.from_residual-in_err-name-2.ensures.1

@@ -1,5 +1,5 @@
 use Rattle.std.proofs.lemmas.Result.{err_from_is_err_and}
-use Rattle.path_read.proofs.Following.{fails_then}
+use Rattle.path_read.proofs.Following.{fails_then, no_value}
 use Rattle.path_read.proofs.Lists.{no_word, no_name_after, named, no_law, no_operation, no_body, no_end, is_resource, ok_then, err_then}
 use Rattle.path_read.proofs.outline.resource.Goals as goal
 
@@ -33,3 +33,33 @@ returns-clause-found g c = ok_then _ (λ rest e. is_resource _ _ _ _ _ _ _ _ _ _
 
 pub returns-clause-none : goal.returns-clause-none
 returns-clause-none g c = err_then _ (λ e. fails_then e (λ none. no_end _ _ _ _ _ _ _ _ _ (named _ _ _ _ c.in_ok-named.ensures.ok c.in_ok-name.ensures.ok) c.in_ok-kind.ensures.found c.in_ok-inside.ensures.ok c.in_ok-last.ensures.found none)) c.expect_word-3.ensures.err
+
+pub returns-in_err-named-clause-found : goal.returns-in_err-named-clause-found
+returns-in_err-named-clause-found g c = no_value c.from_residual.result _ _ c.from_residual.ensures.1
+
+pub returns-in_err-named-clause-shorter : goal.returns-in_err-named-clause-shorter
+returns-in_err-named-clause-shorter g c = no_value c.from_residual.result _ _ c.from_residual.ensures.1
+
+pub returns-in_err-name-clause-found : goal.returns-in_err-name-clause-found
+returns-in_err-name-clause-found g c = no_value c.from_residual-in_err-name.result _ _ c.from_residual-in_err-name.ensures.1
+
+pub returns-in_err-name-clause-shorter : goal.returns-in_err-name-clause-shorter
+returns-in_err-name-clause-shorter g c = no_value c.from_residual-in_err-name.result _ _ c.from_residual-in_err-name.ensures.1
+
+pub returns-in_err-kind-clause-found : goal.returns-in_err-kind-clause-found
+returns-in_err-kind-clause-found g c = no_value c.from_residual-in_err-kind.result _ _ c.from_residual-in_err-kind.ensures.1
+
+pub returns-in_err-kind-clause-shorter : goal.returns-in_err-kind-clause-shorter
+returns-in_err-kind-clause-shorter g c = no_value c.from_residual-in_err-kind.result _ _ c.from_residual-in_err-kind.ensures.1
+
+pub returns-in_err-inside-clause-found : goal.returns-in_err-inside-clause-found
+returns-in_err-inside-clause-found g c = no_value c.from_residual-in_err-inside.result _ _ c.from_residual-in_err-inside.ensures.1
+
+pub returns-in_err-inside-clause-shorter : goal.returns-in_err-inside-clause-shorter
+returns-in_err-inside-clause-shorter g c = no_value c.from_residual-in_err-inside.result _ _ c.from_residual-in_err-inside.ensures.1
+
+pub returns-in_err-last-clause-found : goal.returns-in_err-last-clause-found
+returns-in_err-last-clause-found g c = no_value c.from_residual-in_err-last.result _ _ c.from_residual-in_err-last.ensures.1
+
+pub returns-in_err-last-clause-shorter : goal.returns-in_err-last-clause-shorter
+returns-in_err-last-clause-shorter g c = no_value c.from_residual-in_err-last.result _ _ c.from_residual-in_err-last.ensures.1

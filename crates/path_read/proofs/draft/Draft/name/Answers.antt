@@ -6,6 +6,7 @@ use Rattle.path_model.specs.declared.ids.OpId.{OpId}
 use Rattle.path_decl.specs.Table.{names_of, name_at, operations_of}
 use Rattle.path_read.specs.Building.{drafted, number_of}
 use Rattle.path_read.proofs.TableLemmas.{lacks_name, stands, is_place, owner_is, number_is, opened}
+use Rattle.path_read.proofs.Following.{no_value, no_memory}
 use Rattle.path_read.proofs.Numbered.{AreBelow, below_pushed, still_below, holds_number, named_by, numbered_by}
 use Rattle.path_read.proofs.draft.Draft.name.Goals as goal
 
@@ -24,6 +25,31 @@ returns-then-contains-clause-err g c = λ u.
     let at : slice_get (names_of es) c.in-Some.place ≡ Some c.args.name.now = is_place es c.args.name.now (Some c.in-Some.place) c.in-Some.ensures.index in
     let holds = holds_number _ a _ c.if-contains.ensures.cases in
     u.new (named_by (names_of es) c.args.name.now a c.args.self.now.named.items at (subst (λ x. Contains x a) c.deref.ensures.value (holds.0 refl)))
+
+pub overflow_cast-number : goal.overflow_cast-number
+overflow_cast-number g c =
+    let lt : c.in-Some.place < length c.args.self.now.operations.entries = slice_get_within c.args.self.now.operations.entries c.in-Some.place _ c.in-Some.ensures.entry in
+    omega (arith, lt, c.args.self.now.few)
+
+pub returns-then-len-ge-MOST_NAMES-clause-err : goal.returns-then-len-ge-MOST_NAMES-clause-err
+returns-then-len-ge-MOST_NAMES-clause-err g c = λ u.
+    let room : length c.args.self.now.named.items < 64 = simp length-map at u.room in
+    absurd (omega (arith, room, c.len.ensures, c.if-len-ge-MOST_NAMES.true))
+
+pub invariant_of-self : goal.invariant_of-self
+invariant_of-self g c = record { few = c.args.self.now.few; distinct = c.args.self.now.distinct; known = c.args.self.now.known }
+
+pub returns-in_err-push-clause-ok : goal.returns-in_err-push-clause-ok
+returns-in_err-push-clause-ok g c = no_value c.from_residual.result _ _ c.from_residual.ensures.1
+
+pub returns-in_err-push-clause-err : goal.returns-in_err-push-clause-err
+returns-in_err-push-clause-err g c = no_memory c.from_residual.result _ c.from_residual.ensures.1
+
+pub returns-in_err-push-2-clause-ok : goal.returns-in_err-push-2-clause-ok
+returns-in_err-push-2-clause-ok g c = no_value c.from_residual-in_err-push-2.result _ _ c.from_residual-in_err-push-2.ensures.1
+
+pub returns-in_err-push-2-clause-err : goal.returns-in_err-push-2-clause-err
+returns-in_err-push-2-clause-err g c = no_memory c.from_residual-in_err-push-2.result _ c.from_residual-in_err-push-2.ensures.1
 
 pub invariant_of-self-2 : goal.invariant_of-self-2
 invariant_of-self-2 g c =

@@ -4,6 +4,7 @@ use Rattle.indexmap.proofs.CallerLemmas.{insert_entry-new}
 use Rattle.path_model.specs.Declarations.{Operation}
 use Rattle.path_decl.specs.Table.{names_of, name_at, operations_of}
 use Rattle.path_read.specs.Building.{drafted}
+use Rattle.path_read.proofs.Following.{no_value, no_memory}
 use Rattle.path_read.proofs.TableLemmas.{names_of_operations, new_key, pushed, pushed_operation}
 use Rattle.path_read.proofs.Numbered.{AreBelow, still_below, table_kept, still_room, names_kept}
 use Rattle.path_read.proofs.draft.Draft.operation.Goals as goal
@@ -26,8 +27,8 @@ returns-clause-ok g c =
     let named = c.args.self.now.named.items in
     let none : Contains (names_of es) c.args.name.now → ⊥ = λ h. let e = c.if-has_name.ensures.1 h in cc in
     let more = c.in_ok-insert.ensures.entries ∙ insert_entry-new _ c.args.self.now.operations c.in_ok-key.key c.args.self.now.resource (new_key es c.in_ok-key.key c.args.name.now c.in_ok-key.ensures.ok none) in
-    let shown = pushed_operation es _ c.in_ok-key.key c.args.self.now.resource c.args.name.now c.in_ok-key.ensures.ok more in
-    let names = pushed es _ c.in_ok-key.key c.args.self.now.resource c.args.name.now c.in_ok-key.ensures.ok more in
+    let shown = pushed_operation es c.insert.new.self.entries c.in_ok-key.key c.args.self.now.resource c.args.name.now c.in_ok-key.ensures.ok more in
+    let names = pushed es c.insert.new.self.entries c.in_ok-key.key c.args.self.now.resource c.args.name.now c.in_ok-key.ensures.ok more in
     let known : AreBelow (length (names_of es)) named = still_below (length es) (length (names_of es)) named (simp length-map (omega arith)) c.args.self.now.known in
     let kept = ap (λ x. map (name_at x) named) names ∙ names_kept (names_of es) c.args.name.now named known in
     let room : length es < 256 = omega (arith, c.len.ensures.len) in (
@@ -35,3 +36,20 @@ returns-clause-ok g c =
       ap (λ (x : List Operation). record (drafted c.args.self.now) { operations = x; named = map (name_at (names_of c.insert.new.self.entries)) named }) shown
           ∙ ap (λ (x : List (List ℕ)). record (drafted c.args.self.now) { operations = operations_of es ++ record { name = c.args.name.now; resource = c.args.self.now.resource.0 } ∷ []; named = x }) kept,
     )
+
+pub returns-in_err-key-clause-ok : goal.returns-in_err-key-clause-ok
+returns-in_err-key-clause-ok g c = no_value c.from_residual.result _ _ c.from_residual.ensures.1
+
+pub returns-in_err-key-clause-err : goal.returns-in_err-key-clause-err
+returns-in_err-key-clause-err g c = no_memory c.from_residual.result _ c.from_residual.ensures.1
+
+pub returns-in_err-insert-clause-ok : goal.returns-in_err-insert-clause-ok
+returns-in_err-insert-clause-ok g c = no_value c.from_residual-in_err-insert.result _ _ c.from_residual-in_err-insert.ensures.1
+
+pub returns-in_err-insert-clause-err : goal.returns-in_err-insert-clause-err
+returns-in_err-insert-clause-err g c = no_memory c.from_residual-in_err-insert.result _ c.from_residual-in_err-insert.ensures.1
+
+pub returns-then-len-ge-MOST_OPERATIONS-clause-err : goal.returns-then-len-ge-MOST_OPERATIONS-clause-err
+returns-then-len-ge-MOST_OPERATIONS-clause-err g c = λ a.
+    let room : length c.args.self.now.operations.entries < 256 = simp length-map at a.1 in
+    absurd (omega (arith, room, c.len.ensures.len, c.if-len-ge-MOST_OPERATIONS.true))
