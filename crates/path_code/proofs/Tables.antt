@@ -120,13 +120,13 @@ module _ (ps : List Path) (L : LawfulPaths ps) (n : ℕ) where
       let k = length_taken ps n in
       omega (arith, e, l, k)
 
--- a resource is found where a path is
-pub has_resource : (ps : List Path) (n : ℕ) (o : Option ResId) → n < length ps → option_map (λ r. r.0) o ≡ option_map (λ p. p.resource) (slice_get ps n) → IsSome o
-has_resource ps n None l is = let none : Path = record { resource = 0; tree = op (record { 0 = 0 }) } in let at = slice_get-get_or ps n none l in absurd (no_some _ (is ∙ ap (λ o. option_map (λ p. p.resource) o) at))
-  where
-    no_some : (r : ℕ) → ◌≡◌ {A = Option ℕ} None (Some r) → ⊥
-    no_some r e = cc
-has_resource ps n (Some r) l is = refl
+-- a part of a path is found where a path is
+no_some : {B : Type 0} (r : B) → ◌≡◌ {A = Option B} None (Some r) → ⊥
+no_some r e = cc
+
+pub has_part : {A B : Type 0} (f : A → B) (part : Path → B) (ps : List Path) (n : ℕ) (o : Option A) → n < length ps → option_map f o ≡ option_map part (slice_get ps n) → IsSome o
+has_part f part ps n None l is = let none : Path = record { resource = 0; tree = op (record { 0 = 0 }) } in let at = slice_get-get_or ps n none l in absurd (no_some _ (is ∙ ap (λ o. option_map part o) at))
+has_part f part ps n (Some r) l is = refl
 
 -- how many semaphores and pairs of braces the code of a path has
 module _ {Y : Type 0} (x : Sited) (c : PathCode Y) (is : IsPathCode x c) where

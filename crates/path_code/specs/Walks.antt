@@ -22,6 +22,13 @@ pub record FitsFrom (s : Tree) (n : Numbers) : Type 0 where
   pub brace : braces s + n.brace < 2 ^ 16
   pub bound : counted_braces s + n.bound < 2 ^ 16
 
+-- m are the numbers after those of its parts, where n come first
+pub record NumbersAfter (s : Tree) (n m : Numbers) : Type 0 where
+  pub place : m.place ≡ n.place + names_count s
+  pub semicolon : m.semicolon ≡ n.semicolon + semicolons s
+  pub brace : m.brace ≡ n.brace + braces s
+  pub bound : m.bound ≡ n.bound + counted_braces s
+
 -- so many parts have numbers below these
 pub record FitsBelow (s : Tree) (n : Numbers) : Type 0 where
   pub place : names_count s ≤ n.place

@@ -1,15 +1,30 @@
 //! Shows what paths are compiled to.
 
-ghost use Rattle.std.specs.Prelude.{◌≡◌, ◌++◌, ◌∷◌, [], map, IfOk, OnOk};
+ghost use Rattle.std.specs.Prelude.{◌≡◌, ◌++◌, ◌∷◌, [], map, option_map, codes, IfOk, OnOk};
 ghost use Rattle.std.specs.String.{string_bytes};
-ghost use Rattle.path_code.specs.Listing.{operation_text, resource_text, prologue_text, epilogue_text, header_line, semaphore_line};
-ghost use Rattle.path_code.specs.Listing.{counter_line, mutex_line, op_line, lines_text, parts_text, listing_text};
+ghost use Rattle.path_code.specs.Listing.{name_or_number, operation_text, resource_text, prologue_text, epilogue_text, header_line};
+ghost use Rattle.path_code.specs.Listing.{semaphore_line, counter_line, mutex_line, op_line, lines_text, parts_text, listing_text};
 
 use crate::code::{Code, PathCode};
 use crate::terms::{Epilogue, OpCode, Prologue};
 use path_decl::{Decl, op_name, resource_name};
 use path_model::{OpId, OutOfMemory, ResId};
-use std::alloc::Allocator;
+use std::alloc::{AllocError, Allocator};
+
+/// Appends a name; `#` and the number where there is none.
+fn push_name<B: Allocator + Copy>(
+    out: &mut String<B>,
+    name: Option<&str>,
+    number: u32,
+) -> Result<(), OutOfMemory>
+    ensures { OnOk result (string_bytes out.new ≡ string_bytes out.old ++ name_or_number (option_map (λ s. s.now) name.entry) number) }
+{
+    match name {
+        Some(name) => out.push_str(name)?,
+        None => write!(out, "#{number}")?,
+    }
+    Ok(())
+}
 
 /// Appends the name of an operation; `#` and its number where the declaration doesn't have it. Refused only for want of memory; a
 /// front of the text may have been appended then.
@@ -20,14 +35,7 @@ pub fn push_operation<A: Allocator + Copy, B: Allocator + Copy>(
 ) -> Result<(), OutOfMemory>
     ensures { OnOk result (string_bytes out.new ≡ string_bytes out.old ++ operation_text decl.now.declaration op.0) }
 {
-    match op_name(decl, op) {
-        Some(name) => out.push_str(name)?,
-        None => {
-            let number = op.0;
-            write!(out, "#{number}")?;
-        }
-    }
-    Ok(())
+    push_name(out, op_name(decl, op), op.0)
 }
 
 /// Appends the name of a resource; `#` and its number where the declaration doesn't have it. Refused only for want of memory; a
@@ -39,48 +47,39 @@ pub fn push_resource<A: Allocator + Copy, B: Allocator + Copy>(
 ) -> Result<(), OutOfMemory>
     ensures { OnOk result (string_bytes out.new ≡ string_bytes out.old ++ resource_text decl.now.declaration resource.0) }
 {
-    match resource_name(decl, resource) {
-        Some(name) => out.push_str(name)?,
-        None => {
-            let number = resource.0;
-            write!(out, "#{number}")?;
-        }
-    }
-    Ok(())
+    push_name(out, resource_name(decl, resource), resource.0)
 }
 
-/// Appends what stands before an operation.
+/// Appends what stands before an operation, between `: ` and ` | `.
 fn push_prologue<B: Allocator + Copy>(
     out: &mut String<B>,
     prologue: Prologue,
-) -> Result<(), OutOfMemory>
-    ensures { OnOk result (string_bytes out.new ≡ string_bytes out.old ++ prologue_text prologue) }
+) -> Result<(), AllocError>
+    ensures { OnOk result (string_bytes out.new ≡ string_bytes out.old ++ (codes ": " ++ (prologue_text prologue ++ codes " | "))) }
 {
     match prologue {
-        Prologue::P(own) => write!(out, "P(s{own})")?,
-        Prologue::PP(pair, own) => write!(out, "PP(c{pair},m{pair},P(s{own}))")?,
+        Prologue::P(own) => write!(out, ": P(s{own}) | "),
+        Prologue::PP(pair, own) => write!(out, ": PP(c{pair},m{pair},P(s{own})) | "),
         Prologue::PPN(pair, own, bound) => {
-            write!(out, "P(s{bound}); PP(c{pair},m{pair},P(s{own}))")?;
+            write!(out, ": P(s{bound}); PP(c{pair},m{pair},P(s{own})) | ")
         }
     }
-    Ok(())
 }
 
-/// Appends what stands after an operation.
+/// Appends what stands after an operation, and ends the line.
 fn push_epilogue<B: Allocator + Copy>(
     out: &mut String<B>,
     epilogue: Epilogue,
-) -> Result<(), OutOfMemory>
-    ensures { OnOk result (string_bytes out.new ≡ string_bytes out.old ++ epilogue_text epilogue) }
+) -> Result<(), AllocError>
+    ensures { OnOk result (string_bytes out.new ≡ string_bytes out.old ++ (epilogue_text epilogue ++ 10 ∷ [])) }
 {
     match epilogue {
-        Epilogue::V(own) => write!(out, "V(s{own})")?,
-        Epilogue::VV(pair, own) => write!(out, "VV(c{pair},m{pair},V(s{own}))")?,
+        Epilogue::V(own) => writeln!(out, "V(s{own})"),
+        Epilogue::VV(pair, own) => writeln!(out, "VV(c{pair},m{pair},V(s{own}))"),
         Epilogue::VVN(pair, own, bound) => {
-            write!(out, "VV(c{pair},m{pair},V(s{own})); V(s{bound})")?;
+            writeln!(out, "VV(c{pair},m{pair},V(s{own})); V(s{bound})")
         }
     }
-    Ok(())
 }
 
 /// Appends `path N of RESOURCE` without a line feed; `#` and its number stand for a resource that the declaration doesn't have.
@@ -127,10 +126,7 @@ pub fn push_counters<B: Allocator + Copy>(
 }
 
 /// Appends a line for each mutex.
-fn push_mutexes<B: Allocator + Copy>(
-    out: &mut String<B>,
-    mutexes: &[u16],
-) -> Result<(), OutOfMemory>
+fn push_mutexes<B: Allocator + Copy>(out: &mut String<B>, mutexes: &[u16]) -> Result<(), AllocError>
     ensures { OnOk result (string_bytes out.new ≡ string_bytes out.old ++ lines_text (map mutex_line mutexes.now)) }
 {
     for number in mutexes {
@@ -149,11 +145,8 @@ fn push_op<A: Allocator + Copy, B: Allocator + Copy>(
         string_bytes out.old ++ lines_text (op_line decl.now.declaration op.now ∷ [])) }
 {
     push_operation(out, decl, op.op)?;
-    out.push_str(": ")?;
     push_prologue(out, op.prologue)?;
-    out.push_str(" | ")?;
     push_epilogue(out, op.epilogue)?;
-    out.push_str("\n")?;
     Ok(())
 }
 

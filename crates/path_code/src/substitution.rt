@@ -1,12 +1,9 @@
 //! The substitution into one tree, from its root downwards: from left to right what stands before each name, and back what stands
 //! after it.
 
-ghost use Rattle.std.specs.Prelude.{◌≡◌, ◌+◌, ◌≤◌, ◌++◌, length, OnOk};
+ghost use Rattle.std.specs.Prelude.{◌≡◌, ◌≤◌, ◌++◌, length, OnOk};
 ghost use Rattle.path_model.specs.Trees.{shape, FewAtOnce};
-ghost use Rattle.path_model.specs.Machine.{semicolons, braces};
-ghost use Rattle.path_model.specs.Flat.{counted_braces};
-ghost use Rattle.path_decl.specs.Lawful.{names_count};
-ghost use Rattle.path_code.specs.Walks.{FitsFrom, FitsBelow, IsFlat, start_within, end_within, starts_in, bounds_from, ended};
+ghost use Rattle.path_code.specs.Walks.{FitsFrom, NumbersAfter, FitsBelow, IsFlat, start_within, end_within, starts_in, bounds_from, ended};
 
 use crate::terms::{Epilogue, OpCode, Prologue};
 use path_model::{Expr, OutOfMemory};
@@ -28,10 +25,7 @@ pub(crate) struct Numbers {
 /// Adds to a count what stands in a tree. The cost is one walk over it.
 pub(crate) fn count_parts<A: Allocator + Copy>(tree: &Expr<A>, count: &mut Numbers)
     requires few { FitsFrom (shape tree.now) count.old }
-    ensures place { count.new.place ≡ count.old.place + names_count (shape tree.now) }
-    ensures semicolon { count.new.semicolon ≡ count.old.semicolon + semicolons (shape tree.now) }
-    ensures brace { count.new.brace ≡ count.old.brace + braces (shape tree.now) }
-    ensures bound { count.new.bound ≡ count.old.bound + counted_braces (shape tree.now) }
+    ensures { NumbersAfter (shape tree.now) count.old count.new }
 {
     match tree {
         Expr::Op(_) => count.place += 1,
@@ -90,10 +84,7 @@ pub(crate) fn add_starts<A: Allocator + Copy, B: Allocator + Copy>(
 ) -> Result<(), OutOfMemory>
     requires few { FitsFrom (shape tree.now) next.old }
     requires bounded { FewAtOnce (shape tree.now) }
-    ensures place { OnOk result (next.new.place ≡ next.old.place + names_count (shape tree.now)) }
-    ensures semicolon { OnOk result (next.new.semicolon ≡ next.old.semicolon + semicolons (shape tree.now)) }
-    ensures brace { OnOk result (next.new.brace ≡ next.old.brace + braces (shape tree.now)) }
-    ensures bound { OnOk result (next.new.bound ≡ next.old.bound + counted_braces (shape tree.now)) }
+    ensures numbers { OnOk result (NumbersAfter (shape tree.now) next.old next.new) }
     ensures starts { OnOk result (ops.new.items ≡
         ops.old.items ++ starts_in (shape tree.now) next.old.semicolon next.old.brace next.old.bound prologue) }
     ensures bounds { OnOk result (semaphores.new.items ≡ semaphores.old.items ++ bounds_from (shape tree.now) next.old.bound) }
@@ -106,31 +97,31 @@ pub(crate) fn add_starts<A: Allocator + Copy, B: Allocator + Copy>(
                 epilogue: Epilogue::V(0),
             })?;
             next.place += 1;
+            Ok(())
         }
         Expr::Seq(left, right) => {
             add_starts(ops, semaphores, left, next, prologue)?;
             let semicolon = next.semicolon;
             next.semicolon += 1;
-            add_starts(ops, semaphores, right, next, Prologue::P(semicolon))?;
+            add_starts(ops, semaphores, right, next, Prologue::P(semicolon))
         }
         Expr::Alt(left, right) => {
             add_starts(ops, semaphores, left, next, prologue)?;
-            add_starts(ops, semaphores, right, next, prologue)?;
+            add_starts(ops, semaphores, right, next, prologue)
         }
         Expr::Burst(inner) => {
             let start = starting_within(prologue, next.brace, None);
             next.brace += 1;
-            add_starts(ops, semaphores, inner, next, start)?;
+            add_starts(ops, semaphores, inner, next, start)
         }
         Expr::Counted(inner, most) => {
             semaphores.push((next.bound, *most as u16))?;
             let start = starting_within(prologue, next.brace, Some(next.bound));
             next.brace += 1;
             next.bound += 1;
-            add_starts(ops, semaphores, inner, next, start)?;
+            add_starts(ops, semaphores, inner, next, start)
         }
     }
-    Ok(())
 }
 
 /// Sets what stands after each name of a tree, from right to left: `epilogue`, and at the left of a `;` what signals that. The
@@ -144,10 +135,7 @@ pub(crate) fn set_ends<A: Allocator + Copy>(
     requires flat { IsFlat (shape tree.now) }
     requires fits { FitsBelow (shape tree.now) end.old }
     requires within { end.old.place ≤ length ops.old }
-    ensures place { end.new.place + names_count (shape tree.now) ≡ end.old.place }
-    ensures semicolon { end.new.semicolon + semicolons (shape tree.now) ≡ end.old.semicolon }
-    ensures brace { end.new.brace + braces (shape tree.now) ≡ end.old.brace }
-    ensures bound { end.new.bound + counted_braces (shape tree.now) ≡ end.old.bound }
+    ensures numbers { NumbersAfter (shape tree.now) end.new end.old }
     ensures kept { length ops.new ≡ length ops.old }
     ensures set { ops.new ≡ ended (shape tree.now) end.new.place end.new.semicolon end.new.brace end.new.bound epilogue ops.old }
 {

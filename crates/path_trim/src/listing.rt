@@ -1,6 +1,6 @@
 //! The listing of trimmed paths.
 
-ghost use Rattle.std.specs.Prelude.{◌≡◌, ◌++◌, ◌∷◌, [], flat_map, IfOk, OnOk};
+ghost use Rattle.std.specs.Prelude.{◌≡◌, ◌++◌, ◌∷◌, [], flat_map, codes, IfOk, OnOk};
 ghost use Rattle.std.specs.String.{string_bytes};
 ghost use Rattle.path_trim.specs.LeanListing.{prologue_text, epilogue_text, op_line, value_text};
 ghost use Rattle.path_trim.specs.LeanListing.{removed_line, row_lines, header, same_rest, lean_text};
@@ -12,7 +12,7 @@ use path_code::lister::{push_counters, push_header, push_operation, push_semapho
 use path_code::{Epilogue, Prologue};
 use path_decl::{Decl, path_resource};
 use path_model::{OutOfMemory, PathId};
-use std::alloc::Allocator;
+use std::alloc::{AllocError, Allocator};
 
 /// Writes how the lines of a path begin.
 fn put_header<A: Allocator + Copy, C: Allocator + Copy>(
@@ -32,40 +32,38 @@ fn put_header<A: Allocator + Copy, C: Allocator + Copy>(
     }
 }
 
-/// Writes what is left of a prologue.
+/// Writes what is left of a prologue, between `: ` and ` | `.
 fn put_prologue<C: Allocator + Copy>(
     out: &mut String<C>,
     prologue: Option<Prologue>,
-) -> Result<(), OutOfMemory>
-    ensures { OnOk result (string_bytes out.new ≡ string_bytes out.old ++ prologue_text prologue) }
+) -> Result<(), AllocError>
+    ensures { OnOk result (string_bytes out.new ≡ string_bytes out.old ++ (codes ": " ++ (prologue_text prologue ++ codes " | "))) }
 {
     match prologue {
-        None => out.push_str("-")?,
-        Some(Prologue::P(own)) => write!(out, "P(s{own})")?,
-        Some(Prologue::PP(pair, own)) => write!(out, "PP(c{pair},P(s{own}))")?,
+        None => out.push_str(": - | "),
+        Some(Prologue::P(own)) => write!(out, ": P(s{own}) | "),
+        Some(Prologue::PP(pair, own)) => write!(out, ": PP(c{pair},P(s{own})) | "),
         Some(Prologue::PPN(pair, own, bound)) => {
-            write!(out, "P(s{bound}); PP(c{pair},P(s{own}))")?;
+            write!(out, ": P(s{bound}); PP(c{pair},P(s{own})) | ")
         }
     }
-    Ok(())
 }
 
-/// Writes what is left of an epilogue.
+/// Writes what is left of an epilogue, and ends the line.
 fn put_epilogue<C: Allocator + Copy>(
     out: &mut String<C>,
     epilogue: Option<Epilogue>,
-) -> Result<(), OutOfMemory>
-    ensures { OnOk result (string_bytes out.new ≡ string_bytes out.old ++ epilogue_text epilogue) }
+) -> Result<(), AllocError>
+    ensures { OnOk result (string_bytes out.new ≡ string_bytes out.old ++ (epilogue_text epilogue ++ 10 ∷ [])) }
 {
     match epilogue {
-        None => out.push_str("-")?,
-        Some(Epilogue::V(own)) => write!(out, "V(s{own})")?,
-        Some(Epilogue::VV(pair, own)) => write!(out, "VV(c{pair},V(s{own}))")?,
+        None => out.push_str("-\n"),
+        Some(Epilogue::V(own)) => writeln!(out, "V(s{own})"),
+        Some(Epilogue::VV(pair, own)) => writeln!(out, "VV(c{pair},V(s{own}))"),
         Some(Epilogue::VVN(pair, own, bound)) => {
-            write!(out, "VV(c{pair},V(s{own})); V(s{bound})")?;
+            writeln!(out, "VV(c{pair},V(s{own})); V(s{bound})")
         }
     }
-    Ok(())
 }
 
 /// Writes the line of an operation.
@@ -77,11 +75,8 @@ fn put_op<A: Allocator + Copy, C: Allocator + Copy>(
     ensures { OnOk result (string_bytes out.new ≡ string_bytes out.old ++ op_line decl.now.declaration op) }
 {
     push_operation(out, decl, op.op)?;
-    out.push_str(": ")?;
     put_prologue(out, op.prologue)?;
-    out.push_str(" | ")?;
     put_epilogue(out, op.epilogue)?;
-    out.push_str("\n")?;
     Ok(())
 }
 
@@ -100,23 +95,22 @@ fn put_ops<A: Allocator + Copy, C: Allocator + Copy>(
 }
 
 /// Writes a removed value after a space.
-fn put_value<C: Allocator + Copy>(out: &mut String<C>, removed: Removed) -> Result<(), OutOfMemory>
+fn put_value<C: Allocator + Copy>(out: &mut String<C>, removed: Removed) -> Result<(), AllocError>
     ensures { OnOk result (string_bytes out.new ≡ string_bytes out.old ++ value_text removed) }
 {
     match removed {
-        Removed::Semaphore(number) => write!(out, " s{number}")?,
-        Removed::Counter(number) => write!(out, " c{number}")?,
-        Removed::Mutex(number) => write!(out, " m{number}")?,
-        Removed::SamePath(_, _) => {}
+        Removed::Semaphore(number) => write!(out, " s{number}"),
+        Removed::Counter(number) => write!(out, " c{number}"),
+        Removed::Mutex(number) => write!(out, " m{number}"),
+        Removed::SamePath(_, _) => Ok(()),
     }
-    Ok(())
 }
 
 /// Writes removed values, each after a space.
 fn put_values<C: Allocator + Copy>(
     out: &mut String<C>,
     removed: &[Removed],
-) -> Result<(), OutOfMemory>
+) -> Result<(), AllocError>
     ensures { OnOk result (string_bytes out.new ≡ string_bytes out.old ++ flat_map value_text removed.now) }
 {
     for value in removed {
@@ -129,7 +123,7 @@ fn put_values<C: Allocator + Copy>(
 fn put_removed<C: Allocator + Copy>(
     out: &mut String<C>,
     removed: &[Removed],
-) -> Result<(), OutOfMemory>
+) -> Result<(), AllocError>
     ensures { OnOk result (string_bytes out.new ≡ string_bytes out.old ++ removed_line removed.now) }
 {
     if removed.is_empty() {
@@ -137,8 +131,7 @@ fn put_removed<C: Allocator + Copy>(
     }
     out.push_str("removed")?;
     put_values(out, removed)?;
-    out.push_str("\n")?;
-    Ok(())
+    out.push_str("\n")
 }
 
 /// Writes the lines of what is kept of a path.
@@ -155,11 +148,10 @@ fn put_row<A: Allocator + Copy, B: Allocator + Copy, C: Allocator + Copy>(
 }
 
 /// Writes what follows the header of a path whose tree an earlier path has.
-fn put_same<C: Allocator + Copy>(out: &mut String<C>, first: PathId) -> Result<(), OutOfMemory>
+fn put_same<C: Allocator + Copy>(out: &mut String<C>, first: PathId) -> Result<(), AllocError>
     ensures { OnOk result (string_bytes out.new ≡ string_bytes out.old ++ same_rest first.0) }
 {
-    writeln!(out, " same as {}", first.0)?;
-    Ok(())
+    writeln!(out, " same as {}", first.0)
 }
 
 /// Writes what follows the header of a path that is kept, of which these things are removed.

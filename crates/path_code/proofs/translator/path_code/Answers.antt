@@ -18,7 +18,7 @@ set_ends-requires-clause-within g c =
     let s : Tree = shape c.args.tree.now in
     let all = ap length (c.deref_mut.ensures.value ∙ c.in_ok-add_starts.ensures.starts ∙ ap (λ xs. xs ++ starts_in s (c.args.own + 1) c.args.brace (c.args.own + 1 + c.count_parts.new.count.semicolon) (P c.args.own)) c.in_ok-ops.ensures.items) in
     let long = length_starts s (c.args.own + 1) c.args.brace (c.args.own + 1 + c.count_parts.new.count.semicolon) (P c.args.own) in
-    let place = c.in_ok-add_starts.ensures.place in
+    let place = c.in_ok-add_starts.ensures.numbers.place in
     omega (arith, all, long, place)
 
 pub returns-clause-code : goal.returns-clause-code
@@ -29,7 +29,7 @@ returns-clause-code g c =
     let r = c.set_ends.ensures in
     let semis = c.count_parts.ensures.semicolon in
     let first : c.args.own + 1 + c.count_parts.new.count.semicolon ≡ first_bound x = omega (arith, semis) in
-    let pairs = e.brace in
+    let pairs = e.numbers.brace in
     let started = c.deref_mut.ensures.value ∙ e.starts
     ∙ ap (λ xs. xs ++ starts_in s (c.args.own + 1) c.args.brace (c.args.own + 1 + c.count_parts.new.count.semicolon) (P c.args.own)) c.in_ok-ops.ensures.items
     ∙ ap (λ u. starts_in s (c.args.own + 1) c.args.brace u (P c.args.own)) first in
@@ -41,9 +41,9 @@ returns-clause-code g c =
       braces = c.in_ok-braces.ensures ∙ ap (numbers_from c.args.brace) (omega (arith, pairs));
       ops = with_items_is c.add_starts.new.ops c.set_ends.new.ops (r.kept ∙ ap length c.deref_mut.ensures.value ∙ sym c.add_starts.new.ops.ok.0)
           ∙ ops_whole x c.requires.formed _ _ _ _ _ _
-          (let a = r.place in let b = e.place in omega (arith, a, b))
-          (let a = r.semicolon in let b = e.semicolon in omega (arith, a, b))
-          (let a = r.brace in let b = e.brace in omega (arith, a, b))
-          (let a = r.bound in let b = e.bound in omega (arith, a, b, first))
+          (let a = r.numbers.place in let b = e.numbers.place in omega (arith, a, b))
+          (let a = r.numbers.semicolon in let b = e.numbers.semicolon in omega (arith, a, b))
+          (let a = r.numbers.brace in let b = e.numbers.brace in omega (arith, a, b))
+          (let a = r.numbers.bound in let b = e.numbers.bound in omega (arith, a, b, first))
           started r.set;
     }

@@ -7,11 +7,14 @@ use Rattle.path_model.specs.Flat.{Sited}
 use Rattle.path_code.specs.PathCodes.{paths_shown, path_shown, sites, total_semaphores, total_braces, numbered_trees, ArePathCodes, IsPathCode}
 use Rattle.path_code.specs.LawfulPaths.{LawfulPaths}
 use Rattle.path_code.proofs.Counts.{lawful_paths}
-use Rattle.path_code.proofs.Tables.{path_formed, path_bounded, path_small, taken_semaphores, taken_braces, next_taken, codes_more, totals_more, site_after, has_resource, code_semaphores, code_braces, one_shown}
+use Rattle.path_code.proofs.Tables.{path_formed, path_bounded, path_small, taken_semaphores, taken_braces, next_taken, codes_more, totals_more, site_after, has_part, code_semaphores, code_braces, one_shown}
 use Rattle.path_code.proofs.translator.translate.Goals as goal
 
 pub unwrap-resource-requires : goal.unwrap-resource-requires
-unwrap-resource-requires g c = has_resource c.args.decl.now.declaration.paths c.loop-number.number c.path_resource.result (omega arith) c.path_resource.ensures
+unwrap-resource-requires g c = has_part (λ r. r.0) (λ p. p.resource) c.args.decl.now.declaration.paths c.loop-number.number c.path_resource.result (omega arith) c.path_resource.ensures
+
+pub unwrap-tree-requires : goal.unwrap-tree-requires
+unwrap-tree-requires g c = has_part (λ t. shape t.now) (λ p. p.tree) c.args.decl.now.declaration.paths c.loop-number.number c.tree_of.result (omega arith) c.tree_of.ensures
 
 pub path_code-requires-clause-formed : goal.path_code-requires-clause-formed
 path_code-requires-clause-formed g c =

@@ -1,6 +1,6 @@
 -- Each path is compared with those before it, and all of them are the trimmed table.
 use Rattle.std.proofs.Common.{◌≡◌, ◌≤◌, List, length, map, take, subst, sym, ap, ◌∙◌, arith}
-use Rattle.std.proofs.lemmas.List.{take_all}
+use Rattle.std.proofs.lemmas.List.{take_all, length-take-le}
 use Rattle.path_model.specs.Declarations.{Path, trees}
 use Rattle.path_decl.specs.Known.{KnownDeclaration}
 use Rattle.path_code.specs.PathCodes.{sites}
@@ -10,7 +10,7 @@ use Rattle.path_trim.specs.Compared.{compared}
 use Rattle.path_trim.specs.LeanTable.{lean_table}
 use Rattle.path_trim.specs.RemovedList.{removed_list}
 use Rattle.path_trim.specs.Rows.{fates_of}
-use Rattle.path_trim.proofs.Lawful.{lawful_trees}
+use Rattle.path_trim.proofs.Lawful.{lawful_trees, few_codes}
 use Rattle.path_trim.proofs.Walk.{Made, codes_length, here, same_step, kept_step}
 use Rattle.path_trim.proofs.trimming.trimmed.Goals as goal
 use Rattle.path_trim.proofs.trimming.trimmed.Goals.{in-Some+in_ok-remove-in-Some, in-None+in_ok-keep-in-None}
@@ -47,3 +47,17 @@ invariant_of-result-2 g c =
       removed = made.removed ∙ ap removed_list is;
       fates = made.fates ∙ ap (λ ss. fates_of (compared ss)) is;
     }
+
+pub overflow_cast-id : goal.overflow_cast-id
+overflow_cast-id g c =
+    let few = few_codes c.args.code.now.paths c.paths-paths.result.now c.args.code.now.lawful c.paths-paths.ensures.shown in
+    let l = c.loop-number-test.true in
+    omega (arith, few, l)
+
+pub overflow_cast-first : goal.overflow_cast-first
+overflow_cast-first g c =
+    let few = few_codes c.args.code.now.paths c.paths-paths.result.now c.args.code.now.lawful c.paths-paths.ensures.shown in
+    let l : c.loop-number.number ≤ length c.paths-paths.result.now = omega (arith, c.loop-number-test.true) in
+    let before = length-take-le c.loop-number.number c.paths-paths.result.now l in
+    let within = c.in-Some.ensures.within in
+    omega (arith, few, l, before, within)
