@@ -1,22 +1,27 @@
 -- The lines so far, and the first that is wrong.
-use Rattle.std.proofs.Common.{◌≡◌, ◌≢◌, ℕ, zero, suc, ◌+◌, ◌<◌, ◌≤◌, List, [], ◌∷◌, ◌++◌, All, length, get_or, take, drop, append-nil, append_assoc, arith, refl, ap, sym, subst, ◌∙◌, inl, inr}
-use Rattle.std.specs.Prelude.{◌↔◌}
+use Rattle.std.proofs.Common.{◌≡◌, ◌≢◌, ℕ, zero, suc, ◌+◌, ◌<◌, ◌≤◌, List, [], ◌∷◌, ◌++◌, All, length, get_or, take, drop, append-nil, append_assoc, arith, refl, ap, sym, subst, ◌∙◌, inl, inr, Result, Ok, Err, Vec}
+use Rattle.std.specs.Prelude.{◌↔◌, map, IsErr, IfErr}
+use Rattle.std.specs.Result.{IsErrAnd}
 use Rattle.std.proofs.lemmas.Bool.{cases_lt}
-use Rattle.std.proofs.lemmas.List.{take_more, take-append-drop, take-take, length-take-le}
+use Rattle.std.proofs.lemmas.List.{take_more, take-append-drop, take-take, length-take-le, get_or-map}
 use Rattle.path_model.specs.declared.journal.Attempt.TheVariants.{Start}
 use Rattle.path_model.specs.declared.journal.Reply.{Reply}
 use Rattle.path_model.specs.declared.journal.Reply.TheVariants.{Started, NoRoom}
 use Rattle.path_model.specs.declared.journal.Line.{Line}
-use Rattle.path_model.specs.Declarations.{Declaration}
+use Rattle.path_model.specs.declared.resource.Law.{Law}
+use Rattle.path_model.specs.Declarations.{Declaration, law_of}
+use Rattle.path_model.specs.Devices.{Fits}
 use Rattle.path_model.specs.Owed.{Owed, AreSame, by_words}
 use Rattle.path_model.specs.Honest.{IsHonest, IsHonestFrom}
 use Rattle.path_model.proofs.CallerLemmas.{line_of, one_reply_is_owed, fronts_are_honest, each_honest_journal_has_room, begun_lines}
 use Rattle.path_decl.specs.Lawful.{Lawful}
+use Rattle.path_audit.specs.declared.auditor.AuditFault.{AuditFault}
+use Rattle.path_audit.specs.declared.auditor.AuditFault.TheVariants.{OutOfMemory}
 use Rattle.path_audit.specs.declared.auditor.Verdict.{Verdict}
 use Rattle.path_audit.specs.declared.auditor.Verdict.TheVariants.{Sound, WrongLine}
 use Rattle.path_audit.specs.Registers.{Register}
 use Rattle.path_audit.specs.Replays.{ReplayValue, Answers, IsReplayOf, IsOpened, says_failed}
-use Rattle.path_audit.specs.Verdicts.{IsFirstWrong, IsVerdict}
+use Rattle.path_audit.specs.Verdicts.{IsFirstWrong, IsVerdict, FitsAt}
 use Rattle.path_audit.proofs.Answered.{owed_is, taken_is}
 use Rattle.path_audit.proofs.Written.{with_the_line, like_line, IsLike}
 
@@ -139,3 +144,19 @@ module _ (d : Declaration) (room : ℕ) (openings : List (List ℕ)) (lines : Li
   pub wrong_exactly : (v : Verdict) → IsVerdict d room openings lines v → (n : ℕ) → (v ≡ WrongLine n) ↔ IsFirstWrong d room openings lines n
   wrong_exactly Sound honest n = (λ e. absurd (cc), λ w. absurd (w.wrong (honest_take (n + 1) honest)))
   wrong_exactly (WrongLine m) v n = (λ e. (let same : m ≡ n = cc in subst (IsFirstWrong d room openings lines) same v), λ w. ap WrongLine (one_first m n v w))
+
+-- where memory is wanting, that is the fault
+pub wanting_fault : (r : Result Verdict AuditFault) (P : AuditFault → Type 0) → IsErr r × IsErrAnd r (λ fault. fault ≡ OutOfMemory) → P OutOfMemory → IfErr r P
+wanting_fault (Ok v) P is wanting = tt
+wanting_fault (Err f) P is wanting = subst P (sym is.1) wanting
+
+-- one opening more fits
+pub fits_more : {Z : Type 0} (d : Declaration) (rows : List (Vec ℕ Z)) (i : ℕ) (row : Vec ℕ Z) (law : Law) → ((r : ℕ) → r < i → FitsAt d (map (λ opening. opening.items) rows) r)
+    → i < length rows → row ≡ get_or rows i row → law ≡ law_of d i → Fits law row.items → (r : ℕ) → r < i + 1 → FitsAt d (map (λ opening. opening.items) rows) r
+fits_more d rows i row law so_far within is of fits r l = elim (cases_lt r i) [
+  | inl before ↦ so_far r before
+  | inr past ↦
+      let here : r ≡ i = omega (arith, l, past) in
+      let numbers : get_or (map (λ opening. opening.items) rows) i [] ≡ row.items = get_or-map (λ opening. opening.items) rows i row [] within ∙ ap (λ opening. opening.items) (sym is) in
+      rw (here, numbers, ← of) fits
+]

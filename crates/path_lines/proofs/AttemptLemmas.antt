@@ -15,7 +15,7 @@ use Rattle.path_fields.proofs.CallerLemmas.{none_joined, none_in_number, until_o
 use Rattle.path_lines.specs.declared.entry.LineFault.{LineFault}
 use Rattle.path_lines.specs.declared.entry.LineFault.TheVariants as line_faults
 use Rattle.path_lines.specs.LineTexts.{verb_text, use_text, operation_text, operation_names, attempt_text, line_text, AttemptFits, VerbFits}
-use Rattle.path_lines.specs.AttemptTexts.{Entry, EntryFits, entries_text, IsAttemptsText, IsUndeclaredLine, IsFirstLine, IsAttemptFault, IsFirstFault, IsNoRest, IsFaultyLine, IsFaultAt}
+use Rattle.path_lines.specs.AttemptTexts.{Entry, EntryFits, entries_text, IsAttemptsText, IsUndeclaredLine, IsFirstLine, IsAttemptFault, IsFirstFault, IsNoRest, IsFaultyLine, IsFaultAt, IsTextFault, fault_of}
 use Rattle.path_lines.proofs.EntryLemmas.{named, numbered, ends_first}
 use Rattle.path_lines.proofs.NameLemmas.{name_without, line_feed_outside, colon_outside}
 use Rattle.path_lines.proofs.WholeTexts.{ReadLines, lines_more, whole_parts, all_read, refuted}
@@ -168,6 +168,11 @@ no_attempts d text n line names f es t =
     let none : (e : Entry) → EntryFits e → line ≢ line_text d e.0 e.1 = λ e fit is. f.none e.0 e.1 fit.0 fit.1 is in
     let spelled = subst (λ x. (x ≡ entries_text d es) ⊎ (x ++ 10 ∷ [] ≡ entries_text d es)) f.parts t.spelled in
     refuted Entry (entry_text d) EntryFits (λ e fit. line_is_line d e names fit) f.before f.rest line es f.fits t.fits f.more f.first none spelled
+
+-- the fault of a text
+pub fault_text : (d : Declaration) (text : List ℕ) (n : ℕ) (f : LineFault) → IsFaultAt d text n f → IsTextFault d text (fault_of n f)
+fault_text d text n line_faults.Bad at = at
+fault_text d text n line_faults.Undeclared at = at
 
 pub none_at_fault : (d : Declaration) (text : List ℕ) (n : ℕ) (f : LineFault) → All IsName (operation_names d) → IsFaultAt d text n f → (es : List Entry) → IsAttemptsText d text es → ⊥
 none_at_fault d text n f names at es t = no_attempts d text n at.0 names at.1 es t

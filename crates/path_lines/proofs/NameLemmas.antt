@@ -1,5 +1,10 @@
 -- Names are words of ASCII.
-use Rattle.std.proofs.Common.{◌≡◌, ℕ, ◌<◌, ◌≤◌, ◌==◌, true, false, List, [], ◌∷◌, refl, ap, subst, arith}
+use Rattle.std.proofs.Common.{◌≡◌, ℕ, ◌<◌, ◌≤◌, ◌==◌, true, false, List, [], ◌∷◌, refl, ap, subst, arith, ◌∙◌, ◌++◌, Option, option_map, sym}
+use Rattle.path_model.specs.declared.ids.OpId.{OpId}
+use Rattle.path_model.specs.Declarations.{Declaration}
+use Rattle.std.specs.Prelude.{slice_get}
+use Rattle.std.proofs.lemmas.Option.{slice_get-map}
+use Rattle.path_lines.specs.LineTexts.{name_or_number, operation_text}
 use Rattle.std.proofs.lemmas.Bool.Decides.{nat_tests}
 use Rattle.path_lex.specs.declared.token.Class.TheVariants as classes
 use Rattle.path_lex.specs.Bytes.{class_of, is_word_byte, is_space, is_letter, is_digit, in_word}
@@ -65,3 +70,8 @@ hash_outside = refl
 -- no name begins with `#`
 pub name_is_plain : (name rest : List ℕ) → IsName name → name ≡ 35 ∷ rest → ⊥
 name_is_plain name rest h e = (subst (HasNone 35) e (name_without 35 name hash_outside h.word)).0 refl
+
+-- an operation is written by its name, or by its number
+pub named_text : (d : Declaration) (a : OpId) (old new : List ℕ) (name : Option (List ℕ)) → name ≡ option_map (λ o. o.name) (slice_get d.operations a.0) → new ≡ old ++ name_or_number name a.0
+    → new ≡ old ++ operation_text d a
+named_text d a old new name is wrote = wrote ∙ ap (λ o. old ++ name_or_number o a.0) (is ∙ sym (slice_get-map (λ o. o.name) d.operations a.0))

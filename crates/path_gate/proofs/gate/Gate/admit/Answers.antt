@@ -2,8 +2,11 @@
 use Rattle.std.proofs.Common.{◌≡◌, ◌<◌, None, Ok, Err, ap, arith}
 use Rattle.path_gate.specs.Levels.{levels}
 use Rattle.path_gate.specs.Terms.{blocking, all_started, one_more}
-use Rattle.path_gate.proofs.Sound.{within, judges, stay, starts, count_small, begun_sound, admits, written}
+use Rattle.path_gate.proofs.Sound.{within, judges, stay, starts, counted, count_small, begun_sound, admits, written}
 use Rattle.path_gate.proofs.gate.Gate.admit.Goals as goal
+
+pub run_of-terms-requires : goal.run_of-terms-requires
+run_of-terms-requires g c = rw (c.deref.ensures.value, c.deref-2.ensures.value) c.self.invariant.laid_out
 
 pub first_blocked-requires : goal.first_blocked-requires
 first_blocked-requires g c = rw (c.deref-3.ensures.value, c.deref-4.ensures.value) (within _ _ c.self.invariant.sound c.args.op c.run_of-terms.result.now (rw (← c.deref.ensures.value, ← c.deref-2.ensures.value) c.run_of-terms.ensures))
@@ -20,6 +23,9 @@ start_all-requires-clause-can g c =
     rw (c.deref_mut.ensures.value, c.deref_mut-in-Ok.ensures.value)
     (let room : c.self.inside.admitted < 4294967295 = rw (← c.self.view_is) at c.requires in
     starts _ _ c.self.invariant.sound c.args.op c.run_of-terms.result.now (rw (← c.deref.ensures.value, ← c.deref-2.ensures.value) c.run_of-terms.ensures) (omega (arith, room)) (rw (c.deref-3.ensures.value, c.deref-4.ensures.value) at c.in-Ok.ensures))
+
+pub count_start-requires-clause-within : goal.count_start-requires-clause-within
+count_start-requires-clause-within g c = rw c.deref_mut-in-Ok-2.ensures.value (counted _ _ c.self.invariant.sound c.args.op c.run_of-terms.result.now (rw (← c.deref.ensures.value, ← c.deref-2.ensures.value) c.run_of-terms.ensures))
 
 pub count_start-requires-clause-small : goal.count_start-requires-clause-small
 count_start-requires-clause-small g c =

@@ -1,5 +1,5 @@
 -- Each path is added to the table, and then the gate is at the empty history.
-use Rattle.std.proofs.Common.{◌≡◌, ◌∙◌, [], ap, map, length, replicate, get_or, arith}
+use Rattle.std.proofs.Common.{◌≡◌, ◌∙◌, [], ap, map, length, replicate, get_or, refl, arith}
 use Rattle.std.proofs.lemmas.List.{length-map}
 use Rattle.path_trim.specs.LeanTable.{lean_table}
 use Rattle.path_trim.specs.Rows.{row_of}
@@ -63,3 +63,9 @@ returns-clause-opened g c =
     let counters : c.loop-path.counters.items ≡ counters_put (lean_table ss) [] = last_counters ss items table i (omega arith) c.loop-path.counters.items (counters_put (lean_table ss) []) c.loop-path.invariant.counters in
     let zeros : c.in_ok-in_progress.in_progress.items ≡ replicate 256 0 = c.in_ok-in_progress.ensures in
     rw (c.of-opened.ensures, semaphores, counters, zeros) (opened_at ss c.args.lean.lawful)
+
+pub returns-clause-paths : goal.returns-clause-paths
+returns-clause-paths g c = rw c.of-opened.ensures
+
+pub returns-clause-admitted : goal.returns-clause-admitted
+returns-clause-admitted g c = refl

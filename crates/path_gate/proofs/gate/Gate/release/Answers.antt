@@ -2,8 +2,11 @@
 use Rattle.std.proofs.Common.{◌≡◌, ap, arith}
 use Rattle.path_gate.specs.Levels.{levels}
 use Rattle.path_gate.specs.Terms.{all_finished, one_less}
-use Rattle.path_gate.proofs.Sound.{within, finishes, named, unmoved, ended_sound, releases, written}
+use Rattle.path_gate.proofs.Sound.{within, finishes, counted, named, unmoved, ended_sound, releases, written}
 use Rattle.path_gate.proofs.gate.Gate.release.Goals as goal
+
+pub run_of-terms-requires : goal.run_of-terms-requires
+run_of-terms-requires g c = rw (c.deref.ensures.value, c.deref-2.ensures.value) c.self.invariant.laid_out
 
 pub finish_all-requires-clause-within : goal.finish_all-requires-clause-within
 finish_all-requires-clause-within g c = rw (c.deref_mut.ensures.value, c.deref_mut-2.ensures.value) (within _ _ c.self.invariant.sound c.args.op c.run_of-terms.result.now (rw (← c.deref.ensures.value, ← c.deref-2.ensures.value) c.run_of-terms.ensures))
@@ -12,6 +15,9 @@ pub finish_all-requires-clause-can : goal.finish_all-requires-clause-can
 finish_all-requires-clause-can g c =
     rw (c.deref_mut.ensures.value, c.deref_mut-2.ensures.value)
     (finishes _ _ c.self.invariant.sound c.args.op c.run_of-terms.result.now (rw (← c.deref.ensures.value, ← c.deref-2.ensures.value) c.run_of-terms.ensures) (rw (← c.self.view_is) at c.requires) (omega arith))
+
+pub count_finish-requires-clause-within : goal.count_finish-requires-clause-within
+count_finish-requires-clause-within g c = rw c.deref_mut-3.ensures.value (counted _ _ c.self.invariant.sound c.args.op c.run_of-terms.result.now (rw (← c.deref.ensures.value, ← c.deref-2.ensures.value) c.run_of-terms.ensures))
 
 pub count_finish-requires-clause-some : goal.count_finish-requires-clause-some
 count_finish-requires-clause-some g c =
