@@ -33,8 +33,9 @@ pub struct PathEntry<A: Allocator + Copy> {
 pub struct Decl<A: Allocator + Copy = Global> {
     resources: Names<Law, A>,
     operations: Names<ResId, A>,
-    paths: Vec<PathEntry<A>, A>,
     naming: Vec<Vec<PathId, A>, A>,
+    /// The last, since the many small blocks of trees are given back fastest when no larger one follows.
+    paths: Vec<PathEntry<A>, A>,
     ghost lawful: { Lawful (declaration_of resources.entries operations.entries paths.items) } by { Lawful-prop _ },
 }
 

@@ -22,11 +22,12 @@ use std::marker::Model;
 /// The declaration, the gate, the ledger, the devices, and of each device whether it was asked.
 #[derive(Drop)]
 pub struct Parts<D: Device, A: Allocator + Copy = Global> {
-    pub(crate) decl: Decl<A>,
     pub(crate) gate: Gate<A>,
     pub(crate) ledger: Ledger<A>,
     pub(crate) shelf: Shelf<D, A>,
     pub(crate) asked: Vec<bool, A>,
+    /// The last, since the many small blocks of its trees are given back fastest when no larger one follows.
+    pub(crate) decl: Decl<A>,
 }
 
 impl<D: Device, A: Allocator + Copy> Model for Parts<D, A> {
@@ -109,6 +110,7 @@ impl<D: Device, A: Allocator + Copy> Parts<D, A> {
         ensures back { IfErr result (λ refusal. refusal.1.items ≡ devices.items) }
     {
         let Ok((gate, ledger, asked)) = unattempted(alloc, &decl, room) else {
+            drop(decl);
             return Err((OpenFault::OutOfMemory, devices));
         };
         match Shelf::open(devices, &decl) {
@@ -119,7 +121,11 @@ impl<D: Device, A: Allocator + Copy> Parts<D, A> {
                 shelf,
                 asked,
             }),
-            Err((fault, devices)) => Err((fault.into(), devices)),
+            Err((fault, devices)) => {
+                drop(decl);
+                drop(gate);
+                Err((fault.into(), devices))
+            }
         }
     }
 

@@ -1,10 +1,11 @@
 //! One system over devices, under one journal: starts, uses and finishes, step by step.
 
-ghost use Rattle.std.specs.Prelude.{◌≡◌, ◌↔◌, ◌+◌, ◌<◌, ◌≤◌, [], length};
+ghost use Rattle.std.specs.Prelude.{◌≡◌, ◌↔◌, ◌+◌, ◌<◌, ◌≤◌, List, [], length, vec_capacity};
 ghost use Rattle.std.specs.Prelude.{map, slice_get, slice_set, IsOk, IfOk, IfErr, OnOk, OnErr, IsTrue};
-ghost use Rattle.path_shelf.specs.States.{MayFail, laws_of};
+ghost use Rattle.path_shelf.specs.States.{MayFail, State, laws_of};
 ghost use Rattle.path_shelf.specs.Shelves.{declared_laws};
 ghost use Rattle.path_system.specs.Accounts.{account_of, with_device, StayBut, HasFailed};
+ghost use Rattle.path_system.specs.Openings.{AreFor};
 ghost use Rattle.path_system.specs.Reports.{IsReport};
 ghost use Rattle.path_system.specs.Faults.{IsOpenFault, IsReplaceFault, MayReplace};
 ghost use Rattle.path_model.specs.declared.journal.Reply.TheVariants as replies;
@@ -31,10 +32,11 @@ use std::marker::Model;
 /// system is to drop each device.
 #[derive(Drop)]
 pub struct System<D: Device, A: Allocator + Copy = Global> {
-    parts: Parts<D, A>,
     openings: Openings<A>,
     journal: Vec<Line, A>,
     room: u32,
+    /// The last, as its declaration is.
+    parts: Parts<D, A>,
 }
 
 impl<D: Device, A: Allocator + Copy> Model for System<D, A> {
@@ -66,6 +68,27 @@ fn is_no_room(reply: Reply) -> bool
     matches!(reply, Reply::NoRoom)
 }
 
+/// The places of a journal of this room, and of what each device contains when it is taken.
+fn places<A: Allocator + Copy>(
+    alloc: A,
+    decl: &Decl<A>,
+    room: u32,
+) -> Result<(Vec<Line, A>, Openings<A>), OpenFault>
+    ensures journal { IfOk result (λ places. (places.0.items ≡ []) × (room ≤ vec_capacity places.0)) }
+    ensures openings { IfOk result (λ places. AreFor places.1 decl.now.declaration) }
+    ensures good_room { OnOk result ((1 ≤ room) × (room ≤ MOST_LINES)) }
+    ensures fault { IfErr result (λ fault. (states : List State) → IsOpenFault room states decl.now.declaration fault) }
+{
+    if room == 0 || room > MOST_LINES {
+        return Err(OpenFault::BadRoom);
+    }
+    let Ok(journal) = Vec::with_capacity(alloc, room as usize) else {
+        return Err(OpenFault::OutOfMemory);
+    };
+    let openings = Openings::with_places(alloc, decl)?;
+    Ok((journal, openings))
+}
+
 impl<D: Device, A: Allocator + Copy> System<D, A> {
     /// A system of this declaration over these devices, in which nothing was attempted. Its journal has room for so many
     /// lines, 1 to [`MOST_LINES`].
@@ -87,14 +110,12 @@ impl<D: Device, A: Allocator + Copy> System<D, A> {
         ensures good_room { OnOk result ((1 ≤ room) × (room ≤ MOST_LINES)) }
         ensures back { IfErr result (λ refusal. refusal.1.items ≡ devices.items) }
     {
-        if room == 0 || room > MOST_LINES {
-            return Err((OpenFault::BadRoom, devices));
-        }
-        let Ok(journal) = Vec::with_capacity(alloc, room as usize) else {
-            return Err((OpenFault::OutOfMemory, devices));
-        };
-        let Ok(mut openings) = Openings::with_places(alloc, &decl) else {
-            return Err((OpenFault::OutOfMemory, devices));
+        let (journal, mut openings) = match places(alloc, &decl, room) {
+            Ok(places) => places,
+            Err(fault) => {
+                drop(decl);
+                return Err((fault, devices));
+            }
         };
         let parts = match Parts::open(alloc, decl, devices, room) {
             Ok(parts) => parts,
@@ -219,11 +240,12 @@ impl<D: Device, A: Allocator + Copy> System<D, A> {
             return Err(self);
         }
         let System {
-            parts: _,
+            parts,
             openings: _,
             journal,
             room: _,
         } = self;
+        drop(parts);
         Ok(journal)
     }
 }
