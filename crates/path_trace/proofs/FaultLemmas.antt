@@ -1,5 +1,7 @@
 -- With which status a trace is refused.
-use Rattle.std.proofs.Common.{ℕ, List, inr}
+use Rattle.std.proofs.Common.{◌≡◌, ℕ, List, [], Option, Some, None, ◌⊎◌, inl, inr, refl, sym, ◌∙◌, subst}
+use Rattle.std.specs.Io.KnownBytes.{Appends}
+use Rattle.std.proofs.lemmas.List.{append-nil}
 use Rattle.path_model.specs.Declarations.{Declaration}
 use Rattle.path_lines.specs.declared.entry.LineFault.{LineFault}
 use Rattle.path_lines.specs.declared.entry.LineFault.TheVariants as line_faults
@@ -9,8 +11,10 @@ use Rattle.path_system.specs.declared.fault.OpenFault.{OpenFault}
 use Rattle.path_system.specs.declared.fault.OpenFault.TheVariants as openings
 use Rattle.path_system.specs.Faults.{IsOpenFault}
 use Rattle.path_streams.specs.declared.status.Status.{Status}
-use Rattle.path_streams.specs.declared.status.Status.TheVariants.{CommandRefused}
+use Rattle.path_streams.specs.declared.status.Status.TheVariants.{CommandRefused, NoMemory, StreamFailed}
 use Rattle.path_streams.specs.Statuses.{open_status, text_status}
+use Rattle.path_streams.specs.Refusals.{IsUndeclared}
+use Rattle.path_streams.specs.Writes.{AppendsSome, IsFrontOf}
 use Rattle.path_trace.specs.Traces.{IsBadAttempts, IsRefused}
 
 -- a line that is no attempt refuses the trace of its text
@@ -29,3 +33,34 @@ refuses_opening d states room text openings.BadRoom is = (openings.BadRoom, λ e
 refuses_opening d states room text openings.WrongCount is = (openings.WrongCount, λ e. cc, is)
 refuses_opening d states room text (openings.WrongDevice r) is = (openings.WrongDevice r, λ e. cc, is)
 refuses_opening d states room text openings.OutOfMemory is = tt
+
+-- how a command ends that tells of a refused declaration
+abbrev pub EndsUndeclared : List ℕ → Status → Type 0
+EndsUndeclared text StreamFailed = Unit {0}
+EndsUndeclared text status = IsUndeclared text status
+
+ends_told : (text : List ℕ) (s : Status) → IsUndeclared text s → EndsUndeclared text s
+ends_told text StreamFailed is = tt
+ends_told text s is = is
+
+pub ends_undeclared : (text : List ℕ) (told result s : Status) → IsUndeclared text told → (result ≡ told) ⊎ (result ≡ StreamFailed) → result ≡ s → EndsUndeclared text s
+ends_undeclared text told result s undeclared (inl e) is = subst (EndsUndeclared text) (sym e ∙ is) (ends_told text told undeclared)
+ends_undeclared text told result s undeclared (inr e) is = subst (EndsUndeclared text) (sym e ∙ is) tt
+
+-- and one that tells that memory is wanting
+abbrev pub EndsWanting : Status → Type 0
+EndsWanting NoMemory = Unit {0}
+EndsWanting StreamFailed = Unit {0}
+EndsWanting status = ⊥
+
+pub ends_wanting : (result s : Status) → (result ≡ NoMemory) ⊎ (result ≡ StreamFailed) → result ≡ s → EndsWanting s
+ends_wanting result s (inl e) is = subst EndsWanting (sym e ∙ is) tt
+ends_wanting result s (inr e) is = subst EndsWanting (sym e ∙ is) tt
+
+appends_none : (a : Option (List ℕ)) → Appends a a []
+appends_none None = tt
+appends_none (Some xs) = sym (append-nil xs)
+
+-- nothing is a front of any bytes
+pub no_front : (a : Option (List ℕ)) (P : List ℕ → Type 0) → AppendsSome a a (IsFrontOf P)
+no_front a P = ([], inl refl, appends_none a)

@@ -1,9 +1,10 @@
 -- The program's own devices fit their declaration, and never fail.
-use Rattle.std.proofs.Common.{◌≡◌, ℕ, Bool, ◌+◌, ◌<◌, ◌≤◌, List, [], ◌∷◌, ◌++◌, length, take, get_or, refl, sym, ap, ◌∙◌, inl, inr, arith}
+use Rattle.std.proofs.Common.{◌≡◌, ℕ, Bool, ◌+◌, ◌<◌, ◌≤◌, List, [], ◌∷◌, ◌++◌, length, take, get_or, refl, sym, ap, ◌∙◌, subst, Option, inl, inr, arith}
 use Rattle.std.specs.Prelude.{map}
 use Rattle.std.proofs.lemmas.List.{get_or-map, length-map, take_more, take_all, map-append}
 use Rattle.path_model.specs.declared.resource.Law.TheVariants.{Cell}
 use Rattle.path_model.specs.Declarations.{Resource, Declaration, law_of}
+use Rattle.path_decl.specs.Text.{IsDeclarationText}
 use Rattle.path_shelf.specs.declared.own.OwnDevice.{OwnDevice}
 use Rattle.path_shelf.specs.declared.own.OwnDevice.TheVariants as kinds
 use Rattle.path_shelf.specs.States.{State, MayFail}
@@ -12,8 +13,8 @@ use Rattle.path_shelf.specs.Own.{own_state}
 use Rattle.path_system.specs.declared.fault.OpenFault.TheVariants.{BadRoom, WrongCount, WrongDevice, OutOfMemory}
 use Rattle.path_system.specs.Faults.{IsBadRoom}
 use Rattle.path_system.specs.Accounts.{account_of}
-use Rattle.path_streams.specs.Writes.{IsFrontOf}
-use Rattle.path_trace.specs.Traces.{IsTraceOf, IsUnopened, own_states}
+use Rattle.path_streams.specs.Writes.{AppendsSome, IsFrontOf}
+use Rattle.path_trace.specs.Traces.{IsTraceOf, IsTraceOfTexts, IsUnopened, own_states}
 use Rattle.path_trace.proofs.FailLemmas.{told_so}
 
 abbrev pub undeclared : Resource
@@ -59,3 +60,20 @@ pub own_front : {Y : Type 0} (d : Declaration) (room : ℕ) (report : Bool) (tex
     → IsFrontOf (IsTraceOf d (own_states d) (MayFail (own_state {Y = Y})) room report text) front → IsFrontOf (IsTraceOf d (own_states d) ⊥ room report text) front
 own_front d room report text front (inl none) = inl none
 own_front d room report text front (inr (rest, is)) = inr (rest, own_trace d room report text (front ++ rest) is)
+
+-- what was written over devices that are the own ones
+module _ {Y : Type 0} (d : Declaration) (states : List State) (room : ℕ) (report : Bool) (text : List ℕ) (old new : Option (List ℕ)) (own : states ≡ own_states d) where
+  pub own_wrote : AppendsSome old new (IsTraceOf d states (MayFail (own_state {Y = Y})) room report text) → AppendsSome old new (IsTraceOf d (own_states d) ⊥ room report text)
+  own_wrote w = (w.0, own_trace {Y = Y} d room report text w.0 (subst (λ ss. IsTraceOf d ss (MayFail (own_state {Y = Y})) room report text w.0) own w.1), w.2)
+
+  pub own_wrote_front : AppendsSome old new (IsFrontOf (IsTraceOf d states (MayFail (own_state {Y = Y})) room report text)) → AppendsSome old new (IsFrontOf (IsTraceOf d (own_states d) ⊥ room report text))
+  own_wrote_front w = (w.0, own_front {Y = Y} d room report text w.0 (subst (λ ss. IsFrontOf (IsTraceOf d ss (MayFail (own_state {Y = Y})) room report text) w.0) own w.1), w.2)
+
+pub own_room : (d : Declaration) (states : List State) (room : ℕ) → states ≡ own_states d → IsUnopened d states room → IsBadRoom room
+own_room d states room own unopened = only_room d room (subst (λ ss. IsUnopened d ss room) own unopened)
+
+-- a front of a declaration's trace is one of the trace of texts
+pub texts_front : (d : Declaration) (declaration : List ℕ) (room : ℕ) (report : Bool) (text front : List ℕ) → IsDeclarationText declaration d
+    → IsFrontOf (IsTraceOf d (own_states d) ⊥ room report text) front → IsFrontOf (IsTraceOfTexts declaration room report text) front
+texts_front d declaration room report text front declares (inl none) = inl none
+texts_front d declaration room report text front declares (inr (rest, is)) = inr (rest, (d, declares, is))

@@ -185,10 +185,15 @@ fn traced<D: Device, A: Allocator + Copy>(
         IsRefused decl.declaration (map D.state devices.items) room attempts.now (status_of fault)) }
 {
     if let Some(fault) = refusal(alloc, &decl, &devices, room, attempts) {
+        drop(decl);
         return Err(fault);
     }
     match System::open(alloc, decl, devices, room) {
-        Ok(mut system) => told_by(alloc, &mut system, report, attempts),
+        Ok(mut system) => {
+            let told = told_by(alloc, &mut system, report, attempts);
+            drop(system);
+            told
+        }
         Err((fault, _)) => Err(Fault::Open(fault)),
     }
 }
@@ -257,7 +262,10 @@ fn trace_own<A: Allocator + Copy, O: Write, E: Write>(
 {
     match own_devices(alloc, &decl) {
         Ok(devices) => trace_to(alloc, decl, devices, room, report, attempts, out, err),
-        Err(_) => tell(err, Fault::OutOfMemory),
+        Err(_) => {
+            drop(decl);
+            tell(err, Fault::OutOfMemory)
+        }
     }
 }
 

@@ -6,13 +6,13 @@ use Rattle.path_trace.proofs.FaultLemmas.{refuses_attempts, refuses_opening}
 use Rattle.path_trace.proofs.trace.traced.Goals as goal
 
 pub returns-in-Ok-clause-ok : goal.returns-in-Ok-clause-ok
-returns-in-Ok-clause-ok g c = rw c.in-Ok.ensures.ok at c.told_by.ensures.ok
+returns-in-Ok-clause-ok g c = rw c.in-Ok.ensures.ok at c.told_by-told.ensures.ok
 
 pub returns-in-Ok-clause-err : goal.returns-in-Ok-clause-err
 returns-in-Ok-clause-err g c =
-    IfErr-weaker c.told_by.result _ _
+    IfErr-weaker c.told_by-told.result _ _
     (λ fault bad. refuses_attempts c.args.decl.declaration (map g.D.Device.state c.args.devices.items) c.args.room c.args.attempts.now (status_of fault) bad)
-    (rw c.in-Ok.ensures.ok at c.told_by.ensures.err)
+    (rw c.in-Ok.ensures.ok at c.told_by-told.ensures.err)
 
 pub returns-clause-err : goal.returns-clause-err
 returns-clause-err g c = refuses_opening c.args.decl.declaration (map g.D.Device.state c.args.devices.items) c.args.room c.args.attempts.now c.in-Err.fault c.in-Err.ensures.fault
