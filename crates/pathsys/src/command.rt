@@ -110,14 +110,25 @@ fn audit<'a>(alloc: Global) -> Result<Command<'a>, AllocError> {
         ))
 }
 
+/// The program with one command more, where that was made.
+fn with<'a>(
+    program: Command<'a>,
+    command: Result<Command<'a>, AllocError>,
+) -> Result<Command<'a>, AllocError> {
+    match command {
+        Ok(command) => program.subcommand(command),
+        Err(error) => Err(error),
+    }
+}
+
 /// The words that the program takes. The only error is want of memory.
 pub fn command<'a>(alloc: Global) -> Result<Command<'a>, AllocError> {
-    Command::new(alloc, "pathsys")
+    let program = Command::new(alloc, "pathsys")
         .version("0.1.0")
         .about("Orders operations by path expressions")
-        .after_help(MORE_HELP)
-        .subcommand(check(alloc)?)?
-        .subcommand(compile(alloc)?)?
-        .subcommand(trace(alloc)?)?
-        .subcommand(audit(alloc)?)
+        .after_help(MORE_HELP);
+    let program = with(program, check(alloc))?;
+    let program = with(program, compile(alloc))?;
+    let program = with(program, trace(alloc))?;
+    with(program, audit(alloc))
 }

@@ -120,6 +120,38 @@ fn without_words<R: Input + AllocGlobal, O: Write, E: Write>(
     }
 }
 
+/// Does what the words of the command line asked for, as clap matched them.
+fn matched<R: Files + Input + AllocGlobal, O: Write, E: Write>(
+    rt: &R,
+    matches: &ArgMatches<'_>,
+    out: &mut O,
+    err: &mut E,
+) -> Status {
+    match matches.subcommand() {
+        Some(("check", words)) => check(rt, words, out, err),
+        Some(("compile", words)) => compile(rt, words, out, err),
+        Some(("audit", words)) => audit(rt, words, out, err),
+        Some((_, words)) => trace(rt, words, out, err),
+        None => without_words(rt, out, err),
+    }
+}
+
+/// Does what these words of the command line ask for.
+fn asked<R: Files + Input + AllocGlobal, O: Write, E: Write>(
+    rt: &R,
+    words: &[String],
+    out: &mut O,
+    err: &mut E,
+) -> Status {
+    let Ok(command) = command(rt.alloc()) else {
+        return tell(err, Fault::OutOfMemory);
+    };
+    match command.try_get_matches_from(words) {
+        Ok(matches) => matched(rt, &matches, out, err),
+        Err(error) => tell_words(&error, out, err),
+    }
+}
+
 /// Does what the words of the command line ask for. Where several causes stand, the first counts: words, files,
 /// declaration, attempts or journal, room.
 pub fn perform<R: Env + Files + Input + AllocGlobal, O: Write, E: Write>(
@@ -131,20 +163,8 @@ pub fn perform<R: Env + Files + Input + AllocGlobal, O: Write, E: Write>(
         Ok(words) => words,
         Err(error) => return tell(err, Fault::of_arguments(&error)),
     };
-    let Ok(words) = words.collect::<Vec<String>>(rt.alloc()) else {
-        return tell(err, Fault::OutOfMemory);
-    };
-    let Ok(command) = command(rt.alloc()) else {
-        return tell(err, Fault::OutOfMemory);
-    };
-    match command.try_get_matches_from(words.as_slice()) {
-        Ok(matches) => match matches.subcommand() {
-            Some(("check", words)) => check(rt, words, out, err),
-            Some(("compile", words)) => compile(rt, words, out, err),
-            Some(("audit", words)) => audit(rt, words, out, err),
-            Some((_, words)) => trace(rt, words, out, err),
-            None => without_words(rt, out, err),
-        },
-        Err(error) => tell_words(&error, out, err),
+    match words.collect::<Vec<String>>(rt.alloc()) {
+        Ok(words) => asked(rt, &words, out, err),
+        Err(_) => tell(err, Fault::OutOfMemory),
     }
 }
