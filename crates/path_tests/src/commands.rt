@@ -1,5 +1,6 @@
 //! Both parts from bytes to bytes: what is printed and traced, and each refusal with its status.
 
+use crate::endings::{Ending, Traced, all_trace, ends_so};
 use crate::writers::{Failing, Full};
 use path_commands::check_to;
 use path_streams::Status;
@@ -9,128 +10,130 @@ use std::alloc::Global;
 use std::io::{ErrorKind, Write};
 use std::process::Abort;
 
-const SLOT: &[u8] = b"resource slot cell operation deposit, remove path deposit ; remove end end";
+const SLOT: &str = "resource slot cell operation deposit, remove path deposit ; remove end end";
 
-const ATTEMPTS: &[u8] =
-    b"1 start deposit\n2 start remove\n1 use 0 put 7\n1 finish 0\n2 start remove\n2 use 1 look";
+const ATTEMPTS: &str =
+    "1 start deposit\n2 start remove\n1 use 0 put 7\n1 finish 0\n2 start remove\n2 use 1 look";
 
-const TRACE: &[u8] =
-    b"1 start deposit: started 0\n2 start remove: blocked 0\n1 use 0 put 7: used 0\n\
+const TRACE: &str = "1 start deposit: started 0\n2 start remove: blocked 0\n1 use 0 put 7: used 0\n\
       1 finish 0: finished\n2 start remove: started 1\n2 use 1 look: used 7\n";
 
-// A trace ends with this status, after writing this, and having said that.
-fn traces(
-    rt: &impl Abort,
-    heap: Global,
-    texts: (&[u8], &[u8]),
-    status: Status,
-    written: &[u8],
-    said: &[u8],
-) {
-    let mut out: Vec<u8> = Vec::new(heap);
-    let mut err: Vec<u8> = Vec::new(heap);
-    let ended = trace_bytes(heap, texts.0, ROOM, false, texts.1, &mut out, &mut err);
-    assert_eq!(rt; ended, status);
-    assert_eq!(rt; out.as_slice(), written);
-    assert_eq!(rt; err.as_slice(), said);
-}
-
-fn checks(rt: &impl Abort, heap: Global, text: &[u8], status: Status, written: &[u8], said: &[u8]) {
-    let mut out: Vec<u8> = Vec::new(heap);
-    let mut err: Vec<u8> = Vec::new(heap);
-    let ended = check_to(heap, text, &mut out, &mut err);
-    assert_eq!(rt; ended, status);
-    assert_eq!(rt; out.as_slice(), written);
-    assert_eq!(rt; err.as_slice(), said);
-}
+const SLOT_TRACED: &[Traced<'static>] = &[
+    ("slot", (SLOT, ATTEMPTS), (Status::Done, TRACE, "")),
+    ("no attempts", (SLOT, ""), (Status::Done, "", "")),
+];
 
 #[test]
 fn slot(rt: HostRuntime) {
-    traces(&rt, rt.alloc(), (SLOT, ATTEMPTS), Status::Done, TRACE, b"");
-    traces(&rt, rt.alloc(), (SLOT, b""), Status::Done, b"", b"");
+    all_trace(&rt, rt.alloc(), SLOT_TRACED);
 }
+
+const REFUSED: &[Traced<'static>] = &[
+    (
+        "both texts are bad",
+        ("", "x"),
+        (
+            Status::DeclarationRefused,
+            "",
+            "declaration: unexpected at 0\n",
+        ),
+    ),
+    (
+        "a bad byte",
+        ("resource _r", ""),
+        (
+            Status::DeclarationRefused,
+            "",
+            "declaration: bad byte at 9\n",
+        ),
+    ),
+    (
+        "a bad line",
+        (SLOT, "1 start deposit\n01 start deposit"),
+        (Status::TextRefused, "", "text: bad line 1\n"),
+    ),
+    (
+        "an operation that is not declared",
+        (SLOT, "1 start insert"),
+        (Status::TextRefused, "", "text: undeclared in line 0\n"),
+    ),
+];
 
 #[test]
 fn the_first_cause_counts(rt: HostRuntime) {
-    let heap = rt.alloc();
-    traces(
-        &rt,
-        heap,
-        (b"", b"x"),
-        Status::DeclarationRefused,
-        b"",
-        b"declaration: unexpected at 0\n",
-    );
-    traces(
-        &rt,
-        heap,
-        (b"resource _r", b""),
-        Status::DeclarationRefused,
-        b"",
-        b"declaration: bad byte at 9\n",
-    );
-    traces(
-        &rt,
-        heap,
-        (SLOT, b"1 start deposit\n01 start deposit"),
-        Status::TextRefused,
-        b"",
-        b"text: bad line 1\n",
-    );
-    traces(
-        &rt,
-        heap,
-        (SLOT, b"1 start insert"),
-        Status::TextRefused,
-        b"",
-        b"text: undeclared in line 0\n",
-    );
+    all_trace(&rt, rt.alloc(), REFUSED);
 }
+
+/// The name of a row, a text, and how checking it ends.
+type Checked<'a> = (&'a str, &'a str, Ending<'a>);
+
+fn checks(rt: &impl Abort, heap: Global, name: &str, text: &str, want: Ending<'_>) {
+    let mut out = Vec::new(heap);
+    let mut err = Vec::new(heap);
+    let status = check_to(heap, text.as_bytes(), &mut out, &mut err);
+    ends_so(rt, name, (status, &out, &err), want);
+}
+
+fn all_check(rt: &impl Abort, heap: Global, rows: &[Checked<'_>]) {
+    for (name, text, want) in rows {
+        checks(rt, heap, name, text, *want);
+    }
+}
+
+const CHECKED: &[Checked<'static>] = &[
+    (
+        "other trees",
+        "resource r cell operation a, b, c path a ; b ; c end path a ; ( b ; c ) end end",
+        (
+            Status::Done,
+            "resource r cell operation a, b, c path a; b; c end path a; ( b; c ) end end\n",
+            "",
+        ),
+    ),
+    (
+        "a name twice",
+        "resource r cell operation a, a end",
+        (
+            Status::DeclarationRefused,
+            "",
+            "declaration: duplicate operation at 29\n",
+        ),
+    ),
+];
 
 #[test]
 fn other_trees(rt: HostRuntime) {
-    let text = b"resource r cell operation a, b, c path a ; b ; c end path a ; ( b ; c ) end end";
-    let printed = b"resource r cell operation a, b, c path a; b; c end path a; ( b; c ) end end\n";
-    checks(&rt, rt.alloc(), text, Status::Done, printed, b"");
-    let twice = b"resource r cell operation a, a end";
-    checks(
-        &rt,
-        rt.alloc(),
-        twice,
-        Status::DeclarationRefused,
-        b"",
-        b"declaration: duplicate operation at 29\n",
-    );
+    all_check(&rt, rt.alloc(), CHECKED);
 }
 
 // A check into this writer ends with this status, having said that.
 fn checks_into<O: Write>(
     rt: &impl Abort,
     heap: Global,
-    text: &[u8],
+    text: &str,
     out: &mut O,
-    status: Status,
-    said: &[u8],
+    want: (Status, &str),
 ) {
-    let mut err: Vec<u8> = Vec::new(heap);
-    assert_eq!(rt; check_to(heap, text, out, &mut err), status);
-    assert_eq!(rt; err.as_slice(), said);
+    let mut err = Vec::new(heap);
+    let status = check_to(heap, text.as_bytes(), out, &mut err);
+    ends_so(rt, "a check", (status, b"", &err), (want.0, "", want.1));
 }
 
 #[test]
 fn a_full_writer(rt: HostRuntime) {
-    let said = b"output: cannot write\n";
-    checks_into(&rt, rt.alloc(), SLOT, &mut Full, Status::StreamFailed, said);
+    let want = (Status::StreamFailed, "output: cannot write\n");
+    checks_into(&rt, rt.alloc(), SLOT, &mut Full, want);
 }
 
 // The texts are refused, and nothing can be told.
 fn cannot_tell(rt: &impl Abort, heap: Global, text: &[u8], attempts: &[u8]) {
-    let mut out: Vec<u8> = Vec::new(heap);
+    let mut out = Vec::new(heap);
     let checked = check_to(heap, text, &mut out, &mut Full);
-    assert_eq!(rt; checked, Status::StreamFailed);
     let traced = trace_bytes(heap, text, ROOM, false, attempts, &mut out, &mut Full);
-    assert_eq!(rt; traced, Status::StreamFailed);
-    assert!(rt; out.is_empty());
+    let is_empty = out.is_empty();
+    drop(out);
+    let failed = Status::StreamFailed;
+    assert!(rt; checked == failed && traced == failed && is_empty);
 }
 
 #[test]
@@ -141,23 +144,36 @@ fn a_fault_that_cannot_be_told(rt: HostRuntime) {
 #[test]
 fn a_print_that_wants_memory(rt: HostRuntime) {
     let mut out = Failing::new(rt.alloc(), 3, ErrorKind::OutOfMemory);
-    let said = b"out of memory\n";
-    checks_into(&rt, rt.alloc(), SLOT, &mut out, Status::NoMemory, said);
+    let want = (Status::NoMemory, "out of memory\n");
+    checks_into(&rt, rt.alloc(), SLOT, &mut out, want);
     assert_eq!(rt; out.bytes.as_slice(), b"resource slot c".as_slice());
 }
 
-// Whether the request of this number was made and refused; the status then says so, and nothing was written.
-fn trace_is_refused_at(rt: &impl Abort, heap: Global, texts: (&[u8], &[u8]), number: u64) -> bool {
+// The status of a trace to which this request is refused, whether nothing was written, and whether the request was made.
+fn traced_but(heap: Global, texts: (&str, &str), number: u64) -> (Status, bool, bool) {
+    let (declaration, attempts) = (texts.0.as_bytes(), texts.1.as_bytes());
     let refusing = Refusing::new(heap, number);
-    let mut out: Vec<u8> = Vec::new(heap);
-    let mut err: Vec<u8> = Vec::new(heap);
-    let status = trace_bytes(&refusing, texts.0, ROOM, false, texts.1, &mut out, &mut err);
-    if !refusing.has_refused() {
-        return false;
+    let mut out = Vec::new(heap);
+    let mut err = Vec::new(heap);
+    let status = trace_bytes(
+        &refusing,
+        declaration,
+        ROOM,
+        false,
+        attempts,
+        &mut out,
+        &mut err,
+    );
+    (status, out.is_empty(), refusing.has_refused())
+}
+
+// Whether the request of this number was made and refused; the status then says so, and nothing was written.
+fn trace_is_refused_at(rt: &impl Abort, heap: Global, texts: (&str, &str), number: u64) -> bool {
+    let (status, is_empty, is_refused) = traced_but(heap, texts, number);
+    if is_refused {
+        assert!(rt; status == Status::NoMemory && is_empty, "at {number}");
     }
-    assert_eq!(rt; status, Status::NoMemory, "at {number}");
-    assert!(rt; out.is_empty());
-    true
+    is_refused
 }
 
 #[test]

@@ -1,11 +1,13 @@
 //! Traces over devices: the program's own, the caller's, and those that don't fit.
 
+use crate::endings::{Ending, Traced, all_trace, ends_so};
 use path_model::{Law, MOST_LINES, Verb};
 use path_read::read;
 use path_shelf::{ActFault, Cell, Device, Tally};
 use path_streams::Status;
 use path_trace::{ROOM, trace_bytes, trace_to};
 use refusing::Refusing;
+use std::alloc::Global;
 use std::process::Abort;
 
 const BUFFER: &str = "resource buf queue 2 operation put0, put1, get0, get1 path put0 ; put1 end \
@@ -17,90 +19,78 @@ const TOTAL: &str = "resource t tally operation a end";
 
 const CELL: &str = "resource c cell operation a end";
 
-// The program's own devices answer these attempts so.
-fn answers_so<R: Abort + AllocGlobal>(rt: &R, declaration: &str, attempts: &str, want: &str) {
-    let mut out: Vec<u8> = Vec::new(rt.alloc());
-    let mut err: Vec<u8> = Vec::new(rt.alloc());
-    let (declaration, attempts) = (declaration.as_bytes(), attempts.as_bytes());
-    let status = trace_bytes(
-        rt.alloc(),
-        declaration,
-        ROOM,
-        false,
-        attempts,
-        &mut out,
-        &mut err,
-    );
-    assert_eq!(rt; err.as_slice(), b"".as_slice());
-    assert_eq!(rt; out.as_slice(), want.as_bytes());
-    assert_eq!(rt; status, Status::Done);
-}
+const OWN_DEVICES: &[Traced<'static>] = &[
+    (
+        "bounded buffer",
+        (
+            BUFFER,
+            "1 start put0\n1 use 0 put 5\n1 finish 0\n1 start put1\n1 use 1 put 6\n1 finish 1\n\
+             1 start put0\n2 start get1\n2 start get0\n2 use 2 take\n2 finish 2\n2 start get1\n2 use 3 take\n",
+        ),
+        (
+            Status::Done,
+            "1 start put0: started 0\n1 use 0 put 5: used 1\n1 finish 0: finished\n\
+             1 start put1: started 1\n1 use 1 put 6: used 2\n1 finish 1: finished\n\
+             1 start put0: blocked 2\n2 start get1: blocked 1\n2 start get0: started 2\n\
+             2 use 2 take: used 5\n2 finish 2: finished\n2 start get1: started 3\n2 use 3 take: used 6\n",
+            "",
+        ),
+    ),
+    (
+        "a queue of one",
+        (
+            BAG,
+            "1 start a\n1 use 0 put 9\n1 use 0 put 9\n1 use 0 take\n1 use 0 take\n1 use 0 look\n1 use 0 add 1",
+        ),
+        (
+            Status::Done,
+            "1 start a: started 0\n1 use 0 put 9: used 1\n1 use 0 put 9: full\n1 use 0 take: used 9\n\
+             1 use 0 take: empty\n1 use 0 look: empty\n1 use 0 add 1: not offered\n",
+            "",
+        ),
+    ),
+    (
+        "a tally",
+        (
+            TOTAL,
+            "1 start a\n1 use 0 look\n1 use 0 add 18446744073709551615\n1 use 0 add 1\n1 use 0 put 1\n1 use 0 look",
+        ),
+        (
+            Status::Done,
+            "1 start a: started 0\n1 use 0 look: used 0\n\
+             1 use 0 add 18446744073709551615: used 18446744073709551615\n1 use 0 add 1: overflow\n\
+             1 use 0 put 1: not offered\n1 use 0 look: used 18446744073709551615\n",
+            "",
+        ),
+    ),
+];
 
 #[test]
-fn bounded_buffer(rt: HostRuntime) {
-    answers_so(
-        &rt,
-        BUFFER,
-        "1 start put0\n1 use 0 put 5\n1 finish 0\n1 start put1\n1 use 1 put 6\n1 finish 1\n\
-         1 start put0\n2 start get1\n2 start get0\n2 use 2 take\n2 finish 2\n2 start get1\n2 use 3 take\n",
-        "1 start put0: started 0\n1 use 0 put 5: used 1\n1 finish 0: finished\n\
-         1 start put1: started 1\n1 use 1 put 6: used 2\n1 finish 1: finished\n\
-         1 start put0: blocked 2\n2 start get1: blocked 1\n2 start get0: started 2\n\
-         2 use 2 take: used 5\n2 finish 2: finished\n2 start get1: started 3\n2 use 3 take: used 6\n",
-    );
+fn own_devices(rt: HostRuntime) {
+    all_trace(&rt, rt.alloc(), OWN_DEVICES);
 }
 
-#[test]
-fn laws(rt: HostRuntime) {
-    answers_so(
-        &rt,
-        BAG,
-        "1 start a\n1 use 0 put 9\n1 use 0 put 9\n1 use 0 take\n1 use 0 take\n1 use 0 look\n1 use 0 add 1",
-        "1 start a: started 0\n1 use 0 put 9: used 1\n1 use 0 put 9: full\n1 use 0 take: used 9\n\
-         1 use 0 take: empty\n1 use 0 look: empty\n1 use 0 add 1: not offered\n",
-    );
-    answers_so(
-        &rt,
-        TOTAL,
-        "1 start a\n1 use 0 look\n1 use 0 add 18446744073709551615\n1 use 0 add 1\n1 use 0 put 1\n1 use 0 look",
-        "1 start a: started 0\n1 use 0 look: used 0\n\
-         1 use 0 add 18446744073709551615: used 18446744073709551615\n1 use 0 add 1: overflow\n\
-         1 use 0 put 1: not offered\n1 use 0 look: used 18446744073709551615\n",
-    );
-}
-
-// A trace over these devices, which ends so, writes this and says that.
-fn traces_over<D: Device, R: Abort + AllocGlobal>(
-    rt: &R,
-    declaration: &str,
+// A trace over these devices in this room ends so.
+fn traces_over<D: Device>(
+    rt: &impl Abort,
+    heap: Global,
     devices: Vec<D>,
     room: u32,
-    attempts: &str,
-    want: (Status, &str, &str),
+    texts: (&str, &str),
+    want: Ending<'_>,
 ) {
-    let mut out: Vec<u8> = Vec::new(rt.alloc());
-    let mut err: Vec<u8> = Vec::new(rt.alloc());
-    let Ok(decl) = read(rt.alloc(), declaration.as_bytes()) else {
-        panic!(rt; "no declaration");
-    };
-    let attempts = attempts.as_bytes();
+    let (declaration, attempts) = (texts.0.as_bytes(), texts.1.as_bytes());
+    let decl = read(heap, declaration).expect(rt, "it is a declaration");
+    let mut out = Vec::new(heap);
+    let mut err = Vec::new(heap);
     let status = trace_to(
-        rt.alloc(),
-        decl,
-        devices,
-        room,
-        false,
-        attempts,
-        &mut out,
-        &mut err,
+        heap, decl, devices, room, false, attempts, &mut out, &mut err,
     );
-    assert_eq!(rt; status, want.0);
-    assert_eq!(rt; out.as_slice(), want.1.as_bytes());
-    assert_eq!(rt; err.as_slice(), want.2.as_bytes());
+    ends_so(rt, texts.1, (status, &out, &err), want);
 }
 
-fn one<D: Device, R: Abort + AllocGlobal>(rt: &R, device: D) -> Vec<D> {
-    let mut devices = Vec::new(rt.alloc());
+fn one<D: Device>(rt: &impl Abort, heap: Global, device: D) -> Vec<D> {
+    let mut devices = Vec::new(heap);
     assert!(rt; devices.push(device).is_ok());
     devices
 }
@@ -148,85 +138,125 @@ impl Device for LateCell {
     }
 }
 
+const OF_A_LATE_CELL: Ending<'static> = (
+    Status::Done,
+    "1 start a: started 0\n1 use 0 put 7: device failed\n1 use 0 look: used 5\n\
+     1 use 0 put 7: used 5\n1 use 0 look: used 7\n",
+    "",
+);
+
 #[test]
 fn a_device_that_fails(rt: HostRuntime) {
     let device = LateCell {
         number: 5,
         failures: 0,
     };
+    let devices = one(&rt, rt.alloc(), device);
+    let attempts = "1 start a\n1 use 0 put 7\n1 use 0 look\n1 use 0 put 7\n1 use 0 look";
     traces_over(
         &rt,
-        CELL,
-        one(&rt, device),
+        rt.alloc(),
+        devices,
         ROOM,
-        "1 start a\n1 use 0 put 7\n1 use 0 look\n1 use 0 put 7\n1 use 0 look",
-        (
-            Status::Done,
-            "1 start a: started 0\n1 use 0 put 7: device failed\n1 use 0 look: used 5\n\
-             1 use 0 put 7: used 5\n1 use 0 look: used 7\n",
-            "",
-        ),
+        (CELL, attempts),
+        OF_A_LATE_CELL,
     );
 }
+
+const OF_A_FULL_TALLY: Ending<'static> = (
+    Status::Done,
+    "1 start a: started 0\n1 use 0 add 1: overflow\n\
+     1 use 0 add 0: used 18446744073709551615\n1 use 0 put 5: not offered\n",
+    "",
+);
 
 #[test]
 fn devices_of_the_caller(rt: HostRuntime) {
+    let devices = one(&rt, rt.alloc(), Tally::new(u64::MAX));
+    let attempts = "1 start a\n1 use 0 add 1\n1 use 0 add 0\n1 use 0 put 5";
     traces_over(
         &rt,
-        TOTAL,
-        one(&rt, Tally::new(u64::MAX)),
+        rt.alloc(),
+        devices,
         ROOM,
-        "1 start a\n1 use 0 add 1\n1 use 0 add 0\n1 use 0 put 5",
-        (
-            Status::Done,
-            "1 start a: started 0\n1 use 0 add 1: overflow\n\
-             1 use 0 add 0: used 18446744073709551615\n1 use 0 put 5: not offered\n",
-            "",
-        ),
+        (TOTAL, attempts),
+        OF_A_FULL_TALLY,
     );
 }
 
-// Devices that don't fit, with a text that is right and one that is not, which counts first.
+// A room, attempts, and how their trace over a tally ends where the declaration wants a cell. A text that is not right counts first.
+const TALLY_FOR_A_CELL: &[(u32, &str, Ending<'static>)] = &[
+    (
+        ROOM,
+        "1 start a",
+        (Status::CommandRefused, "", "open: wrong device 0\n"),
+    ),
+    (
+        ROOM,
+        "1 start #0",
+        (Status::TextRefused, "", "text: bad line 0\n"),
+    ),
+    (
+        MOST_LINES + 1,
+        "1 start a",
+        (Status::CommandRefused, "", "open: bad room\n"),
+    ),
+];
+
+fn tallies_do_not_fit(rt: &impl Abort, heap: Global, rows: &[(u32, &str, Ending<'_>)]) {
+    for (room, attempts, want) in rows {
+        let devices = one(rt, heap, Tally::new(0));
+        traces_over(rt, heap, devices, *room, (CELL, attempts), *want);
+    }
+}
+
 #[test]
 fn devices_that_do_not_fit(rt: HostRuntime) {
     let none: Vec<Cell> = Vec::new(rt.alloc());
-    let count = (Status::CommandRefused, "", "open: wrong count\n");
-    traces_over(&rt, CELL, none, ROOM, "1 start a", count);
-    let other = (Status::CommandRefused, "", "open: wrong device 0\n");
-    traces_over(&rt, CELL, one(&rt, Tally::new(0)), ROOM, "1 start a", other);
-    let text = (Status::TextRefused, "", "text: bad line 0\n");
-    traces_over(&rt, CELL, one(&rt, Tally::new(0)), ROOM, "1 start #0", text);
-    let room = (Status::CommandRefused, "", "open: bad room\n");
-    let most = MOST_LINES + 1;
-    traces_over(&rt, CELL, one(&rt, Tally::new(0)), most, "1 start a", room);
+    let want = (Status::CommandRefused, "", "open: wrong count\n");
+    traces_over(&rt, rt.alloc(), none, ROOM, (CELL, "1 start a"), want);
+    tallies_do_not_fit(&rt, rt.alloc(), TALLY_FOR_A_CELL);
 }
 
-// Each request is refused in turn, until the trace over the program's own devices ends as it does with ample memory.
+const PUT_TRACED: Ending<'static> = (
+    Status::Done,
+    "1 start put0: started 0\n1 use 0 put 5: used 1\n",
+    "",
+);
+
+// Whether a trace over the program's own devices ends as it does with ample memory where this request is refused.
+fn passes(rt: &impl Abort, heap: Global, texts: (&str, &str), number: u64) -> bool {
+    let (declaration, attempts) = (texts.0.as_bytes(), texts.1.as_bytes());
+    let refusing = Refusing::new(heap, number);
+    let mut out = Vec::new(heap);
+    let mut err = Vec::new(heap);
+    let status = trace_bytes(
+        &refusing,
+        declaration,
+        ROOM,
+        false,
+        attempts,
+        &mut out,
+        &mut err,
+    );
+    let is_refused = refusing.has_refused();
+    let want = if is_refused {
+        (Status::NoMemory, "", "out of memory\n")
+    } else {
+        PUT_TRACED
+    };
+    ends_so(rt, "a refused request", (status, &out, &err), want);
+    !is_refused
+}
+
 #[test]
 fn each_request_is_refused(rt: HostRuntime) {
-    let attempts = b"1 start put0\n1 use 0 put 5";
+    let texts = (BUFFER, "1 start put0\n1 use 0 put 5");
     for number in 1..200u64 {
-        let refusing = Refusing::new(rt.alloc(), number);
-        let mut out: Vec<u8> = Vec::new(rt.alloc());
-        let mut err: Vec<u8> = Vec::new(rt.alloc());
-        let declaration = BUFFER.as_bytes();
-        let status = trace_bytes(
-            &refusing,
-            declaration,
-            ROOM,
-            false,
-            attempts,
-            &mut out,
-            &mut err,
-        );
-        if !refusing.has_refused() {
+        if passes(&rt, rt.alloc(), texts, number) {
             assert!(rt; number > 1);
-            assert_eq!(rt; status, Status::Done);
             return;
         }
-        assert_eq!(rt; status, Status::NoMemory);
-        assert_eq!(rt; err.as_slice(), b"out of memory\n".as_slice());
-        assert!(rt; out.is_empty());
     }
     panic!(rt; "never passed");
 }

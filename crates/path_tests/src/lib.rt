@@ -8,6 +8,10 @@ mod compile;
 #[cfg(test)]
 mod devices;
 #[cfg(test)]
+mod endings;
+#[cfg(test)]
+mod failing_traces;
+#[cfg(test)]
 mod faults;
 #[cfg(test)]
 mod input;

@@ -1,19 +1,19 @@
-//! Attempts in, replies out: worked examples, failing writers and want of memory.
+//! Attempts in, replies out: worked examples.
 
-use crate::writers::{Failing, Full, Interrupted, Unflushed};
-use path_decl::counts;
+use crate::endings::{Ending, ends_so};
+use path_decl::{Decl, counts};
 use path_lex::DeclFault;
 use path_model::MOST_LINES;
 use path_read::read;
 use path_shelf::Cell;
 use path_streams::Status;
 use path_trace::{ROOM, trace_to};
-use refusing::Refusing;
-use std::alloc::Allocator;
-use std::io::{ErrorKind, Write};
+use std::alloc::{Allocator, Global};
+use std::io::Write;
 use std::process::Abort;
 
-const SLOT: &str = "resource slot cell operation deposit, remove path deposit ; remove end end";
+pub(crate) const SLOT: &str =
+    "resource slot cell operation deposit, remove path deposit ; remove end end";
 
 const KNOT: &str = "resource r cell operation a, b path a ; b end path b ; a end end";
 
@@ -21,8 +21,17 @@ const FORK: &str = "resource r cell operation a, b, c path a ; b end path a ; c 
 
 const TWIN: &str = "resource r cell operation a, b path a ; b end path ( a ; b ) end end";
 
+// A cell for each resource.
+fn cells_for<A: Allocator + Copy>(alloc: A, decl: &Decl<A>) -> Result<Vec<Cell, A>, DeclFault> {
+    let mut cells = Vec::new(alloc);
+    for _ in 0..counts(decl).resources {
+        cells.push(Cell::new(0))?;
+    }
+    Ok(cells)
+}
+
 // Traces the attempts over cells into the writers; none where the declaration or the cells want memory.
-fn try_trace<A: Allocator + Copy, O: Write, E: Write>(
+pub(crate) fn try_trace<A: Allocator + Copy, O: Write, E: Write>(
     alloc: A,
     declaration: &str,
     room: u32,
@@ -30,101 +39,99 @@ fn try_trace<A: Allocator + Copy, O: Write, E: Write>(
     out: &mut O,
     err: &mut E,
 ) -> Result<Status, DeclFault> {
+    let attempts = attempts.as_bytes();
     let decl = read(alloc, declaration.as_bytes())?;
-    let mut cells = Vec::new(alloc);
-    for _ in 0..counts(&decl).resources {
-        cells.push(Cell::new(0))?;
+    match cells_for(alloc, &decl) {
+        Ok(cells) => Ok(trace_to(alloc, decl, cells, room, false, attempts, out, err)),
+        Err(fault) => {
+            drop(decl);
+            Err(fault)
+        }
     }
-    Ok(trace_to(
-        alloc,
-        decl,
-        cells,
-        room,
-        false,
-        attempts.as_bytes(),
-        out,
-        err,
-    ))
 }
 
-// The status of a trace, and what it wrote on its output and on standard error.
-fn trace<R: Abort + AllocGlobal>(
-    rt: &R,
+// A trace of the attempts over cells in this room ends so.
+fn traces_in(
+    rt: &impl Abort,
+    heap: Global,
     declaration: &str,
     room: u32,
     attempts: &str,
-) -> (Status, Vec<u8>, Vec<u8>) {
-    let mut out = Vec::new(rt.alloc());
-    let mut err = Vec::new(rt.alloc());
-    match try_trace(rt.alloc(), declaration, room, attempts, &mut out, &mut err) {
-        Ok(status) => (status, out, err),
-        Err(_) => panic!(rt; "no declaration"),
+    want: Ending<'_>,
+) {
+    let mut out = Vec::new(heap);
+    let mut err = Vec::new(heap);
+    let tried = try_trace(heap, declaration, room, attempts, &mut out, &mut err);
+    let status = tried.expect(rt, "it is a declaration");
+    ends_so(rt, attempts, (status, &out, &err), want);
+}
+
+fn answers_so(rt: &impl Abort, heap: Global, declaration: &str, attempts: &str, want: &str) {
+    traces_in(
+        rt,
+        heap,
+        declaration,
+        ROOM,
+        attempts,
+        (Status::Done, want, ""),
+    );
+}
+
+/// A declaration, attempts, and the trace of these over cells.
+type Answered<'a> = (&'a str, &'a str, &'a str);
+
+fn all_answer_so(rt: &impl Abort, heap: Global, rows: &[Answered<'_>]) {
+    for (declaration, attempts, want) in rows {
+        answers_so(rt, heap, declaration, attempts, want);
     }
 }
 
-fn answers_so<R: Abort + AllocGlobal>(rt: &R, declaration: &str, attempts: &str, want: &str) {
-    let (status, out, err) = trace(rt, declaration, ROOM, attempts);
-    assert_eq!(rt; out.as_slice(), want.as_bytes(), "for {attempts:?}");
-    assert_eq!(rt; err.as_slice(), b"".as_slice());
-    assert_eq!(rt; status, Status::Done);
-}
-
-fn is_refused_so<R: Abort + AllocGlobal>(rt: &R, room: u32, attempts: &str, want: (Status, &str)) {
-    let (status, out, err) = trace(rt, SLOT, room, attempts);
-    assert_eq!(rt; out.as_slice(), b"".as_slice());
-    assert_eq!(rt; err.as_slice(), want.1.as_bytes(), "for {attempts:?}");
-    assert_eq!(rt; status, want.0);
-}
-
-const SLOT_ATTEMPTS: &str =
+pub(crate) const SLOT_ATTEMPTS: &str =
     "1 start deposit\n2 start remove\n1 use 0 put 7\n1 finish 0\n2 start remove\n2 use 1 look\n";
 
-const SLOT_TRACE: &str =
+pub(crate) const SLOT_TRACE: &str =
     "1 start deposit: started 0\n2 start remove: blocked 0\n1 use 0 put 7: used 0\n\
      1 finish 0: finished\n2 start remove: started 1\n2 use 1 look: used 7\n";
 
-#[test]
-fn slot(rt: HostRuntime) {
-    answers_so(&rt, SLOT, SLOT_ATTEMPTS, SLOT_TRACE);
-    answers_so(&rt, SLOT, "", "");
-    answers_so(
-        &rt,
+const SLOT_ANSWERED: &[Answered<'static>] = &[
+    (SLOT, SLOT_ATTEMPTS, SLOT_TRACE),
+    (SLOT, "", ""),
+    (
         SLOT,
         "4294967295 start deposit",
         "4294967295 start deposit: started 0\n",
-    );
-}
+    ),
+];
 
 #[test]
-fn knot(rt: HostRuntime) {
-    answers_so(
-        &rt,
+fn slot(rt: HostRuntime) {
+    all_answer_so(&rt, rt.alloc(), SLOT_ANSWERED);
+}
+
+// Operations that one path or two forbid.
+const BLOCKED: &[Answered<'static>] = &[
+    (
         KNOT,
         "1 start a\n1 start b\n",
         "1 start a: blocked 1\n1 start b: blocked 0\n",
-    );
-}
-
-#[test]
-fn fork(rt: HostRuntime) {
-    answers_so(
-        &rt,
+    ),
+    (
         FORK,
         "1 start a\n1 finish 0\n1 start b\n1 finish 1\n1 start a\n1 start c\n1 finish 2\n1 start a",
         "1 start a: started 0\n1 finish 0: finished\n1 start b: started 1\n1 finish 1: finished\n\
          1 start a: blocked 1\n1 start c: started 2\n1 finish 2: finished\n1 start a: started 3\n",
-    );
-}
+    ),
+    (TWIN, "1 start b\n", "1 start b: blocked 0\n"),
+];
 
 #[test]
-fn equal_paths(rt: HostRuntime) {
-    answers_so(&rt, TWIN, "1 start b\n", "1 start b: blocked 0\n");
+fn knot_fork_and_equal_paths(rt: HostRuntime) {
+    all_answer_so(&rt, rt.alloc(), BLOCKED);
 }
 
-#[test]
-fn owners_and_stale(rt: HostRuntime) {
-    answers_so(
-        &rt,
+// Numbers of activations and operations that are another's, over or unknown.
+const OTHER_NUMBERS: &[Answered<'static>] = &[
+    (
         SLOT,
         "1 start deposit\n2 finish 0\n2 use 0 look\n1 finish 0\n1 start remove\n1 finish 0\n\
          1 use 1 look\n1 use 9 look\n1 use 1 take\n1 use 1 add 1",
@@ -132,228 +139,160 @@ fn owners_and_stale(rt: HostRuntime) {
          1 finish 0: finished\n1 start remove: started 1\n1 finish 0: stale\n\
          1 use 1 look: used 0\n1 use 9 look: stale\n1 use 1 take: not offered\n\
          1 use 1 add 1: not offered\n",
-    );
-}
-
-// The last lines of the room answer; past it nothing has room but the finish of what is live.
-#[test]
-fn room_ends(rt: HostRuntime) {
-    let mut attempts = String::new(rt.alloc());
-    let mut want = String::new(rt.alloc());
-    assert!(rt; attempts.push_str("1 start deposit\n").is_ok());
-    assert!(rt; want.push_str("1 start deposit: started 0\n").is_ok());
-    for line in 1..4097u32 {
-        let reply = if line < 4095 { "stale" } else { "no room" };
-        assert!(rt; attempts.push_str("1 use 5 look\n").is_ok());
-        assert!(rt; write!(want, "1 use 5 look: {reply}\n").is_ok());
-    }
-    assert!(rt; attempts.push_str("1 finish 0\n1 finish 0\n").is_ok());
-    assert!(rt;
-        want.push_str("1 finish 0: finished\n1 finish 0: no room\n")
-            .is_ok()
-    );
-    answers_so(&rt, SLOT, attempts.as_str(), want.as_str());
-}
-
-const BAD_FIRST_LINE: (Status, &str) = (Status::TextRefused, "text: bad line 0\n");
-
-// Each text is refused for its first line.
-fn are_bad<R: Abort + AllocGlobal>(rt: &R, texts: &[&str]) {
-    for attempts in texts {
-        is_refused_so(rt, ROOM, attempts, BAD_FIRST_LINE);
-    }
-}
-
-// Each text is refused, and what is beside it said.
-fn are_refused<R: Abort + AllocGlobal>(rt: &R, rows: &[(&str, &str)]) {
-    for (attempts, said) in rows {
-        is_refused_so(rt, ROOM, attempts, (Status::TextRefused, *said));
-    }
-}
-
-#[test]
-fn attempt_texts(rt: HostRuntime) {
-    let bad = [
-        "01 start deposit",
-        "1 start deposit ",
-        "1 use 0 take 3",
-        "1 start #0",
-        "1 start path",
-        "1 start ",
-        "1 start a123456789012345678901234567890_2",
-        "4294967296 start deposit",
-        "1 use 18446744073709551616 look",
-        "1 use 0 put 07",
-        "1  start deposit",
-        "1 finish",
-        "\n1 start deposit",
-        "%",
-    ];
-    are_bad(&rt, bad.as_slice());
-    let rows = [
-        ("1 start insert", "text: undeclared in line 0\n"),
-        (
-            "1 start Deposit\n1 start #0",
-            "text: undeclared in line 0\n",
-        ),
-        ("01 start insert", "text: bad line 0\n"),
-        ("1 finish 0\n1 start deposit\n\n", "text: bad line 2\n"),
-        (
-            "1 finish 0\n1 start insert\n1 start #0",
-            "text: undeclared in line 1\n",
-        ),
-    ];
-    are_refused(&rt, rows.as_slice());
-}
-
-#[test]
-fn unknown_numbers(rt: HostRuntime) {
-    answers_so(
-        &rt,
+    ),
+    (
         SLOT,
         "1 start #2\n1 start #4294967295\n1 use 18446744073709551615 look\n\
          1 finish 18446744073709551615\n1 start deposit",
         "1 start #2: unknown operation\n1 start #4294967295: unknown operation\n\
          1 use 18446744073709551615 look: stale\n1 finish 18446744073709551615: stale\n\
          1 start deposit: started 0\n",
-    );
+    ),
+];
+
+#[test]
+fn owners_stale_and_unknown_numbers(rt: HostRuntime) {
+    all_answer_so(&rt, rt.alloc(), OTHER_NUMBERS);
 }
 
-// A room of which no journal is, with a text that is right and one that is not, which counts first.
-#[test]
-fn bad_room(rt: HostRuntime) {
-    for room in [0, MOST_LINES + 1, u32::MAX] {
-        is_refused_so(
-            &rt,
-            room,
-            "1 start deposit",
-            (Status::CommandRefused, "open: bad room\n"),
+fn put(rt: &impl Abort, text: &mut String, piece: &str) {
+    assert!(rt; text.push_str(piece).is_ok());
+}
+
+// A start, uses of nothing up to the end of the room and one line past it, and two finishes of what was started.
+fn attempts_past_the_room(rt: &impl Abort, heap: Global) -> String {
+    let mut text = String::new(heap);
+    put(rt, &mut text, "1 start deposit\n");
+    for _line in 1..4097u32 {
+        put(rt, &mut text, "1 use 5 look\n");
+    }
+    put(rt, &mut text, "1 finish 0\n1 finish 0\n");
+    text
+}
+
+fn answers_past_the_room(rt: &impl Abort, heap: Global) -> String {
+    let mut text = String::new(heap);
+    put(rt, &mut text, "1 start deposit: started 0\n");
+    for line in 1..4097u32 {
+        put(rt, &mut text, "1 use 5 look: ");
+        put(
+            rt,
+            &mut text,
+            if line < 4095 { "stale\n" } else { "no room\n" },
         );
-        is_refused_so(&rt, room, "1 start #0", BAD_FIRST_LINE);
+    }
+    put(rt, &mut text, "1 finish 0: finished\n1 finish 0: no room\n");
+    text
+}
+
+// The last lines of the room answer; past it nothing has room but the finish of what is live.
+#[test]
+fn room_ends(rt: HostRuntime) {
+    let attempts = attempts_past_the_room(&rt, rt.alloc());
+    let want = answers_past_the_room(&rt, rt.alloc());
+    answers_so(&rt, rt.alloc(), SLOT, &attempts, &want);
+}
+
+const BAD_FIRST_LINE: Ending<'static> = (Status::TextRefused, "", "text: bad line 0\n");
+
+// Each text is refused for its first line.
+fn are_bad(rt: &impl Abort, heap: Global, texts: &[&str]) {
+    for attempts in texts {
+        traces_in(rt, heap, SLOT, ROOM, attempts, BAD_FIRST_LINE);
     }
 }
 
-#[test]
-fn least_and_most_room(rt: HostRuntime) {
-    let (status, out, _) = trace(&rt, SLOT, 1, "1 start deposit\n1 finish 0\n1 finish 0");
-    assert_eq!(rt; status, Status::Done);
-    let want = b"1 start deposit: no room\n1 finish 0: stale\n1 finish 0: no room\n";
-    assert_eq!(rt; out.as_slice(), want.as_slice());
-    let (status, out, _) = trace(&rt, SLOT, MOST_LINES, "1 start deposit");
-    assert_eq!(rt; status, Status::Done);
-    assert_eq!(rt; out.as_slice(), b"1 start deposit: started 0\n".as_slice());
-}
-
-// The slot's trace into a writer: its status, and what was said on standard error.
-fn writes<R: Abort + AllocGlobal, O: Write>(rt: &R, out: &mut O) -> (Status, Vec<u8>) {
-    let mut err = Vec::new(rt.alloc());
-    match try_trace(rt.alloc(), SLOT, ROOM, SLOT_ATTEMPTS, out, &mut err) {
-        Ok(status) => (status, err),
-        Err(_) => panic!(rt; "no declaration"),
+// Each text is refused, and what is beside it said.
+fn are_refused(rt: &impl Abort, heap: Global, rows: &[(&str, &str)]) {
+    for (attempts, said) in rows {
+        traces_in(
+            rt,
+            heap,
+            SLOT,
+            ROOM,
+            attempts,
+            (Status::TextRefused, "", said),
+        );
     }
 }
 
-fn fails_so<R: Abort + AllocGlobal, O: Write>(rt: &R, out: &mut O, want: (Status, &str)) {
-    let (status, err) = writes(rt, out);
-    assert_eq!(rt; status, want.0);
-    assert_eq!(rt; err.as_slice(), want.1.as_bytes());
+const BAD_LINES: &[&str] = &[
+    "01 start deposit",
+    "1 start deposit ",
+    "1 use 0 take 3",
+    "1 start #0",
+    "1 start path",
+    "1 start ",
+    "1 start a123456789012345678901234567890_2",
+    "4294967296 start deposit",
+    "1 use 18446744073709551616 look",
+    "1 use 0 put 07",
+    "1  start deposit",
+    "1 finish",
+    "\n1 start deposit",
+    "%",
+];
+
+const REFUSED_TEXTS: &[(&str, &str)] = &[
+    ("1 start insert", "text: undeclared in line 0\n"),
+    (
+        "1 start Deposit\n1 start #0",
+        "text: undeclared in line 0\n",
+    ),
+    ("01 start insert", "text: bad line 0\n"),
+    ("1 finish 0\n1 start deposit\n\n", "text: bad line 2\n"),
+    (
+        "1 finish 0\n1 start insert\n1 start #0",
+        "text: undeclared in line 1\n",
+    ),
+];
+
+#[test]
+fn attempt_texts(rt: HostRuntime) {
+    are_bad(&rt, rt.alloc(), BAD_LINES);
+    are_refused(&rt, rt.alloc(), REFUSED_TEXTS);
 }
 
-const UNWRITABLE: (Status, &str) = (Status::StreamFailed, "output: cannot write\n");
+/// A room, attempts, and how their trace over the slot ends in that room.
+type Roomed<'a> = (u32, &'a str, Ending<'a>);
 
-const NO_MEMORY: (Status, &str) = (Status::NoMemory, "out of memory\n");
-
-// The output of the slot has 143 bytes, so 29 writes of five. A front of it was taken.
-#[test]
-fn each_write_fails_in_turn(rt: HostRuntime) {
-    for k in 0..29u32 {
-        let mut out = Failing::new(rt.alloc(), k, ErrorKind::Other);
-        fails_so(&rt, &mut out, UNWRITABLE);
-        assert_eq!(rt; out.bytes.len(), 5 * k as usize);
+fn all_trace_in(rt: &impl Abort, heap: Global, rows: &[Roomed<'_>]) {
+    for (room, attempts, want) in rows {
+        traces_in(rt, heap, SLOT, *room, attempts, *want);
     }
-    let mut out = Failing::new(rt.alloc(), 29, ErrorKind::Other);
-    fails_so(&rt, &mut out, (Status::Done, ""));
-    assert_eq!(rt; out.bytes.as_slice(), SLOT_TRACE.as_bytes());
 }
+
+const BAD_ROOM: Ending<'static> = (Status::CommandRefused, "", "open: bad room\n");
+
+// Rooms of which no journal is, with a text that is right and one that is not, which counts first.
+const BAD_ROOMS: &[Roomed<'static>] = &[
+    (0, "1 start deposit", BAD_ROOM),
+    (0, "1 start #0", BAD_FIRST_LINE),
+    (MOST_LINES + 1, "1 start deposit", BAD_ROOM),
+    (MOST_LINES + 1, "1 start #0", BAD_FIRST_LINE),
+    (u32::MAX, "1 start deposit", BAD_ROOM),
+    (u32::MAX, "1 start #0", BAD_FIRST_LINE),
+];
+
+const LEAST_AND_MOST_ROOM: &[Roomed<'static>] = &[
+    (
+        1,
+        "1 start deposit\n1 finish 0\n1 finish 0",
+        (
+            Status::Done,
+            "1 start deposit: no room\n1 finish 0: stale\n1 finish 0: no room\n",
+            "",
+        ),
+    ),
+    (
+        MOST_LINES,
+        "1 start deposit",
+        (Status::Done, "1 start deposit: started 0\n", ""),
+    ),
+];
 
 #[test]
-fn each_write_wants_memory_in_turn(rt: HostRuntime) {
-    for k in 0..29u32 {
-        let mut out = Failing::new(rt.alloc(), k, ErrorKind::OutOfMemory);
-        fails_so(&rt, &mut out, NO_MEMORY);
-        assert_eq!(rt; out.bytes.len(), 5 * k as usize);
-        assert!(rt; SLOT_TRACE.as_bytes().starts_with(out.bytes.as_slice()));
-    }
-}
-
-#[test]
-fn an_interrupted_write(rt: HostRuntime) {
-    let mut out = Interrupted::new(rt.alloc());
-    fails_so(&rt, &mut out, (Status::Done, ""));
-    assert_eq!(rt; out.bytes.as_slice(), SLOT_TRACE.as_bytes());
-}
-
-#[test]
-fn a_write_of_nothing(rt: HostRuntime) {
-    fails_so(&rt, &mut Full, UNWRITABLE);
-}
-
-#[test]
-fn a_flush_that_fails(rt: HostRuntime) {
-    fails_so(&rt, &mut Unflushed(ErrorKind::Other), UNWRITABLE);
-    fails_so(&rt, &mut Unflushed(ErrorKind::OutOfMemory), NO_MEMORY);
-}
-
-#[test]
-fn a_fault_that_cannot_be_told(rt: HostRuntime) {
-    let mut out: Vec<u8> = Vec::new(rt.alloc());
-    let ended = try_trace(rt.alloc(), SLOT, ROOM, "1 start #0", &mut out, &mut Full);
-    assert_eq!(rt; ended, Ok(Status::StreamFailed));
-    assert!(rt; out.is_empty());
-}
-
-// Whether the request of this number was made and refused; the status then says so, and nothing was written.
-fn is_refused_at<R: Abort + AllocGlobal>(rt: &R, number: u64, room: u32) -> bool {
-    let refusing = Refusing::new(rt.alloc(), number);
-    let mut out: Vec<u8> = Vec::new(rt.alloc());
-    let mut err: Vec<u8> = Vec::new(rt.alloc());
-    let ended = try_trace(&refusing, SLOT, room, SLOT_ATTEMPTS, &mut out, &mut err);
-    if !refusing.has_refused() {
-        return false;
-    }
-    match ended {
-        Ok(status) => assert_eq!(rt; status, Status::NoMemory, "at {number}"),
-        Err(fault) => assert_eq!(rt; fault, DeclFault::OutOfMemory, "at {number}"),
-    }
-    assert!(rt; out.is_empty());
-    true
-}
-
-// Each request is refused in turn, until the trace ends as it does with ample memory.
-fn is_refused_in_turn(rt: &(impl Abort + AllocGlobal), room: u32) {
-    for number in 1..200u64 {
-        if !is_refused_at(rt, number, room) {
-            assert!(rt; number > 1);
-            return;
-        }
-    }
-    panic!(rt; "never passed");
-}
-
-#[test]
-fn each_request_of_a_trace_is_refused(rt: HostRuntime) {
-    is_refused_in_turn(&rt, ROOM);
-}
-
-#[test]
-fn each_request_in_a_bad_room_is_refused(rt: HostRuntime) {
-    is_refused_in_turn(&rt, 0);
-}
-
-#[test]
-fn a_writer_without_memory(rt: HostRuntime) {
-    let refusing = Refusing::new(rt.alloc(), 1);
-    let mut out = Vec::new(&refusing);
-    fails_so(&rt, &mut out, NO_MEMORY);
-    assert!(rt; out.is_empty());
+fn bad_least_and_most_room(rt: HostRuntime) {
+    all_trace_in(&rt, rt.alloc(), BAD_ROOMS);
+    all_trace_in(&rt, rt.alloc(), LEAST_AND_MOST_ROOM);
 }

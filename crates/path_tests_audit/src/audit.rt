@@ -14,13 +14,27 @@ const TALLY: &[u8] = b"resource t tally operation a end";
 
 type Judged = (&'static str, u32, Result<Verdict, Refusal>);
 
-// Each text has this verdict in this room, if it names no other, where its declaration's resource opens so.
-fn are_judged_so(rt: &impl Abort, heap: Global, decl: &Decl, numbers: &[u64], rows: &[Judged]) {
-    let openings = opened(rt, heap, numbers);
+// Each text has this verdict in this room, if it names no other.
+fn are_judged_so(
+    rt: &impl Abort,
+    heap: Global,
+    decl: &Decl,
+    openings: &[Vec<u64>],
+    rows: &[Judged],
+) {
     for (text, room, want) in rows {
-        let found = verdict(heap, decl, *room, &openings, text);
+        let found = verdict(heap, decl, *room, openings, text);
         assert_eq!(rt; found, *want, "{text}");
     }
+}
+
+// The same where the one resource of this declaration opens with these numbers.
+fn judges(rt: &impl Abort, heap: Global, declaration: &[u8], numbers: &[u64], rows: &[Judged]) {
+    let decl = declared(rt, heap, declaration);
+    let openings = opened(rt, heap, numbers);
+    are_judged_so(rt, heap, &decl, &openings, rows);
+    drop(openings);
+    drop(decl);
 }
 
 /// Journals of the slot.
@@ -91,8 +105,7 @@ const ROWS: [Judged; 18] = [
 
 #[test]
 fn audits_rows(rt: HostRuntime) {
-    let decl = declared(&rt, rt.alloc(), SLOT);
-    are_judged_so(&rt, rt.alloc(), &decl, &[0], &ROWS);
+    judges(&rt, rt.alloc(), SLOT, &[0], &ROWS);
 }
 
 const BAD_HEAD: Result<Verdict, Refusal> = Err(Refusal::Text(TextFault::BadLine(0)));
@@ -139,8 +152,7 @@ const ROOMS: [Judged; 8] = [
 
 #[test]
 fn audits_in_the_room_of_the_text(rt: HostRuntime) {
-    let decl = declared(&rt, rt.alloc(), SLOT);
-    are_judged_so(&rt, rt.alloc(), &decl, &[0], &ROOMS);
+    judges(&rt, rt.alloc(), SLOT, &[0], &ROOMS);
 }
 
 /// The largest numbers that lines can name.
@@ -194,8 +206,7 @@ const LARGEST: [Judged; 9] = [
 
 #[test]
 fn audits_the_largest_numbers(rt: HostRuntime) {
-    let decl = declared(&rt, rt.alloc(), SLOT);
-    are_judged_so(&rt, rt.alloc(), &decl, &[0], &LARGEST);
+    judges(&rt, rt.alloc(), SLOT, &[0], &LARGEST);
 }
 
 /// Journals of the queue that opens with 5.
@@ -220,8 +231,7 @@ const QUEUED: [Judged; 3] = [
 
 #[test]
 fn audits_queues(rt: HostRuntime) {
-    let decl = declared(&rt, rt.alloc(), QUEUE);
-    are_judged_so(&rt, rt.alloc(), &decl, &[5], &QUEUED);
+    judges(&rt, rt.alloc(), QUEUE, &[5], &QUEUED);
 }
 
 /// Journals of the tally that opens with the number below the largest.
@@ -241,8 +251,7 @@ const TOTALLED: [Judged; 2] = [
 
 #[test]
 fn audits_tallies(rt: HostRuntime) {
-    let decl = declared(&rt, rt.alloc(), TALLY);
-    are_judged_so(&rt, rt.alloc(), &decl, &[u64::MAX - 1], &TOTALLED);
+    judges(&rt, rt.alloc(), TALLY, &[u64::MAX - 1], &TOTALLED);
 }
 
 /// A room, what the one resource opens with, unless there are no openings at all, and what is found of no lines.
@@ -290,17 +299,27 @@ fn found_so(
     numbers: Option<&[u64]>,
 ) -> Result<Verdict, AuditFault> {
     match numbers {
-        Some(numbers) => found(heap, decl, room, &opened(rt, heap, numbers)),
+        Some(numbers) => {
+            let openings = opened(rt, heap, numbers);
+            let found = found(heap, decl, room, &openings);
+            drop(openings);
+            found
+        }
         None => found(heap, decl, room, &[]),
+    }
+}
+
+fn all_open_so(rt: &impl Abort, heap: Global, decl: &Decl, rows: &[Opened]) {
+    for (room, numbers, want) in rows {
+        let found = found_so(rt, heap, decl, *room, *numbers);
+        assert!(rt; found == *want, "{room}, {numbers:?}");
     }
 }
 
 fn open_so(rt: &impl Abort, heap: Global, declaration: &[u8], rows: &[Opened]) {
     let decl = declared(rt, heap, declaration);
-    for (room, numbers, want) in rows {
-        let found = found_so(rt, heap, &decl, *room, *numbers);
-        assert!(rt; found == *want, "{room}, {numbers:?}");
-    }
+    all_open_so(rt, heap, &decl, rows);
+    drop(decl);
 }
 
 #[test]
@@ -317,13 +336,17 @@ const SPELLED: [(AuditFault, &str); 4] = [
     (AuditFault::OutOfMemory, "out of memory"),
 ];
 
-// Each fault is spelled so.
+// Whether a fault is spelled so.
+fn is_spelled_so(heap: Global, fault: AuditFault, want: &str) -> bool {
+    match format!(in heap; "{fault}") {
+        Ok(text) => text.as_str() == want,
+        Err(_) => false,
+    }
+}
+
 fn are_spelled_so(rt: &impl Abort, heap: Global, rows: &[(AuditFault, &str)]) {
     for (fault, want) in rows {
-        match format!(in heap; "{fault}") {
-            Ok(text) => assert!(rt; text.as_str() == *want, "at {want}"),
-            Err(_) => panic!(rt; "no memory"),
-        }
+        assert!(rt; is_spelled_so(heap, *fault, want), "at {want}");
     }
 }
 

@@ -83,7 +83,11 @@ fn found_with(
     reply: Reply,
 ) -> Result<Verdict, AuditFault> {
     match with_reply(heap, lines, number, reply) {
-        Ok(forged) => found(heap, decl, openings, &forged),
+        Ok(forged) => {
+            let found = found(heap, decl, openings, &forged);
+            drop(forged);
+            found
+        }
         Err(OutOfMemory) => Err(AuditFault::OutOfMemory),
     }
 }
@@ -93,35 +97,48 @@ fn are_found(
     rt: &impl Abort,
     heap: Global,
     decl: &Decl,
+    openings: &[Vec<u64>],
     lines: &[Line],
     number: u32,
     replies: &[Reply],
 ) {
-    let openings = opened(rt, heap, &[0]);
     let told = lines
         .get(number as usize)
         .expect(rt, "there is such a line")
         .reply;
     for reply in replies {
-        let found = found_with(heap, decl, &openings, lines, number, *reply);
-        assert_eq!(rt;
-            found,
-            Ok(wanted(told, number, *reply)),
-            "line {number}: {reply:?}"
-        );
+        let found = found_with(heap, decl, openings, lines, number, *reply);
+        let want = Ok(wanted(told, number, *reply));
+        assert!(rt; found == want, "line {number}: {reply:?}");
     }
 }
 
-// Each of these replies is found in each of the first six lines of a text.
-fn are_found_in(rt: &impl Abort, heap: Global, decl: &Decl, text: &str, replies: &[Reply]) {
-    let journal = read_journal(heap, decl, text.as_bytes()).expect(rt, "it is a journal");
+// Each of these replies is found in each of the first six lines.
+fn are_found_in_each(
+    rt: &impl Abort,
+    heap: Global,
+    decl: &Decl,
+    openings: &[Vec<u64>],
+    lines: &[Line],
+    replies: &[Reply],
+) {
     for number in 0..6u32 {
-        are_found(rt, heap, decl, &journal.lines, number, replies);
+        are_found(rt, heap, decl, openings, lines, number, replies);
     }
+}
+
+// Each of these replies is found in each of the first six lines of a text, where the one resource opens with 0.
+fn are_found_in(rt: &impl Abort, heap: Global, decl: &Decl, text: &str, replies: &[Reply]) {
+    let openings = opened(rt, heap, &[0]);
+    let journal = read_journal(heap, decl, text.as_bytes()).expect(rt, "it is a journal");
+    are_found_in_each(rt, heap, decl, &openings, &journal.lines, replies);
+    drop(journal);
+    drop(openings);
 }
 
 #[test]
 fn finds_each_forged_reply(rt: HostRuntime) {
     let decl = declared(&rt, rt.alloc(), SLOT);
     are_found_in(&rt, rt.alloc(), &decl, DEPOSITED, &REPLIES);
+    drop(decl);
 }

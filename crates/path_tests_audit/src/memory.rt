@@ -18,7 +18,9 @@ fn is_sound_of<A: Allocator + Copy>(
     text: &str,
 ) -> Result<bool, OutOfMemory> {
     let openings = opening(alloc, &[0])?;
-    match verdict(alloc, decl, 4096, &openings, text) {
+    let found = verdict(alloc, decl, 4096, &openings, text);
+    drop(openings);
+    match found {
         Ok(found) => Ok(found == Verdict::Sound),
         Err(Refusal::Text(TextFault::OutOfMemory) | Refusal::Audit(AuditFault::OutOfMemory)) => {
             Err(OutOfMemory)
@@ -34,7 +36,11 @@ fn is_sound<A: Allocator + Copy>(
     text: &str,
 ) -> Result<bool, OutOfMemory> {
     match read(alloc, declaration) {
-        Ok(decl) => is_sound_of(alloc, &decl, text),
+        Ok(decl) => {
+            let is_sound = is_sound_of(alloc, &decl, text);
+            drop(decl);
+            is_sound
+        }
         Err(DeclFault::OutOfMemory) => Err(OutOfMemory),
         Err(_) => Ok(false),
     }

@@ -64,23 +64,34 @@ fn found(
     audit(heap, decl, room, openings, lines)
 }
 
+// What is found of these lines in a room for them, in one with a place less, and in a large one where a finish follows.
+fn judged(
+    rt: &impl Abort,
+    heap: Global,
+    decl: &Decl,
+    openings: &[Vec<u64>],
+    lines: &mut Vec<Line>,
+) -> [Result<Verdict, AuditFault>; 3] {
+    let enough = found(heap, decl, openings, 600, lines);
+    let too_small = found(heap, decl, openings, 599, lines);
+    assert!(rt; lines.push(finish_of(0)).is_ok());
+    [enough, too_small, found(heap, decl, openings, 4096, lines)]
+}
+
+const JUDGED: [Result<Verdict, AuditFault>; 3] = [
+    Ok(Verdict::Sound),
+    Ok(Verdict::WrongLine(299)),
+    Ok(Verdict::WrongLine(600)),
+];
+
 // The last start wants a room for all lines; and nothing finishes twice.
 fn are_judged(rt: &impl Abort, heap: Global, decl: &Decl, last_first: bool) {
     let openings = opened(rt, heap, &[0]);
     let mut lines = overlapping(heap, 300, last_first).expect(rt, "there is memory");
-    assert_eq!(rt;
-        found(heap, decl, &openings, 600, &lines),
-        Ok(Verdict::Sound)
-    );
-    assert_eq!(rt;
-        found(heap, decl, &openings, 599, &lines),
-        Ok(Verdict::WrongLine(299))
-    );
-    assert!(rt; lines.push(finish_of(0)).is_ok());
-    assert_eq!(rt;
-        found(heap, decl, &openings, 4096, &lines),
-        Ok(Verdict::WrongLine(600))
-    );
+    let judged = judged(rt, heap, decl, &openings, &mut lines);
+    drop(lines);
+    drop(openings);
+    assert_eq!(rt; judged, JUDGED);
 }
 
 #[test]
@@ -88,4 +99,5 @@ fn audits_many_live_activations(rt: HostRuntime) {
     let decl = declared(&rt, rt.alloc(), READERS);
     are_judged(&rt, rt.alloc(), &decl, false);
     are_judged(&rt, rt.alloc(), &decl, true);
+    drop(decl);
 }

@@ -58,7 +58,9 @@ pub(crate) fn verdict<A: Allocator + Copy>(
         Err(fault) => return Err(Refusal::Text(fault)),
     };
     let room = journal.room.unwrap_or(room);
-    match audit(alloc, decl, room, openings, &journal.lines) {
+    let found = audit(alloc, decl, room, openings, &journal.lines);
+    drop(journal);
+    match found {
         Ok(found) => Ok(found),
         Err(fault) => Err(Refusal::Audit(fault)),
     }

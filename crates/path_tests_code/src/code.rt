@@ -135,13 +135,23 @@ pub(crate) fn listed_code<A: Allocator + Copy>(
 
 // The listing of a declaration's code, with the names of another one.
 fn listed_with(rt: &impl Abort, heap: Global, decl: &Decl, names: &Decl) -> String {
-    listed_code(rt, heap, names, &translated(rt, heap, decl))
+    let code = translated(rt, heap, decl);
+    let text = listed_code(rt, heap, names, &code);
+    drop(code);
+    text
 }
 
 // The listing of the code of a text.
 pub(crate) fn listed(rt: &impl Abort, heap: Global, text: &str) -> String {
     let decl = declared(rt, heap, text);
-    listed_with(rt, heap, &decl, &decl)
+    let listed = listed_with(rt, heap, &decl, &decl);
+    drop(decl);
+    listed
+}
+
+/// What was written is this.
+pub(crate) fn expect_text(rt: &impl Abort, text: &str, want: &str) {
+    assert_eq!(rt; text, want);
 }
 
 // A text, and the listing of its code.
@@ -157,7 +167,8 @@ const LISTINGS: &[(&str, &str)] = &[
 
 fn lists(rt: &impl Abort, heap: Global, rows: &[(&str, &str)]) {
     for (text, want) in rows {
-        assert_eq!(rt; listed(rt, heap, text).as_str(), *want);
+        let listed = listed(rt, heap, text);
+        expect_text(rt, &listed, want);
     }
 }
 
@@ -180,7 +191,10 @@ d: P(s0) | V(s1)
 fn lists_with(rt: &impl Abort, heap: Global, text: &str, names: &str, want: &str) {
     let decl = declared(rt, heap, text);
     let names = declared(rt, heap, names);
-    assert_eq!(rt; listed_with(rt, heap, &decl, &names).as_str(), want);
+    let listed = listed_with(rt, heap, &decl, &names);
+    drop(decl);
+    drop(names);
+    expect_text(rt, &listed, want);
 }
 
 // The names are those of another declaration, as far as it has them.
@@ -204,17 +218,17 @@ const BOOK_OPS: &[OpCode] = &[
     },
 ];
 
-fn expect_book(rt: &impl Abort, path: &PathCode<'_>) {
-    assert_eq!(rt; path.resource, ResId(0));
-    assert_eq!(rt; path.semaphores.as_slice(), [(0, 1)].as_slice());
-    assert_eq!(rt; path.braces.as_slice(), [0].as_slice());
-    assert_eq!(rt; path.ops.as_slice(), BOOK_OPS);
+fn is_book(path: &PathCode<'_>) -> bool {
+    path.resource == ResId(0)
+        && path.semaphores.as_slice() == [(0, 1)].as_slice()
+        && path.braces.as_slice() == [0].as_slice()
+        && path.ops.as_slice() == BOOK_OPS
 }
 
 fn expect_book_alone(rt: &impl Abort, paths: &[PathCode<'_>]) {
-    assert_eq!(rt; paths.len(), 1);
+    assert!(rt; paths.len() == 1);
     for path in paths {
-        expect_book(rt, path);
+        assert!(rt; is_book(path));
     }
 }
 
@@ -223,11 +237,16 @@ fn fields_of_a_path(rt: HostRuntime) {
     let decl = declared(&rt, rt.alloc(), BOOK);
     let code = translated(&rt, rt.alloc(), &decl);
     expect_book_alone(&rt, code.paths());
+    drop(code);
+    drop(decl);
 }
 
 // Of how many paths a declaration has code.
 fn count_paths<A: Allocator + Copy>(alloc: A, decl: &Decl<A>) -> Result<usize, OutOfMemory> {
-    Ok(translate(alloc, decl)?.paths().len())
+    let code = translate(alloc, decl)?;
+    let count = code.paths().len();
+    drop(code);
+    Ok(count)
 }
 
 // Of how many paths a text has code.
@@ -237,7 +256,9 @@ fn translates<A: Allocator + Copy>(
     text: &str,
 ) -> Result<usize, OutOfMemory> {
     let decl = read_by(rt, alloc, text)?;
-    count_paths(alloc, &decl)
+    let count = count_paths(alloc, &decl);
+    drop(decl);
+    count
 }
 
 // Reading and translating the text want memory in turn, until there is the code of so many paths.
@@ -259,7 +280,10 @@ fn is_listed<A: Allocator + Copy>(
     code: &Code<'_>,
     want: &str,
 ) -> Result<bool, OutOfMemory> {
-    Ok(listing(alloc, code.decl(), code)?.as_str() == want)
+    let text = listing(alloc, code.decl(), code)?;
+    let is_so = text.as_str() == want;
+    drop(text);
+    Ok(is_so)
 }
 
 // Listing the code wants memory in turn, until the listing is this one.
@@ -274,4 +298,6 @@ fn listing_wants_memory(rt: HostRuntime) {
     let decl = declared(&rt, rt.alloc(), LONE);
     let code = translated(&rt, rt.alloc(), &decl);
     lists_in_turn(&rt, rt.alloc(), &code, LONE_LISTING);
+    drop(code);
+    drop(decl);
 }

@@ -1,6 +1,6 @@
 //! What compiled paths are trimmed to, and the listings that show it.
 
-use crate::code::{self, declared, listed_code, read_by, translated};
+use crate::code::{self, declared, expect_text, listed_code, read_by, translated};
 use crate::in_turn::refuse_in_turn;
 use path_code::{Epilogue, Prologue, translate};
 use path_decl::Decl;
@@ -92,16 +92,18 @@ fn trimmed(rt: &impl Abort, heap: Global, decl: &Decl) -> Lean {
 
 // The listing of what is left of a declaration's code, with the names of another one.
 fn listed_with(rt: &impl Abort, heap: Global, decl: &Decl, names: &Decl) -> String {
-    match lean_listing(heap, names, &trimmed(rt, heap, decl)) {
-        Ok(text) => text,
-        Err(OutOfMemory) => panic!(rt; "out of memory"),
-    }
+    let lean = trimmed(rt, heap, decl);
+    let text = lean_listing(heap, names, &lean);
+    drop(lean);
+    text.expect(rt, "memory is ample")
 }
 
 // The listing of what is left of the code of a text.
 fn listed(rt: &impl Abort, heap: Global, text: &str) -> String {
     let decl = declared(rt, heap, text);
-    listed_with(rt, heap, &decl, &decl)
+    let listed = listed_with(rt, heap, &decl, &decl);
+    drop(decl);
+    listed
 }
 
 // A text, and the listing of what is left of its code.
@@ -117,7 +119,8 @@ const LISTINGS: &[(&str, &str)] = &[
 
 fn lists(rt: &impl Abort, heap: Global, rows: &[(&str, &str)]) {
     for (text, want) in rows {
-        assert_eq!(rt; listed(rt, heap, text).as_str(), *want);
+        let listed = listed(rt, heap, text);
+        expect_text(rt, &listed, want);
     }
 }
 
@@ -138,7 +141,10 @@ s1 = 1
 fn lists_with(rt: &impl Abort, heap: Global, text: &str, names: &str, want: &str) {
     let decl = declared(rt, heap, text);
     let names = declared(rt, heap, names);
-    assert_eq!(rt; listed_with(rt, heap, &decl, &names).as_str(), want);
+    let listed = listed_with(rt, heap, &decl, &names);
+    drop(decl);
+    drop(names);
+    expect_text(rt, &listed, want);
 }
 
 // The names are those of another declaration, as far as it has them.
@@ -197,9 +203,17 @@ const REMOVED: &[(&str, &[Removed])] = &[
     ),
 ];
 
+// This is what was removed of the code of a text.
+fn expect_removed(rt: &impl Abort, removed: &[Removed], want: &[Removed], text: &str) {
+    assert_eq!(rt; removed, want, "at {text:?}");
+}
+
 fn removes(rt: &impl Abort, heap: Global, text: &str, want: &[Removed]) {
     let decl = declared(rt, heap, text);
-    assert_eq!(rt; removed(&trimmed(rt, heap, &decl)), want, "at {text:?}");
+    let lean = trimmed(rt, heap, &decl);
+    drop(decl);
+    expect_removed(rt, removed(&lean), want, text);
+    drop(lean);
 }
 
 fn removes_each(rt: &impl Abort, heap: Global, rows: &[(&str, &[Removed])]) {
@@ -227,17 +241,17 @@ const BOOK_OPS: &[LeanOp] = &[
     },
 ];
 
-fn expect_book(rt: &impl Abort, path: &LeanPath) {
-    assert_eq!(rt; path.path, PathId(0));
-    assert_eq!(rt; path.semaphores.as_slice(), [(0, 1)].as_slice());
-    assert_eq!(rt; path.counters.as_slice(), [0].as_slice());
-    assert_eq!(rt; path.ops.as_slice(), BOOK_OPS);
+fn is_book(path: &LeanPath) -> bool {
+    path.path == PathId(0)
+        && path.semaphores.as_slice() == [(0, 1)].as_slice()
+        && path.counters.as_slice() == [0].as_slice()
+        && path.ops.as_slice() == BOOK_OPS
 }
 
 fn expect_book_alone(rt: &impl Abort, paths: &[LeanPath]) {
-    assert_eq!(rt; paths.len(), 1);
+    assert!(rt; paths.len() == 1);
     for path in paths {
-        expect_book(rt, path);
+        assert!(rt; is_book(path));
     }
 }
 
@@ -245,7 +259,9 @@ fn expect_book_alone(rt: &impl Abort, paths: &[LeanPath]) {
 fn fields_of_a_path(rt: HostRuntime) {
     let decl = declared(&rt, rt.alloc(), BOOK);
     let lean = trimmed(&rt, rt.alloc(), &decl);
+    drop(decl);
     expect_book_alone(&rt, kept(&lean));
+    drop(lean);
 }
 
 // How many paths are kept of a declaration's code. A refusal hands back the code, which is listed so.
@@ -256,10 +272,17 @@ fn count_kept<A: Allocator + Copy>(
     heap: Global,
     want: &str,
 ) -> Result<usize, OutOfMemory> {
-    match trim(alloc, translate(alloc, decl)?) {
-        Ok(lean) => Ok(kept(&lean).len()),
+    let code = translate(alloc, decl)?;
+    match trim(alloc, code) {
+        Ok(lean) => {
+            let count = kept(&lean).len();
+            drop(lean);
+            Ok(count)
+        }
         Err((code, fault)) => {
-            assert_eq!(rt; listed_code(rt, heap, decl, &code).as_str(), want);
+            let listed = listed_code(rt, heap, decl, &code);
+            drop(code);
+            expect_text(rt, &listed, want);
             Err(fault)
         }
     }
@@ -274,7 +297,9 @@ fn trims<A: Allocator + Copy>(
     want: &str,
 ) -> Result<usize, OutOfMemory> {
     let decl = read_by(rt, alloc, text)?;
-    count_kept(rt, alloc, &decl, heap, want)
+    let count = count_kept(rt, alloc, &decl, heap, want);
+    drop(decl);
+    count
 }
 
 // Reading, translating and trimming want memory in turn, until so many paths are kept.
@@ -300,7 +325,10 @@ fn is_listed<A: Allocator + Copy>(
     lean: &Lean,
     want: &str,
 ) -> Result<bool, OutOfMemory> {
-    Ok(lean_listing(alloc, decl, lean)?.as_str() == want)
+    let text = lean_listing(alloc, decl, lean)?;
+    let is_so = text.as_str() == want;
+    drop(text);
+    Ok(is_so)
 }
 
 // Listing what is left wants memory in turn, until the listing is this one.
@@ -315,4 +343,6 @@ fn listing_wants_memory(rt: HostRuntime) {
     let decl = declared(&rt, rt.alloc(), LONE);
     let lean = trimmed(&rt, rt.alloc(), &decl);
     lists_in_turn(&rt, rt.alloc(), &decl, &lean, LONE_LISTING);
+    drop(lean);
+    drop(decl);
 }

@@ -1,5 +1,6 @@
 //! A journal in, a verdict out.
 
+use crate::commands::ends_so;
 use path_commands::{audit_bytes, audit_to};
 use path_decl::Decl;
 use path_read::read;
@@ -156,38 +157,31 @@ const REFUSED: &[Row] = &[
 ];
 
 fn declared(rt: &impl Abort, heap: Global, text: &str) -> Decl {
-    let Ok(decl) = read(heap, text.as_bytes()) else {
-        panic!(rt; "no declaration");
-    };
-    decl
+    read(heap, text.as_bytes()).expect(rt, "it is a declaration")
 }
 
 // An audit of bytes ends so.
 fn bytes_end_so(rt: &impl Abort, heap: Global, declaration: &str, row: &Row) {
-    let mut out: Vec<u8> = Vec::new(heap);
-    let mut err: Vec<u8> = Vec::new(heap);
+    let mut out = Vec::new(heap);
+    let mut err = Vec::new(heap);
     let (declaration, journal) = (declaration.as_bytes(), row.1.as_bytes());
     let status = audit_bytes(heap, declaration, row.0, journal, &mut out, &mut err);
-    assert_eq!(rt; out.as_slice(), row.3.as_bytes(), "for {row:?}");
-    assert_eq!(rt; err.as_slice(), row.4.as_bytes(), "for {row:?}");
-    assert_eq!(rt; status, row.2);
+    ends_so(rt, row.1, (status, &out, &err), (row.2, row.3, row.4));
 }
 
 // An audit under a declaration that was read ends so.
-fn ends_so(rt: &impl Abort, heap: Global, decl: Decl, row: &Row) {
-    let mut out: Vec<u8> = Vec::new(heap);
-    let mut err: Vec<u8> = Vec::new(heap);
+fn audits_so(rt: &impl Abort, heap: Global, decl: Decl, row: &Row) {
+    let mut out = Vec::new(heap);
+    let mut err = Vec::new(heap);
     let status = audit_to(heap, decl, row.0, row.1.as_bytes(), &mut out, &mut err);
-    assert_eq!(rt; out.as_slice(), row.3.as_bytes(), "for {row:?}");
-    assert_eq!(rt; err.as_slice(), row.4.as_bytes(), "for {row:?}");
-    assert_eq!(rt; status, row.2);
+    ends_so(rt, row.1, (status, &out, &err), (row.2, row.3, row.4));
 }
 
 // Both audits of each row end so.
 fn all_end_so(rt: &impl Abort, heap: Global, declaration: &str, rows: &[Row]) {
     for row in rows {
         bytes_end_so(rt, heap, declaration, row);
-        ends_so(rt, heap, declared(rt, heap, declaration), row);
+        audits_so(rt, heap, declared(rt, heap, declaration), row);
     }
 }
 
@@ -201,15 +195,17 @@ fn the_text_brings_its_room(rt: HostRuntime) {
     all_end_so(&rt, rt.alloc(), SLOT, ROOMS);
 }
 
+/// A journal under no declaration.
+const UNDECLARED: Row = (
+    0,
+    "journal 3",
+    Status::DeclarationRefused,
+    "",
+    "declaration: bad byte at 9\n",
+);
+
 #[test]
 fn the_first_cause_counts(rt: HostRuntime) {
     all_end_so(&rt, rt.alloc(), SLOT, REFUSED);
-    let undeclared = (
-        0,
-        "journal 3",
-        Status::DeclarationRefused,
-        "",
-        "declaration: bad byte at 9\n",
-    );
-    bytes_end_so(&rt, rt.alloc(), "resource _r", &undeclared);
+    bytes_end_so(&rt, rt.alloc(), "resource _r", &UNDECLARED);
 }

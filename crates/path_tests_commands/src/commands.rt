@@ -5,8 +5,18 @@ use path_streams::Status;
 use path_trace::{ROOM, trace_bytes};
 use std::alloc::Allocator;
 use std::io::Write;
+use std::process::Abort;
 
-#[derive(Clone, Copy, Debug)]
+/// How a call ends: its status, what it writes on its output, and what it says on standard error.
+pub type Ending<'a> = (Status, &'a str, &'a str);
+
+/// The call on this text, which wrote and said this, ended as told.
+pub fn ends_so(rt: &impl Abort, text: &str, ended: (Status, &[u8], &[u8]), want: Ending<'_>) {
+    let want = (want.0, want.1.as_bytes(), want.2.as_bytes());
+    assert_eq!(rt; ended, want, "for {text:?}");
+}
+
+#[derive(Clone, Copy)]
 pub enum Command {
     Check,
     Compile,

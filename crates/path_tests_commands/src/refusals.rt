@@ -1,6 +1,6 @@
 //! Writers that fail, and want of memory.
 
-use crate::commands::{COMMANDS, Command, Row, ends};
+use crate::commands::{COMMANDS, Command, Row, ends, ends_so};
 use crate::failing::Failing;
 use path_streams::Status;
 use refusing::Refusing;
@@ -16,12 +16,11 @@ fn fails_so(
     mut out: Failing,
     want: (usize, Status, &str),
 ) {
-    let mut err: Vec<u8> = Vec::new(heap);
+    let mut err = Vec::new(heap);
     let status = ends(heap, row, &mut out, &mut err);
-    assert_eq!(rt; status, want.1, "for {row:?}");
-    assert_eq!(rt; out.bytes.len(), want.0);
-    assert!(rt; row.4.as_bytes().starts_with(out.bytes.as_slice()));
-    assert_eq!(rt; err.as_slice(), want.2.as_bytes());
+    let front = row.4.get(..want.0).expect(rt, "the text is longer");
+    let ended = (status, out.bytes.as_slice(), err.as_slice());
+    ends_so(rt, row.1, ended, (want.1, front, want.2));
 }
 
 // Each write fails in turn, of five bytes, and after the last one none does.
@@ -59,8 +58,8 @@ const UNDECLARED: Row = (Command::Audit, "", "", Status::DeclarationRefused, "")
 fn cannot_tell(rt: &impl Abort, heap: Global, row: &Row) {
     let mut out: Vec<u8> = Vec::new(heap);
     let mut err = Failing::new(heap, 0, ErrorKind::Other);
-    assert_eq!(rt; ends(heap, row, &mut out, &mut err), Status::StreamFailed);
-    assert!(rt; out.is_empty());
+    let status = ends(heap, row, &mut out, &mut err);
+    assert!(rt; status == Status::StreamFailed && out.is_empty());
 }
 
 #[test]
@@ -71,18 +70,17 @@ fn a_fault_that_cannot_be_told(rt: HostRuntime) {
 // Whether the request of this number was made and refused; the status then says so, and nothing was written.
 fn is_refused_at(rt: &impl Abort, heap: Global, row: &Row, number: u64) -> bool {
     let refusing = Refusing::new(heap, number);
-    let mut out: Vec<u8> = Vec::new(heap);
-    let mut err: Vec<u8> = Vec::new(heap);
+    let mut out = Vec::new(heap);
+    let mut err = Vec::new(heap);
     let status = ends(&refusing, row, &mut out, &mut err);
-    if !refusing.has_refused() {
-        assert_eq!(rt; status, row.3);
-        assert_eq!(rt; out.as_slice(), row.4.as_bytes());
-        return false;
-    }
-    assert_eq!(rt; status, Status::NoMemory, "at {number} for {row:?}");
-    assert!(rt; out.is_empty());
-    assert_eq!(rt; err.as_slice(), b"out of memory\n".as_slice());
-    true
+    let is_refused = refusing.has_refused();
+    let want = if is_refused {
+        (Status::NoMemory, "", "out of memory\n")
+    } else {
+        (row.3, row.4, "")
+    };
+    ends_so(rt, row.1, (status, &out, &err), want);
+    is_refused
 }
 
 // Each request is refused in turn, until the command ends as it does with ample memory.

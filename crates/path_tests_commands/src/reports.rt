@@ -1,5 +1,6 @@
 //! Traces that end with a report.
 
+use crate::commands::ends_so;
 use path_streams::Status;
 use path_trace::{ROOM, trace_bytes};
 use std::alloc::Global;
@@ -47,13 +48,11 @@ const ROWS: &[Row] = &[
 
 // A trace with its report writes this.
 fn reports_so(rt: &impl Abort, heap: Global, row: &Row) {
-    let mut out: Vec<u8> = Vec::new(heap);
-    let mut err: Vec<u8> = Vec::new(heap);
+    let mut out = Vec::new(heap);
+    let mut err = Vec::new(heap);
     let (declaration, attempts) = (row.0.as_bytes(), row.2.as_bytes());
     let status = trace_bytes(heap, declaration, row.1, true, attempts, &mut out, &mut err);
-    assert_eq!(rt; out.as_slice(), row.3.as_bytes(), "for {row:?}");
-    assert!(rt; err.is_empty());
-    assert_eq!(rt; status, Status::Done);
+    ends_so(rt, row.2, (status, &out, &err), (Status::Done, row.3, ""));
 }
 
 fn all_report_so(rt: &impl Abort, heap: Global, rows: &[Row]) {
@@ -85,13 +84,11 @@ const REFUSED: &[Refused] = &[
 
 // A trace that is refused writes no report.
 fn is_refused_so(rt: &impl Abort, heap: Global, declaration: &str, row: &Refused) {
-    let mut out: Vec<u8> = Vec::new(heap);
-    let mut err: Vec<u8> = Vec::new(heap);
+    let mut out = Vec::new(heap);
+    let mut err = Vec::new(heap);
     let (declaration, attempts) = (declaration.as_bytes(), row.1.as_bytes());
     let status = trace_bytes(heap, declaration, row.0, true, attempts, &mut out, &mut err);
-    assert!(rt; out.is_empty(), "for {row:?}");
-    assert_eq!(rt; err.as_slice(), row.3.as_bytes(), "for {row:?}");
-    assert_eq!(rt; status, row.2);
+    ends_so(rt, row.1, (status, &out, &err), (row.2, "", row.3));
 }
 
 fn all_are_refused_so(rt: &impl Abort, heap: Global, declaration: &str, rows: &[Refused]) {

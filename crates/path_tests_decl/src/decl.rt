@@ -23,10 +23,7 @@ pub(crate) const SEVERAL: &str =
 
 // The fault of a text, if it has one.
 pub(crate) fn fault_of(heap: Global, text: &[u8]) -> Option<DeclFault> {
-    match read(heap, text) {
-        Ok(_) => None,
-        Err(fault) => Some(fault),
-    }
+    read(heap, text).err()
 }
 
 // The text has this fault, or none.
@@ -94,12 +91,24 @@ fn drawn(rt: &impl Abort, heap: Global, decl: &Decl, path: u32) -> String {
     text
 }
 
+/// What was written is this.
+pub(crate) fn expect_text(rt: &impl Abort, text: &str, want: &str) {
+    assert_eq!(rt; text, want);
+}
+
 // The tree of each path is drawn so.
+fn are_drawn_so(rt: &impl Abort, heap: Global, decl: &Decl, rows: &[(u32, &str)]) {
+    for (path, want) in rows {
+        let text = drawn(rt, heap, decl, *path);
+        expect_text(rt, &text, want);
+    }
+}
+
+// The tree of each path of the text is drawn so.
 pub(crate) fn draws(rt: &impl Abort, heap: Global, text: &str, rows: &[(u32, &str)]) {
     let decl = declared(rt, heap, text);
-    for (path, want) in rows {
-        assert_eq!(rt; drawn(rt, heap, &decl, *path).as_str(), *want, "at {path}");
-    }
+    are_drawn_so(rt, heap, &decl, rows);
+    drop(decl);
 }
 
 // The declaration of a text, which is well formed.
@@ -132,7 +141,9 @@ fn expect_found(rt: &impl Abort, decl: &Decl, rows: &[Named<'_>]) {
 
 #[test]
 fn slot_by_name(rt: HostRuntime) {
-    expect_found(&rt, &declared(&rt, rt.alloc(), SLOT), NAMED);
+    let decl = declared(&rt, rt.alloc(), SLOT);
+    expect_found(&rt, &decl, NAMED);
+    drop(decl);
 }
 
 /// A number, and the names of the operation and of the resource that have it.
@@ -159,15 +170,19 @@ fn expect_names(rt: &impl Abort, decl: &Decl, rows: &[Numbered<'_>]) {
 
 #[test]
 fn slot_by_number(rt: HostRuntime) {
-    expect_names(&rt, &declared(&rt, rt.alloc(), SLOT), NUMBERED);
+    let decl = declared(&rt, rt.alloc(), SLOT);
+    expect_names(&rt, &decl, NUMBERED);
+    drop(decl);
 }
 
 const FIRST: Option<ResId> = Some(ResId(0));
 
 const SECOND: Option<ResId> = Some(ResId(1));
 
-// A number, and the resources of its operation and of its path.
-const OWNERS: &[(u32, Option<ResId>, Option<ResId>)] = &[
+/// A number, and the resources of its operation and of its path.
+type Owned = (u32, Option<ResId>, Option<ResId>);
+
+const OWNERS: &[Owned] = &[
     (0, FIRST, FIRST),
     (1, FIRST, FIRST),
     (2, FIRST, SECOND),
@@ -176,21 +191,27 @@ const OWNERS: &[(u32, Option<ResId>, Option<ResId>)] = &[
     (5, None, None),
 ];
 
-fn owner_of(decl: &Decl, number: u32) -> Option<ResId> {
-    resource_of(decl, OpId(number))
+fn owners_of(decl: &Decl, number: u32) -> (Option<ResId>, Option<ResId>) {
+    (
+        resource_of(decl, OpId(number)),
+        path_resource(decl, PathId(number)),
+    )
 }
 
-fn path_owner_of(decl: &Decl, number: u32) -> Option<ResId> {
-    path_resource(decl, PathId(number))
+fn expect_owners(rt: &impl Abort, decl: &Decl, rows: &[Owned]) {
+    for (number, of_operation, of_path) in rows {
+        assert!(rt;
+            owners_of(decl, *number) == (*of_operation, *of_path),
+            "at {number}"
+        );
+    }
 }
 
 #[test]
 fn owners(rt: HostRuntime) {
     let decl = declared(&rt, rt.alloc(), SEVERAL);
-    for (number, of_operation, of_path) in OWNERS {
-        assert_eq!(rt; owner_of(&decl, *number), *of_operation, "at {number}");
-        assert_eq!(rt; path_owner_of(&decl, *number), *of_path, "at {number}");
-    }
+    expect_owners(&rt, &decl, OWNERS);
+    drop(decl);
 }
 
 // How many resources, operations and paths there are.
@@ -201,16 +222,23 @@ fn totals_of<A: Allocator + Copy>(decl: &Decl<A>) -> (u32, u32, u32) {
 
 // How many resources, operations and paths a text declares.
 fn counted<A: Allocator + Copy>(alloc: A, text: &str) -> Result<(u32, u32, u32), DeclFault> {
-    match read(alloc, text.as_bytes()) {
-        Ok(decl) => Ok(totals_of(&decl)),
-        Err(fault) => Err(fault),
+    let decl = read(alloc, text.as_bytes())?;
+    let totals = totals_of(&decl);
+    drop(decl);
+    Ok(totals)
+}
+
+const TOTALS: &[(&str, (u32, u32, u32))] = &[(SLOT, (1, 2, 1)), (SEVERAL, (2, 5, 4))];
+
+fn expect_totals(rt: &impl Abort, heap: Global, rows: &[(&str, (u32, u32, u32))]) {
+    for (text, want) in rows {
+        assert_eq!(rt; counted(heap, text), Ok(*want));
     }
 }
 
 #[test]
 fn totals(rt: HostRuntime) {
-    assert_eq!(rt; counted(rt.alloc(), SLOT), Ok((1, 2, 1)));
-    assert_eq!(rt; counted(rt.alloc(), SEVERAL), Ok((2, 5, 4)));
+    expect_totals(&rt, rt.alloc(), TOTALS);
 }
 
 const TREES: &[(u32, &str)] = &[
@@ -252,7 +280,8 @@ const NAMED_BY: &[(u32, &str)] = &[(0, " 0 2"), (1, " 0 1 2"), (2, ""), (3, " 3"
 
 fn expect_listed(rt: &impl Abort, heap: Global, decl: &Decl, rows: &[(u32, &str)]) {
     for (op, want) in rows {
-        assert_eq!(rt; listed(rt, heap, decl, *op).as_str(), *want, "at {op}");
+        let text = listed(rt, heap, decl, *op);
+        expect_text(rt, &text, want);
     }
 }
 
@@ -260,6 +289,7 @@ fn expect_listed(rt: &impl Abort, heap: Global, decl: &Decl, rows: &[(u32, &str)
 fn paths_that_name(rt: HostRuntime) {
     let decl = declared(&rt, rt.alloc(), NAMING);
     expect_listed(&rt, rt.alloc(), &decl, NAMED_BY);
+    drop(decl);
 }
 
 // Reading the text wants memory in turn, until it declares so many resources, operations and paths.
@@ -294,7 +324,7 @@ const NAMES: &[(&str, bool)] = &[
 
 fn expect_is_name(rt: &impl Abort, rows: &[(&str, bool)]) {
     for (text, want) in rows {
-        assert_eq!(rt; is_name(text.as_bytes()), *want, "at {text:?}");
+        assert!(rt; is_name(text.as_bytes()) == *want, "at {text:?}");
     }
 }
 

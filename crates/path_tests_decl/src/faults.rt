@@ -1,6 +1,6 @@
 //! Faults of texts, and what is told of them.
 
-use crate::decl::expect_faults;
+use crate::decl::{expect_faults, expect_text};
 use path_lex::DeclFault;
 use std::alloc::Global;
 use std::process::Abort;
@@ -109,10 +109,15 @@ const TOLD: &[(DeclFault, &str)] = &[
     (DeclFault::OutOfMemory, "out of memory"),
 ];
 
+// What is told of a fault.
+fn told(rt: &impl Abort, heap: Global, fault: DeclFault) -> String {
+    format!(in heap; "{fault}").expect(rt, "memory is ample")
+}
+
 fn expect_told(rt: &impl Abort, heap: Global, rows: &[(DeclFault, &str)]) {
     for (fault, want) in rows {
-        let text = format!(in heap; "{fault}").expect(rt, "memory is ample");
-        assert_eq!(rt; text.as_str(), *want);
+        let text = told(rt, heap, *fault);
+        expect_text(rt, &text, want);
     }
 }
 

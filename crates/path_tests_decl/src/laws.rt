@@ -31,15 +31,15 @@ fn law_in<A: Allocator + Copy>(
     text: &str,
     number: u32,
 ) -> Result<Option<Law>, DeclFault> {
-    match read(alloc, text.as_bytes()) {
-        Ok(decl) => Ok(law_of(&decl, ResId(number))),
-        Err(fault) => Err(fault),
-    }
+    let decl = read(alloc, text.as_bytes())?;
+    let law = law_of(&decl, ResId(number));
+    drop(decl);
+    Ok(law)
 }
 
 fn expect_laws(rt: &impl Abort, heap: Global, rows: &[(&str, u32, Option<Law>)]) {
     for (text, number, want) in rows {
-        assert_eq!(rt; law_in(heap, text, *number), Ok(*want), "at {number}");
+        assert!(rt; law_in(heap, text, *number) == Ok(*want), "at {number}");
     }
 }
 

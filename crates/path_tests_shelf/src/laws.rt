@@ -5,8 +5,8 @@ use crate::remembering::Remembering;
 use path_model::{Law, OutOfMemory, Verb};
 use path_shelf::{ActFault, Cell, Device, Queue, Tally};
 use refusing::Refusing;
+use std::alloc::Global;
 use std::process::Abort;
-use std::test::Fail;
 
 /// A verb, the answer to it, and what is contained afterwards.
 type Row<'a> = (Verb, Result<u64, ActFault>, &'a [u64]);
@@ -17,135 +17,175 @@ const NOT_OFFERED: Result<u64, ActFault> = Err(ActFault::NotOffered);
 fn contains<D: Device>(rt: &impl Abort, device: &D, numbers: &[u64]) {
     assert!(rt; numbers.len() < 10);
     for (place, number) in numbers.iter().enumerate() {
-        assert_eq!(rt; device.at(place as u32), Some(*number));
+        assert!(rt; device.at(place as u32) == Some(*number));
     }
-    assert_eq!(rt; device.at(numbers.len() as u32), None);
-    assert_eq!(rt; device.at(u32::MAX), None);
+    let end = numbers.len() as u32;
+    assert!(rt; device.at(end).is_none() && device.at(u32::MAX).is_none());
 }
 
-// The device has this law, never fails, and answers row by row.
-fn follows<D: Device>(rt: &impl Abort, mut device: D, law: Law, rows: &[Row<'_>]) {
+// The device answers row by row.
+fn answers_so<D: Device>(rt: &impl Abort, device: &mut D, rows: &[Row<'_>]) {
     for (verb, answer, contents) in rows {
         assert_eq!(rt; device.act(*verb), *answer);
-        contains(rt, &device, contents);
-        assert_eq!(rt; device.law(), law);
-        assert_eq!(rt; device.failures(), 0);
+        contains(rt, device, contents);
     }
 }
+
+// The device has this law, failed so often, and answers row by row without failing again.
+fn follows<D: Device>(rt: &impl Abort, device: &mut D, law: Law, failures: u64, rows: &[Row<'_>]) {
+    for row in rows {
+        answers_so(rt, device, &[*row]);
+        assert_eq!(rt; (device.law(), device.failures()), (law, failures));
+    }
+}
+
+const CELL: &[Row<'static>] = &[
+    (Verb::Look, Ok(3), &[3]),
+    (Verb::Put(u64::MAX), Ok(3), &[u64::MAX]),
+    (Verb::Take, NOT_OFFERED, &[u64::MAX]),
+    (Verb::Add(0), NOT_OFFERED, &[u64::MAX]),
+    (Verb::Look, Ok(u64::MAX), &[u64::MAX]),
+    (Verb::Put(0), Ok(u64::MAX), &[0]),
+];
 
 #[test]
 fn cell(rt: HostRuntime) {
-    let rows: [Row<'_>; 6] = [
-        (Verb::Look, Ok(3), &[3]),
-        (Verb::Put(u64::MAX), Ok(3), &[u64::MAX]),
-        (Verb::Take, NOT_OFFERED, &[u64::MAX]),
-        (Verb::Add(0), NOT_OFFERED, &[u64::MAX]),
-        (Verb::Look, Ok(u64::MAX), &[u64::MAX]),
-        (Verb::Put(0), Ok(u64::MAX), &[0]),
-    ];
-    follows(&rt, Cell::new(3), Law::Cell, &rows);
+    follows(&rt, &mut Cell::new(3), Law::Cell, 0, CELL);
 }
+
+const TALLY: &[Row<'static>] = &[
+    (Verb::Look, Ok(3), &[3]),
+    (Verb::Add(4), Ok(7), &[7]),
+    (Verb::Put(1), NOT_OFFERED, &[7]),
+    (Verb::Take, NOT_OFFERED, &[7]),
+    (Verb::Add(u64::MAX), Err(ActFault::Overflow), &[7]),
+    (Verb::Add(u64::MAX - 7), Ok(u64::MAX), &[u64::MAX]),
+];
 
 #[test]
 fn tally(rt: HostRuntime) {
-    let rows: [Row<'_>; 6] = [
-        (Verb::Look, Ok(3), &[3]),
-        (Verb::Add(4), Ok(7), &[7]),
-        (Verb::Put(1), NOT_OFFERED, &[7]),
-        (Verb::Take, NOT_OFFERED, &[7]),
-        (Verb::Add(u64::MAX), Err(ActFault::Overflow), &[7]),
-        (Verb::Add(u64::MAX - 7), Ok(u64::MAX), &[u64::MAX]),
-    ];
-    follows(&rt, Tally::new(3), Law::Tally, &rows);
+    follows(&rt, &mut Tally::new(3), Law::Tally, 0, TALLY);
 }
+
+const FULL_TALLY: &[Row<'static>] = &[
+    (Verb::Add(1), Err(ActFault::Overflow), &[u64::MAX]),
+    (Verb::Add(0), Ok(u64::MAX), &[u64::MAX]),
+    (Verb::Put(5), NOT_OFFERED, &[u64::MAX]),
+];
 
 #[test]
 fn tally_at_the_end(rt: HostRuntime) {
-    let rows: [Row<'_>; 3] = [
-        (Verb::Add(1), Err(ActFault::Overflow), &[u64::MAX]),
-        (Verb::Add(0), Ok(u64::MAX), &[u64::MAX]),
-        (Verb::Put(5), NOT_OFFERED, &[u64::MAX]),
-    ];
-    follows(&rt, Tally::new(u64::MAX), Law::Tally, &rows);
+    follows(&rt, &mut Tally::new(u64::MAX), Law::Tally, 0, FULL_TALLY);
 }
 
-#[test]
-fn queue_of_one(rt: HostRuntime) -> Result<(), Fail> {
-    let rows: [Row<'_>; 6] = [
-        (Verb::Put(9), Ok(1), &[9]),
-        (Verb::Put(9), Err(ActFault::Full), &[9]),
-        (Verb::Take, Ok(9), &[]),
-        (Verb::Take, Err(ActFault::Empty), &[]),
-        (Verb::Look, Err(ActFault::Empty), &[]),
-        (Verb::Add(1), NOT_OFFERED, &[]),
-    ];
-    let queue = Queue::new(rt.alloc(), 1)?;
-    follows(&rt, queue, Law::Queue(1), &rows);
-    Ok(())
+// An empty queue of so many places answers row by row.
+fn queue_follows(rt: &impl Abort, heap: Global, capacity: u32, rows: &[Row<'_>]) {
+    assert!(rt; 1 <= capacity && capacity <= 1024);
+    let mut queue = Queue::new(heap, capacity).expect(rt, "memory is ample");
+    follows(rt, &mut queue, Law::Queue(capacity), 0, rows);
+    drop(queue);
 }
 
+const ONE_PLACE: &[Row<'static>] = &[
+    (Verb::Put(9), Ok(1), &[9]),
+    (Verb::Put(9), Err(ActFault::Full), &[9]),
+    (Verb::Take, Ok(9), &[]),
+    (Verb::Take, Err(ActFault::Empty), &[]),
+    (Verb::Look, Err(ActFault::Empty), &[]),
+    (Verb::Add(1), NOT_OFFERED, &[]),
+];
+
 #[test]
-fn first_in_first_out(rt: HostRuntime) -> Result<(), Fail> {
-    let rows: [Row<'_>; 9] = [
-        (Verb::Put(4), Ok(1), &[4]),
-        (Verb::Put(5), Ok(2), &[4, 5]),
-        (Verb::Put(6), Ok(3), &[4, 5, 6]),
-        (Verb::Put(7), Err(ActFault::Full), &[4, 5, 6]),
-        (Verb::Look, Ok(4), &[4, 5, 6]),
-        (Verb::Take, Ok(4), &[5, 6]),
-        (Verb::Put(7), Ok(3), &[5, 6, 7]),
-        (Verb::Take, Ok(5), &[6, 7]),
-        (Verb::Take, Ok(6), &[7]),
-    ];
-    let queue = Queue::new(rt.alloc(), 3)?;
-    follows(&rt, queue, Law::Queue(3), &rows);
-    Ok(())
+fn queue_of_one(rt: HostRuntime) {
+    queue_follows(&rt, rt.alloc(), 1, ONE_PLACE);
+}
+
+const THREE_PLACES: &[Row<'static>] = &[
+    (Verb::Put(4), Ok(1), &[4]),
+    (Verb::Put(5), Ok(2), &[4, 5]),
+    (Verb::Put(6), Ok(3), &[4, 5, 6]),
+    (Verb::Put(7), Err(ActFault::Full), &[4, 5, 6]),
+    (Verb::Look, Ok(4), &[4, 5, 6]),
+    (Verb::Take, Ok(4), &[5, 6]),
+    (Verb::Put(7), Ok(3), &[5, 6, 7]),
+    (Verb::Take, Ok(5), &[6, 7]),
+    (Verb::Take, Ok(6), &[7]),
+];
+
+#[test]
+fn first_in_first_out(rt: HostRuntime) {
+    queue_follows(&rt, rt.alloc(), 3, THREE_PLACES);
+}
+
+// The device takes so many numbers and no more.
+fn is_filled<D: Device>(rt: &impl Abort, device: &mut D, count: u64) {
+    for number in 0..count {
+        assert!(rt; device.act(Verb::Put(number)) == Ok(number.saturating_add(1)));
+    }
+    assert!(rt; device.act(Verb::Put(0)) == Err(ActFault::Full));
+}
+
+// Without its first request there is no queue of so many places.
+fn wants_memory(rt: &impl Abort, heap: Global, capacity: u32) {
+    assert!(rt; 1 <= capacity && capacity <= 1024);
+    let refusing = Refusing::new(heap, 1);
+    let fault = Queue::new(&refusing, capacity).err();
+    assert!(rt; fault == Some(OutOfMemory) && refusing.has_refused());
+}
+
+// A queue of so many places makes no second request.
+fn wants_it_once(rt: &impl Abort, heap: Global, capacity: u32) {
+    assert!(rt; 1 <= capacity && capacity <= 1024);
+    let refusing = Refusing::new(heap, 2);
+    let mut queue = Queue::new(&refusing, capacity).expect(rt, "memory is ample");
+    is_filled(rt, &mut queue, u64::from(capacity));
+    drop(queue);
+    assert!(rt; !refusing.has_refused());
 }
 
 #[test]
 fn queue_wants_memory_once(rt: HostRuntime) {
-    for (capacity, refused) in [(1, 1), (1024, 1)] {
-        assert!(rt; 1 <= capacity && capacity <= 1024);
-        let refusing = Refusing::new(rt.alloc(), refused);
-        match Queue::new(&refusing, capacity) {
-            Ok(_) => panic!(rt; "it was refused"),
-            Err(OutOfMemory) => assert!(rt; refusing.has_refused()),
-        }
-        let refusing = Refusing::new(rt.alloc(), 2);
-        let Ok(mut queue) = Queue::new(&refusing, capacity) else {
-            panic!(rt; "memory is ample");
-        };
-        for number in 0..u64::from(capacity) {
-            assert_eq!(rt; queue.act(Verb::Put(number)), Ok(number.saturating_add(1)));
-        }
-        assert_eq!(rt; queue.act(Verb::Put(0)), Err(ActFault::Full));
-        assert!(rt; !refusing.has_refused());
+    for capacity in [1, 1024] {
+        wants_memory(&rt, rt.alloc(), capacity);
+        wants_it_once(&rt, rt.alloc(), capacity);
     }
+}
+
+// A tally that fails at this one of four uses.
+fn fails_once(rt: &impl Abort, fails_at: u64) {
+    let mut tally = FailingTally {
+        total: 0,
+        uses: 0,
+        fails_at,
+        failures: 0,
+    };
+    let mut total = 0u64;
+    for number in 1..5u64 {
+        let is_failure = number == fails_at;
+        total = total.saturating_add(if is_failure { 0 } else { 2 });
+        let want = if is_failure {
+            Err(ActFault::Failed)
+        } else {
+            Ok(total)
+        };
+        answers_so(rt, &mut tally, &[(Verb::Add(2), want, &[total])]);
+    }
+    assert_eq!(rt; (total, tally.failures()), (6, 1));
 }
 
 #[test]
 fn tally_fails_at_one_use(rt: HostRuntime) {
     for fails_at in 1..5u64 {
-        let mut tally = FailingTally {
-            total: 0,
-            uses: 0,
-            fails_at,
-            failures: 0,
-        };
-        let mut total = 0u64;
-        for number in 1..5u64 {
-            if number == fails_at {
-                assert_eq!(rt; tally.act(Verb::Add(2)), Err(ActFault::Failed));
-            } else {
-                total = total.saturating_add(2);
-                assert_eq!(rt; tally.act(Verb::Add(2)), Ok(total));
-            }
-            contains(&rt, &tally, &[total]);
-        }
-        assert_eq!(rt; total, 6);
-        assert_eq!(rt; tally.failures(), 1);
+        fails_once(&rt, fails_at);
     }
 }
+
+const AT_THE_LAST_FAILURE: &[Row<'static>] = &[
+    (Verb::Add(u64::MAX), Err(ActFault::Overflow), &[5]),
+    (Verb::Look, Ok(5), &[5]),
+    (Verb::Add(1), Err(ActFault::Failed), &[5]),
+    (Verb::Add(1), Ok(6), &[6]),
+];
 
 #[test]
 fn failures_stand_at_their_end(rt: HostRuntime) {
@@ -155,24 +195,22 @@ fn failures_stand_at_their_end(rt: HostRuntime) {
         fails_at: 2,
         failures: u64::MAX,
     };
-    assert_eq!(rt; tally.act(Verb::Add(u64::MAX)), Err(ActFault::Overflow));
-    assert_eq!(rt; tally.act(Verb::Look), Ok(5));
-    assert_eq!(rt; tally.act(Verb::Add(1)), Err(ActFault::Failed));
-    contains(&rt, &tally, &[5]);
-    assert_eq!(rt; tally.failures(), u64::MAX);
-    assert_eq!(rt; tally.act(Verb::Add(1)), Ok(6));
+    follows(&rt, &mut tally, Law::Tally, u64::MAX, AT_THE_LAST_FAILURE);
 }
 
+const REMEMBERED: &[Row<'static>] = &[
+    (Verb::Put(2), Ok(1), &[2]),
+    (Verb::Put(3), Ok(2), &[3]),
+    (Verb::Put(4), Err(ActFault::Failed), &[3]),
+    (Verb::Take, NOT_OFFERED, &[3]),
+    (Verb::Look, Ok(3), &[3]),
+];
+
 #[test]
-fn remembering(rt: HostRuntime) -> Result<(), Fail> {
-    let mut device = Remembering::new(rt.alloc(), 1, 2)?;
-    assert_eq!(rt; device.act(Verb::Put(2)), Ok(1));
-    assert_eq!(rt; device.act(Verb::Put(3)), Ok(2));
-    assert_eq!(rt; device.act(Verb::Put(4)), Err(ActFault::Failed));
-    assert_eq!(rt; device.act(Verb::Take), NOT_OFFERED);
-    assert_eq!(rt; device.act(Verb::Look), Ok(3));
-    contains(&rt, &device, &[3]);
-    assert_eq!(rt; device.failures(), 1);
-    assert_eq!(rt; device.history(), [1, 2].as_slice());
-    Ok(())
+fn remembering(rt: HostRuntime) {
+    let mut device = Remembering::new(rt.alloc(), 1, 2).expect(&rt, "memory is ample");
+    answers_so(&rt, &mut device, REMEMBERED);
+    let remembered = (device.failures(), device.history());
+    assert_eq!(rt; remembered, (1, [1, 2].as_slice()));
+    drop(device);
 }

@@ -84,6 +84,30 @@ fn opened<D: Device>(rt: &impl Abort, devices: Vec<D>, decl: &Decl) -> Shelf<D>
     }
 }
 
+// The devices show these numbers, in order.
+fn show<D: Device>(rt: &impl Abort, devices: &[D], numbers: &[Option<u64>]) {
+    assert!(rt; devices.len() == numbers.len());
+    for (device, number) in devices.iter().zip(numbers) {
+        assert!(rt; device.at(0) == *number);
+    }
+}
+
+// They were refused so, and came back in order.
+fn come_back<D: Device>(
+    rt: &impl Abort,
+    answer: &Result<Shelf<D>, (ShelfFault, Vec<D>)>,
+    want: ShelfFault,
+    numbers: &[Option<u64>],
+) {
+    match answer {
+        Ok(_) => panic!(rt; "they were taken"),
+        Err((fault, back)) => {
+            assert_eq!(rt; *fault, want);
+            show(rt, back, numbers);
+        }
+    }
+}
+
 // The devices are refused so, and come back in order: each shows its number.
 fn refused<D: Device>(
     rt: &impl Abort,
@@ -92,32 +116,30 @@ fn refused<D: Device>(
     want: ShelfFault,
     numbers: &[Option<u64>],
 ) {
-    match Shelf::open(devices, decl) {
-        Ok(_) => panic!(rt; "they were taken"),
-        Err((fault, back)) => {
-            assert_eq!(rt; fault, want);
-            assert_eq!(rt; back.len(), numbers.len());
-            for (device, number) in back.iter().zip(numbers) {
-                assert_eq!(rt; device.at(0), *number);
-            }
-        }
+    let answer = Shelf::open(devices, decl);
+    come_back(rt, &answer, want, numbers);
+    drop(answer);
+}
+
+// Cells that contain 0, 1 and so on, so many of them.
+fn cells(rt: &impl Abort, heap: Global, count: u64) -> Vec<AnyDevice> {
+    let mut cells = Vec::new(heap);
+    for number in 0..count {
+        assert!(rt; cells.push(cell(rt, heap, number)).is_ok());
     }
+    cells
 }
 
 #[test]
 fn one_device_for_each_resource(rt: HostRuntime) {
     let decl = two(&rt, rt.alloc());
-    for (count, numbers) in [
-        (0, &[][..]),
-        (1, &[Some(0)][..]),
-        (3, &[Some(0), Some(1), Some(2)][..]),
-    ] {
-        let mut devices = Vec::new(rt.alloc());
-        for number in 0..count {
-            assert!(rt; devices.push(cell(&rt, rt.alloc(), number)).is_ok());
-        }
-        refused(&rt, devices, &decl, ShelfFault::WrongCount, numbers);
+    let numbers = [Some(0), Some(1), Some(2)];
+    for count in [0, 1, 3] {
+        let devices = cells(&rt, rt.alloc(), count as u64);
+        let fault = ShelfFault::WrongCount;
+        refused(&rt, devices, &decl, fault, &numbers[..count]);
     }
+    drop(decl);
 }
 
 #[test]
@@ -127,6 +149,7 @@ fn second_of_another_law(rt: HostRuntime) {
     let decl = two(&rt, rt.alloc());
     let fault = ShelfFault::WrongDevice(SECOND);
     refused(&rt, devices, &decl, fault, &[Some(4), None]);
+    drop(decl);
 }
 
 #[test]
@@ -136,42 +159,73 @@ fn first_of_another_law(rt: HostRuntime) {
     let decl = two(&rt, rt.alloc());
     let fault = ShelfFault::WrongDevice(FIRST);
     refused(&rt, devices, &decl, fault, &[Some(5), None]);
+    drop(decl);
+}
+
+// The answers to one use of each device, what they then show, and the answers to two more uses of the second.
+fn answers<D: Device>(
+    shelf: &mut Shelf<D>,
+) -> (
+    [Result<u64, ActFault>; 2],
+    [Option<u64>; 3],
+    [Result<u64, ActFault>; 2],
+)
+    requires { length shelf.old ≡ 2 }
+    ensures { length shelf.new ≡ 2 }
+{
+    let first = [
+        shelf.act(SECOND, Verb::Put(7)),
+        shelf.act(FIRST, Verb::Take),
+    ];
+    let shown = [shelf.at(FIRST, 0), shelf.at(SECOND, 0), shelf.at(SECOND, 1)];
+    let later = [
+        shelf.act(SECOND, Verb::Put(8)),
+        shelf.act(SECOND, Verb::Look),
+    ];
+    (first, shown, later)
 }
 
 // A device acts, and the other stays.
 fn acts<D: Device>(rt: &impl Abort, devices: Vec<D>, decl: &Decl) {
     let mut shelf = opened(rt, devices, decl);
-    assert_eq!(rt; shelf.act(SECOND, Verb::Put(7)), Ok(2));
-    assert_eq!(rt; shelf.act(FIRST, Verb::Take), Err(ActFault::NotOffered));
-    assert_eq!(rt; shelf.at(FIRST, 0), Some(1));
-    assert_eq!(rt; shelf.at(SECOND, 0), Some(7));
-    assert_eq!(rt; shelf.at(SECOND, 1), None);
-    assert_eq!(rt; shelf.act(SECOND, Verb::Put(8)), Err(ActFault::Failed));
-    assert_eq!(rt; shelf.act(SECOND, Verb::Look), Ok(7));
-    assert_eq!(rt; shelf.failures(FIRST), 0);
-    assert_eq!(rt; shelf.failures(SECOND), 1);
-    assert_eq!(rt; shelf.law(SECOND), Law::Cell);
+    let answers = answers(&mut shelf);
+    let failures = [shelf.failures(FIRST), shelf.failures(SECOND)];
+    let law = shelf.law(SECOND);
+    drop(shelf);
+    let first = [Ok(2), Err(ActFault::NotOffered)];
+    let later = [Err(ActFault::Failed), Ok(7)];
+    assert_eq!(rt; answers, (first, [Some(1), Some(7), None], later));
+    assert_eq!(rt; (failures, law), ([0, 1], Law::Cell));
 }
 
 #[test]
 fn one_acts_and_the_other_stays(rt: HostRuntime) {
     let cell = cell(&rt, rt.alloc(), 1);
     let devices = both(&rt, rt.alloc(), cell, remembering(&rt, rt.alloc(), 2));
-    acts(&rt, devices, &two(&rt, rt.alloc()));
+    let decl = two(&rt, rt.alloc());
+    acts(&rt, devices, &decl);
+    drop(decl);
+}
+
+// A device of this law wasn't taken.
+fn is_back<D: Device>(rt: &impl Abort, answer: &Result<(), D>, law: Law) {
+    match answer {
+        Ok(()) => panic!(rt; "it was taken"),
+        Err(back) => assert_eq!(rt; back.law(), law),
+    }
 }
 
 // Another cell takes the first place, and a tally doesn't.
 fn replaces<D: Device>(rt: &impl Abort, shelf: &mut Shelf<D>, cell: D, tally: D)
     requires { length shelf.old ≡ 2 }
 {
-    match shelf.replace(FIRST, tally) {
-        Ok(()) => panic!(rt; "it was taken"),
-        Err(back) => assert_eq!(rt; back.law(), Law::Tally),
-    }
-    assert_eq!(rt; shelf.at(FIRST, 0), Some(1));
-    assert!(rt; shelf.replace(FIRST, cell).is_ok());
-    assert_eq!(rt; shelf.at(FIRST, 0), Some(9));
-    assert_eq!(rt; shelf.at(SECOND, 0), Some(2));
+    let answer = shelf.replace(FIRST, tally);
+    is_back(rt, &answer, Law::Tally);
+    drop(answer);
+    let before = shelf.at(FIRST, 0);
+    let is_replaced = shelf.replace(FIRST, cell).is_ok();
+    let after = [before, shelf.at(FIRST, 0), shelf.at(SECOND, 0)];
+    assert_eq!(rt; (is_replaced, after), (true, [Some(1), Some(9), Some(2)]));
 }
 
 // What a shelf of these counts when a device is replaced.
@@ -187,6 +241,7 @@ fn counts_drops<D: Device>(
     assert_eq!(rt; drops.load(Ordering::SeqCst), 0);
     replaces(rt, &mut shelf, cell, tally);
     assert_eq!(rt; drops.load(Ordering::SeqCst), 1);
+    drop(shelf);
 }
 
 #[test]
@@ -201,5 +256,6 @@ fn each_device_is_dropped_once(rt: HostRuntime) {
     let tally = failing_tally(&rt, rt.alloc());
     let decl = two(&rt, rt.alloc());
     counts_drops(&rt, devices, &decl, cell, tally, &drops);
+    drop(decl);
     assert_eq!(rt; drops.load(Ordering::SeqCst), 2);
 }

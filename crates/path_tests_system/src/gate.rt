@@ -1,10 +1,10 @@
 //! Gates over worked examples: which starts each lets through, and which path it names.
 
+use crate::stepping::declared;
 use path_code::translate;
+use path_decl::Decl;
 use path_gate::Gate;
-use path_lex::DeclFault;
 use path_model::{OpId, OutOfMemory, PathId};
-use path_read::read;
 use path_trim::trim;
 use refusing::Refusing;
 use std::alloc::{Allocator, Global};
@@ -29,24 +29,25 @@ const POOL: &[u8] = b"resource r cell operation read, write path { read : 2 } , 
 // At most two executions of a and then b are under way.
 const PIPE: &[u8] = b"resource r cell operation a, b path { a ; b : 2 } end end";
 
-// The gate of a declaration, read, compiled and trimmed.
+// The gate of a declaration, compiled and trimmed.
+fn gate_of<A: Allocator + Copy>(alloc: A, decl: &Decl<A>) -> Result<Gate<A>, OutOfMemory> {
+    let code = translate(alloc, decl)?;
+    match trim(alloc, code) {
+        Ok(lean) => Gate::open(alloc, lean),
+        Err((_, error)) => Err(error),
+    }
+}
+
+// The gate of the declaration that a text is.
 fn opened<A: Allocator + Copy>(
     rt: &impl Abort,
     alloc: A,
     text: &[u8],
 ) -> Result<Gate<A>, OutOfMemory> {
-    let decl = match read(alloc, text) {
-        Ok(decl) => decl,
-        Err(fault) => {
-            assert_eq!(rt; fault, DeclFault::OutOfMemory);
-            return Err(OutOfMemory);
-        }
-    };
-    let code = translate(alloc, &decl)?;
-    match trim(alloc, code) {
-        Ok(lean) => Gate::open(alloc, lean),
-        Err((_, error)) => Err(error),
-    }
+    let decl = declared(rt, alloc, text)?;
+    let gate = gate_of(alloc, &decl);
+    drop(decl);
+    gate
 }
 
 /// What happens at a gate.
@@ -74,8 +75,8 @@ fn starts<M: Allocator + Copy>(
     want: Result<(), PathId>,
 ) {
     assert!(rt; gate.admitted() < 100);
-    assert_eq!(rt; gate.would_admit(op), want);
-    assert_eq!(rt; gate.admit(op), want);
+    let answers = [gate.would_admit(op), gate.admit(op)];
+    assert_eq!(rt; answers, [want, want]);
 }
 
 fn finishes<M: Allocator + Copy>(rt: &impl Abort, gate: &mut Gate<M>, op: OpId) {
@@ -91,6 +92,12 @@ fn happens<M: Allocator + Copy>(rt: &impl Abort, gate: &mut Gate<M>, event: Even
     }
 }
 
+fn all_happen_at<M: Allocator + Copy>(rt: &impl Abort, gate: &mut Gate<M>, events: &[Event]) {
+    for event in events {
+        happens(rt, gate, *event);
+    }
+}
+
 // All these events happen at the gate of the text. So many starts are then let through, and so many executions of the first
 // operation in progress.
 fn all_happen(
@@ -102,11 +109,11 @@ fn all_happen(
     in_progress: u32,
 ) {
     let mut gate = opened(rt, heap, text).expect(rt, "memory is ample");
-    for event in events {
-        happens(rt, &mut gate, *event);
-    }
-    assert_eq!(rt; gate.admitted(), admitted);
-    assert_eq!(rt; gate.in_progress(A), in_progress);
+    all_happen_at(rt, &mut gate, events);
+    assert_eq!(rt;
+        [gate.admitted(), gate.in_progress(A)],
+        [admitted, in_progress]
+    );
 }
 
 const FORK_EVENTS: &[Event] = &[
@@ -215,29 +222,34 @@ fn pipe_gives_its_bound_back_at_the_end(rt: HostRuntime) {
     all_happen(&rt, rt.alloc(), PIPE, PIPE_EVENTS, 4, 1);
 }
 
-// Whether memory suffices for the gate.
-fn opens<M: Allocator + Copy>(rt: &impl Abort, alloc: M) -> bool {
-    match opened(rt, alloc, FORK) {
-        Ok(gate) => {
-            assert_eq!(rt; gate.would_admit(B), Err(PathId(0)));
-            true
-        }
-        Err(OutOfMemory) => false,
-    }
+// What a new gate of the text answers to the second operation.
+fn first_answer<M: Allocator + Copy>(
+    rt: &impl Abort,
+    alloc: M,
+    text: &[u8],
+) -> Result<Result<(), PathId>, OutOfMemory> {
+    let gate = opened(rt, alloc, text)?;
+    Ok(gate.would_admit(B))
 }
 
-// Whether the gate is opened where this request is refused.
-fn opens_but(rt: &impl Abort, heap: Global, number: u64) -> bool {
+// Whether the gate of the text is opened where this request is refused.
+fn opens_but(rt: &impl Abort, heap: Global, text: &[u8], number: u64) -> bool {
     let refusing = Refusing::new(heap, number);
-    let is_open = opens(rt, &refusing);
-    assert_eq!(rt; is_open, !refusing.has_refused());
-    is_open
+    let answer = first_answer(rt, &refusing, text);
+    let is_refused = refusing.has_refused();
+    let want = if is_refused {
+        Err(OutOfMemory)
+    } else {
+        Ok(Err(PathId(0)))
+    };
+    assert_eq!(rt; answer, want);
+    !is_refused
 }
 
 #[test]
 fn each_request_of_open_is_refused(rt: HostRuntime) {
     for number in 1..400u64 {
-        if opens_but(&rt, rt.alloc(), number) {
+        if opens_but(&rt, rt.alloc(), FORK, number) {
             assert!(rt; number > 1);
             return;
         }

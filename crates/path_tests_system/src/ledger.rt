@@ -9,37 +9,50 @@ use std::process::Abort;
 // No activation has it: it is past 32 bits.
 const NO_ACTIVATION: ActId = ActId(4294967296);
 
+/// What a ledger answers: the number of a first activation, what is found under it, what ends twice, the number of a
+/// second activation, and how many were begun.
+type Answers = (ActId, [Option<Activation>; 3], ActId, u32);
+
+const FIRST: Activation = Activation {
+    act: ActId(0),
+    worker: 7,
+    op: OpId(0),
+};
+
+const ANSWERS: Answers = (ActId(0), [Some(FIRST), Some(FIRST), None], ActId(1), 2);
+
 // A worked example: numbers are never given twice, and a number ends once.
-fn row<A: Allocator + Copy>(rt: &impl Abort, alloc: A) -> Result<u64, OutOfMemory> {
+fn answers<A: Allocator + Copy>(rt: &impl Abort, alloc: A) -> Result<Answers, OutOfMemory> {
     let mut ledger = Ledger::with_room(alloc, 1)?;
-    let first = Activation {
-        act: ActId(0),
-        worker: 7,
-        op: OpId(0),
-    };
-    assert_eq!(rt; ledger.begin(7, OpId(0)), ActId(0));
-    assert_eq!(rt; ledger.find(ActId(0)), Some(first));
-    assert_eq!(rt; ledger.end(ActId(0)), Some(first));
-    assert_eq!(rt; ledger.end(ActId(0)), None);
+    let first = ledger.begin(7, OpId(0));
+    let ended = [
+        ledger.find(ActId(0)),
+        ledger.end(ActId(0)),
+        ledger.end(ActId(0)),
+    ];
     assert!(rt; ledger.live().len() == 0);
-    assert_eq!(rt; ledger.begin(7, OpId(0)), ActId(1));
-    assert_eq!(rt; ledger.begun(), 2);
-    Ok(1)
+    let second = ledger.begin(7, OpId(0));
+    let begun = ledger.begun();
+    drop(ledger);
+    Ok((first, ended, second, begun))
 }
 
 #[test]
 fn ledger(rt: HostRuntime) {
-    assert_eq!(rt; row(&rt, rt.alloc()), Ok(1));
+    assert_eq!(rt; answers(&rt, rt.alloc()), Ok(ANSWERS));
+}
+
+// What a ledger answers where this request is refused, and whether that was made.
+fn answers_but(rt: &impl Abort, heap: Global, number: u64) -> (Result<Answers, OutOfMemory>, bool) {
+    let refusing = Refusing::new(heap, number);
+    let answers = answers(rt, &refusing);
+    (answers, refusing.has_refused())
 }
 
 #[test]
 fn ledger_wants_memory_once(rt: HostRuntime) {
-    let refusing = Refusing::new(rt.alloc(), 1);
-    assert_eq!(rt; row(&rt, &refusing), Err(OutOfMemory));
-    assert!(rt; refusing.has_refused());
-    let refusing = Refusing::new(rt.alloc(), 2);
-    assert_eq!(rt; row(&rt, &refusing), Ok(1));
-    assert!(rt; !refusing.has_refused());
+    assert_eq!(rt; answers_but(&rt, rt.alloc(), 1), (Err(OutOfMemory), true));
+    assert_eq!(rt; answers_but(&rt, rt.alloc(), 2), (Ok(ANSWERS), false));
 }
 
 // The worker of the activation that ends.
@@ -67,15 +80,26 @@ fn three_live(rt: &impl Abort, heap: Global) -> Ledger {
     ledger
 }
 
+// The workers of what ends twice, and then is found.
+fn ended_and_found(ledger: &mut Ledger) -> [Option<u32>; 5] {
+    [
+        ended(ledger, ActId(1)),
+        ended(ledger, ActId(1)),
+        found(ledger, ActId(1)),
+        found(ledger, ActId(2)),
+        found(ledger, NO_ACTIVATION),
+    ]
+}
+
 #[test]
 fn second_finish_ends_none(rt: HostRuntime) {
     let mut ledger = three_live(&rt, rt.alloc());
-    assert_eq!(rt; ended(&mut ledger, ActId(1)), Some(11));
-    assert_eq!(rt; ended(&mut ledger, ActId(1)), None);
-    assert_eq!(rt; found(&ledger, ActId(1)), None);
-    assert_eq!(rt; found(&ledger, ActId(2)), Some(12));
-    assert_eq!(rt; found(&ledger, NO_ACTIVATION), None);
-    assert_eq!(rt; ledger.live().len(), 2);
+    let workers = ended_and_found(&mut ledger);
+    let live = ledger.live().len();
+    assert_eq!(rt;
+        (workers, live),
+        ([Some(11), None, None, Some(12), None], 2)
+    );
 }
 
 // The operation of the activation that the worker ends as its own.
@@ -90,16 +114,26 @@ fn ended_own<A: Allocator + Copy>(
     }
 }
 
+/// What a worker is answered that ends an activation as its own, and how many are live then.
+type EndedOwn = (Result<OpId, EndFault>, usize);
+
+// A worker, the number that it ends, and what is answered.
+const ENDED_OWN: &[(u32, ActId, EndedOwn)] = &[
+    (11, ActId(0), (Err(EndFault::NotYours), 3)),
+    (10, ActId(3), (Err(EndFault::Stale), 3)),
+    (10, ActId(0), (Ok(OpId(5)), 2)),
+    (10, ActId(0), (Err(EndFault::Stale), 2)),
+];
+
+fn are_ended_own(rt: &impl Abort, ledger: &mut Ledger, rows: &[(u32, ActId, EndedOwn)]) {
+    for (worker, act, want) in rows {
+        let answer = ended_own(ledger, *worker, *act);
+        assert_eq!(rt; (answer, ledger.live().len()), *want);
+    }
+}
+
 #[test]
 fn only_its_own_worker_ends_it(rt: HostRuntime) {
     let mut ledger = three_live(&rt, rt.alloc());
-    assert_eq!(rt;
-        ended_own(&mut ledger, 11, ActId(0)),
-        Err(EndFault::NotYours)
-    );
-    assert_eq!(rt; ended_own(&mut ledger, 10, ActId(3)), Err(EndFault::Stale));
-    assert_eq!(rt; ledger.live().len(), 3);
-    assert_eq!(rt; ended_own(&mut ledger, 10, ActId(0)), Ok(OpId(5)));
-    assert_eq!(rt; ended_own(&mut ledger, 10, ActId(0)), Err(EndFault::Stale));
-    assert_eq!(rt; ledger.live().len(), 2);
+    are_ended_own(&rt, &mut ledger, ENDED_OWN);
 }

@@ -1,7 +1,7 @@
 //! Systems that aren't opened: the boxes come back, in order and with equal contents.
 
 use crate::boxes::{AnyDevice, cell, queue, tally};
-use crate::stepping::{ROOM, SLOT, declared, lines, row_of, tried};
+use crate::stepping::{Opening, ROOM, SLOT, declared, lines, row_of, tried};
 use path_decl::Decl;
 use path_model::{MOST_LINES, ResId};
 use path_shelf::Device;
@@ -18,17 +18,33 @@ const THREE: &[u8] =
 fn shows<D: Device>(rt: &impl Abort, device: &D, numbers: &[u64]) {
     let mut place = 0u32;
     for number in numbers {
-        assert_eq!(rt; device.at(place), Some(*number));
+        assert!(rt; device.at(place) == Some(*number));
         place = place.saturating_add(1);
     }
-    assert_eq!(rt; device.at(place), None);
+    assert!(rt; device.at(place).is_none());
 }
 
 // The devices contain these numbers, one after the other.
 fn show<D: Device>(rt: &impl Abort, devices: &[D], contents: &[&[u64]]) {
-    assert_eq!(rt; devices.len(), contents.len());
+    assert!(rt; devices.len() == contents.len());
     for (device, numbers) in devices.iter().zip(contents) {
         shows(rt, device, numbers);
+    }
+}
+
+// The devices are refused for this, and come back with these contents.
+fn come_back<D: Device, A: Allocator + Copy>(
+    rt: &impl Abort,
+    answer: &Opening<D, A>,
+    want: OpenFault,
+    contents: &[&[u64]],
+) {
+    match answer {
+        Ok(_) => panic!(rt; "it was opened"),
+        Err((fault, back)) => {
+            assert_eq!(rt; *fault, want);
+            show(rt, back, contents);
+        }
     }
 }
 
@@ -43,13 +59,9 @@ fn refused<D: Device>(
     contents: &[&[u64]],
 ) {
     let decl = declared(rt, heap, text).expect(rt, "memory is ample");
-    match tried(heap, decl, devices, room) {
-        Ok(_) => panic!(rt; "it was opened"),
-        Err((fault, back)) => {
-            assert_eq!(rt; fault, want);
-            show(rt, &back, contents);
-        }
-    }
+    let answer = tried(heap, decl, devices, room);
+    come_back(rt, &answer, want, contents);
+    drop(answer);
 }
 
 // A cell behind the slot is refused in this room.
@@ -125,6 +137,19 @@ fn queue_of_another_capacity(rt: HostRuntime) {
     one_of_another_law(&rt, heap, devices, ResId(2));
 }
 
+// Whether a system was opened. Where memory was wanting for that, the devices come back with these contents.
+fn is_open<D: Device, A: Allocator + Copy>(
+    rt: &impl Abort,
+    answer: &Opening<D, A>,
+    contents: &[&[u64]],
+) -> bool {
+    if let Ok(system) = answer {
+        return lines(system) == 0;
+    }
+    come_back(rt, answer, OpenFault::OutOfMemory, contents);
+    false
+}
+
 // Whether a system of the devices is opened. Where memory is wanting for that, they come back.
 fn opens<D: Device, A: Allocator + Copy>(
     rt: &impl Abort,
@@ -133,14 +158,10 @@ fn opens<D: Device, A: Allocator + Copy>(
     devices: Vec<D, A>,
     contents: &[&[u64]],
 ) -> bool {
-    match tried(alloc, decl, devices, ROOM) {
-        Ok(system) => lines(&system) == 0,
-        Err((fault, back)) => {
-            assert_eq!(rt; fault, OpenFault::OutOfMemory);
-            show(rt, &back, contents);
-            false
-        }
-    }
+    let answer = tried(alloc, decl, devices, ROOM);
+    let is_open = is_open(rt, &answer, contents);
+    drop(answer);
+    is_open
 }
 
 // Whether a system of the devices is opened where this request of its opening is refused.

@@ -41,6 +41,17 @@ fn replaced<D: Device>(
     system.replace(ONLY, device)
 }
 
+// Why a device was refused, if it was, and the number in it, which else is this.
+fn refusal<D: Device>(
+    answer: &Result<(), (ReplaceFault, D)>,
+    number: Option<u64>,
+) -> (Result<(), ReplaceFault>, Option<u64>) {
+    match answer {
+        Ok(()) => (Ok(()), number),
+        Err((fault, back)) => (Err(*fault), back.at(0)),
+    }
+}
+
 // The device of the only resource is replaced, or refused for this.
 fn replaces<D: Device>(
     rt: &impl Abort,
@@ -49,13 +60,10 @@ fn replaces<D: Device>(
     want: Result<(), ReplaceFault>,
 ) {
     let number = device.at(0);
-    match replaced(rt, system, device) {
-        Ok(()) => assert_eq!(rt; want, Ok(())),
-        Err((fault, back)) => {
-            assert_eq!(rt; want, Err(fault));
-            assert_eq!(rt; back.at(0), number);
-        }
-    }
+    let answer = replaced(rt, system, device);
+    let refusal = refusal(&answer, number);
+    drop(answer);
+    assert_eq!(rt; refusal, (want, number));
 }
 
 // The same with the last of these devices.
@@ -170,15 +178,31 @@ fn replace_and_close(rt: HostRuntime) {
     assert_eq!(rt; drops.load(Ordering::SeqCst), 1);
 }
 
+// The answer to each device in turn, and what the only resource then contains.
+const QUEUES_REPLACED: &[(Result<(), ReplaceFault>, &[u64])] = &[
+    (Ok(()), &[5, 6]),
+    (Err(ReplaceFault::OtherLaw), &[5, 6]),
+    (Ok(()), &[]),
+];
+
+// The last of these devices is tried first.
+fn replaces_in_turn<D: Device>(
+    rt: &impl Abort,
+    system: &mut System<D>,
+    others: &mut Vec<D>,
+    rows: &[(Result<(), ReplaceFault>, &[u64])],
+) {
+    for (want, numbers) in rows {
+        replaces_next(rt, system, others, *want);
+        contains(rt, system, numbers);
+    }
+}
+
 // A queue is replaced by one with these numbers, and then by an empty one, but not by one of another capacity.
 fn replaces_queues<D: Device>(rt: &impl Abort, alloc: Global, first: D, queues: &mut Vec<D>) {
     let mut system = opened(rt, alloc, PAIR, alone(rt, alloc, first));
-    replaces_next(rt, &mut system, queues, Ok(()));
-    contains(rt, &system, &[5, 6]);
-    replaces_next(rt, &mut system, queues, Err(ReplaceFault::OtherLaw));
-    contains(rt, &system, &[5, 6]);
-    replaces_next(rt, &mut system, queues, Ok(()));
-    contains(rt, &system, &[]);
+    replaces_in_turn(rt, &mut system, queues, QUEUES_REPLACED);
+    drop(system);
 }
 
 #[test]
@@ -212,6 +236,7 @@ fn kept_though_it_failed<D: Device>(rt: &impl Abort, alloc: Global, failing: D, 
     steps(rt, &mut system, FAILED);
     replaces(rt, &mut system, other, Err(ReplaceFault::Used));
     contains(rt, &system, &[3]);
+    drop(system);
 }
 
 #[test]

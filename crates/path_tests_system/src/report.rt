@@ -45,33 +45,29 @@ fn reported<A: Allocator + Copy>(
     system.report(alloc)
 }
 
-fn tells<A: Allocator + Copy>(rt: &impl Abort, report: &Report<A>, want: &Told<'_>) {
-    assert_eq!(rt; report.startable.as_slice(), want.startable);
-    assert_eq!(rt; report.blocked.as_slice(), want.blocked);
-    assert_eq!(rt; report.live.as_slice(), want.live);
-    assert_eq!(rt; report.frozen, want.frozen);
+fn tells<A: Allocator + Copy>(report: &Report<A>, want: &Told<'_>) -> bool {
+    report.startable.as_slice() == want.startable
+        && report.blocked.as_slice() == want.blocked
+        && report.live.as_slice() == want.live
+        && report.frozen == want.frozen
 }
 
-// Whether a report is made, which then tells this.
+// Whether the report tells this, if memory suffices for one.
 fn is_told<A: Allocator + Copy>(
-    rt: &impl Abort,
     alloc: A,
     system: &System<Cell, A>,
     want: &Told<'_>,
-) -> bool {
-    match reported(system, alloc) {
-        Ok(report) => {
-            tells(rt, &report, want);
-            true
-        }
-        Err(OutOfMemory) => false,
-    }
+) -> Result<bool, OutOfMemory> {
+    let report = reported(system, alloc)?;
+    Ok(tells(&report, want))
 }
 
 // After the steps the report tells this.
 fn reports(rt: &impl Abort, heap: Global, text: &[u8], rows: &[Step], want: &Told<'_>) {
     let system = after(rt, heap, text, rows);
-    assert!(rt; is_told(rt, heap, &system, want));
+    let is_told = is_told(heap, &system, want);
+    drop(system);
+    assert_eq!(rt; is_told, Ok(true));
 }
 
 const UNATTEMPTED: Told<'static> = Told {
@@ -148,15 +144,34 @@ const READ_AGAIN: &[Step] = &[
     (1, Attempt::Finish(ActId(0)), Reply::Finished),
 ];
 
-// Whether a report is made where this request of it is refused. The system goes on all the same.
-fn is_made(rt: &impl Abort, heap: Global, number: u64) -> bool {
+// Whether the report tells this where this request of it is refused, and whether that was made. The system goes on all the same.
+fn is_told_but(
+    rt: &impl Abort,
+    heap: Global,
+    number: u64,
+    rows: &[Step],
+    want: &Told<'_>,
+    later: &[Step],
+) -> (Result<bool, OutOfMemory>, bool) {
     let ample = Refusing::new(heap, 0);
     let refusing = Refusing::new(heap, number);
-    let mut system = after(rt, &ample, BOOK, READ_ONCE);
-    let made = is_told(rt, &refusing, &system, &READING);
-    assert_eq!(rt; made, !refusing.has_refused());
-    steps(rt, &mut system, READ_AGAIN);
-    made
+    let mut system = after(rt, &ample, BOOK, rows);
+    let is_told = is_told(&refusing, &system, want);
+    steps(rt, &mut system, later);
+    drop(system);
+    (is_told, refusing.has_refused())
+}
+
+// Whether a report is made where this request of it is refused.
+fn is_made(rt: &impl Abort, heap: Global, number: u64) -> bool {
+    let (is_told, is_refused) = is_told_but(rt, heap, number, READ_ONCE, &READING, READ_AGAIN);
+    let want = if is_refused {
+        Err(OutOfMemory)
+    } else {
+        Ok(true)
+    };
+    assert_eq!(rt; is_told, want);
+    !is_refused
 }
 
 #[test]

@@ -56,13 +56,16 @@ pub(crate) fn alone<D: Device>(rt: &impl Abort, alloc: Global, device: D) -> Vec
     devices
 }
 
+/// A system, or why there is none, with the devices that come back.
+pub(crate) type Opening<D, A> = Result<System<D, A>, (OpenFault, Vec<D, A>)>;
+
 /// What the opening of a system answers.
 pub(crate) fn tried<D: Device, A: Allocator + Copy>(
     alloc: A,
     decl: Decl<A>,
     devices: Vec<D, A>,
     room: u32,
-) -> Result<System<D, A>, (OpenFault, Vec<D, A>)> {
+) -> Opening<D, A> {
     System::open(alloc, decl, devices, room)
 }
 
@@ -114,11 +117,18 @@ pub(crate) fn contains<D: Device, A: Allocator + Copy>(
 ) {
     let mut place = 0u32;
     for number in numbers {
-        assert_eq!(rt; held(rt, system, place), Some(*number));
+        assert!(rt; held(rt, system, place) == Some(*number));
         place = place.saturating_add(1);
     }
-    assert_eq!(rt; held(rt, system, place), None);
-    assert_eq!(rt; held(rt, system, u32::MAX), None);
+    assert!(rt; held(rt, system, place).is_none() && held(rt, system, u32::MAX).is_none());
+}
+
+// The system is answered as told, stage by stage.
+fn pass<D: Device>(rt: &impl Abort, system: &mut System<D>, stages: &[Stage<'_>]) {
+    for (rows, numbers) in stages {
+        steps(rt, system, rows);
+        contains(rt, system, numbers);
+    }
 }
 
 /// A system of the text over this device is answered as told, stage by stage.
@@ -130,8 +140,6 @@ pub(crate) fn answers<D: Device>(
     stages: &[Stage<'_>],
 ) {
     let mut system = opened(rt, alloc, text, alone(rt, alloc, device));
-    for (rows, numbers) in stages {
-        steps(rt, &mut system, rows);
-        contains(rt, &system, numbers);
-    }
+    pass(rt, &mut system, stages);
+    drop(system);
 }

@@ -30,8 +30,7 @@ fn slot<A: Allocator + Copy>(
     match tried(alloc, decl, devices, room) {
         Ok(system) => Ok(system),
         Err((fault, back)) => {
-            assert_eq!(rt; fault, OpenFault::OutOfMemory);
-            assert_eq!(rt; back.len(), 1);
+            assert!(rt; fault == OpenFault::OutOfMemory && back.len() == 1);
             Err(OutOfMemory)
         }
     }
@@ -51,7 +50,9 @@ fn after<A: Allocator + Copy>(
 ) -> Result<Seen, OutOfMemory> {
     let mut system = slot(rt, alloc, SLOT, room)?;
     steps(rt, &mut system, rows);
-    Ok(seen(rt, &system))
+    let seen = seen(rt, &system);
+    drop(system);
+    Ok(seen)
 }
 
 // A deposit of 7 and its removal, with an attempt to remove too early.
@@ -71,21 +72,23 @@ fn slot_passes(rt: HostRuntime) {
 }
 
 // Whether the slot passes where this request is refused.
-fn passes(rt: &impl Abort, heap: Global, number: u64) -> bool {
+fn passes(rt: &impl Abort, heap: Global, number: u64, rows: &[Step]) -> bool {
     let refusing = Refusing::new(heap, number);
-    let seen = after(rt, &refusing, ROOM, DEPOSIT_AND_REMOVE);
-    if refusing.has_refused() {
-        assert_eq!(rt; seen, Err(OutOfMemory));
-        return false;
-    }
-    assert_eq!(rt; seen, Ok((Some(7), 6)));
-    true
+    let seen = after(rt, &refusing, ROOM, rows);
+    let is_refused = refusing.has_refused();
+    let want = if is_refused {
+        Err(OutOfMemory)
+    } else {
+        Ok((Some(7), 6))
+    };
+    assert_eq!(rt; seen, want);
+    !is_refused
 }
 
 #[test]
 fn each_request_is_refused(rt: HostRuntime) {
     for number in 1..1000u64 {
-        if passes(&rt, rt.alloc(), number) {
+        if passes(&rt, rt.alloc(), number, DEPOSIT_AND_REMOVE) {
             assert!(rt; number > 1);
             return;
         }
@@ -155,10 +158,8 @@ fn rooms_are_taken_up_to_the_limit(rt: HostRuntime) {
 }
 
 fn tells<F: Display + Drop>(rt: &impl Abort, heap: Global, fault: F, want: &str) {
-    match format!(in heap; "{fault}") {
-        Ok(text) => assert_eq!(rt; text.as_str(), want),
-        Err(_) => panic!(rt; "out of memory"),
-    }
+    let text = format!(in heap; "{fault}").expect(rt, "memory is ample");
+    assert_eq!(rt; text.as_str(), want);
 }
 
 #[test]

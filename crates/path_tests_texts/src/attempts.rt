@@ -5,7 +5,7 @@ use path_decl::Decl;
 use path_lines::{
     FirstLine, LineFault, TextFault, fault_at, first_entry, read_attempts, write_line,
 };
-use path_model::{ActId, Attempt, Line, OpId, Reply, Verb};
+use path_model::{ActId, Attempt, Line, OpId, OutOfMemory, Reply, Verb};
 use refusing::Refusing;
 use std::alloc::Global;
 use std::process::Abort;
@@ -62,6 +62,7 @@ const TEXTS: [(&str, Told<'static>); 8] = [
 fn reads_attempts(rt: HostRuntime) {
     let decl = declared(&rt, rt.alloc(), DECLARATION);
     tell_so(&rt, rt.alloc(), &decl, &TEXTS);
+    drop(decl);
 }
 
 // What the first line of a text tells.
@@ -178,14 +179,24 @@ const UNDECLARED: [&str; 4] = [
 fn reads_the_first_line(rt: HostRuntime) {
     let decl = declared(&rt, rt.alloc(), DECLARATION);
     first_lines_tell(&rt, &decl, &FIRST_LINES);
+    drop(decl);
+}
+
+#[test]
+fn refuses_a_bad_first_line(rt: HostRuntime) {
+    let decl = declared(&rt, rt.alloc(), DECLARATION);
     first_lines_fault(&rt, &decl, &BAD, LineFault::Bad);
     first_lines_fault(&rt, &decl, &UNDECLARED, LineFault::Undeclared);
+    drop(decl);
 }
 
 #[test]
 fn places_a_fault(rt: HostRuntime) {
-    assert!(rt; fault_at(3, LineFault::Bad) == TextFault::BadLine(3));
-    assert!(rt; fault_at(3, LineFault::Undeclared) == TextFault::Undeclared(3));
+    let faults = [
+        fault_at(3, LineFault::Bad),
+        fault_at(3, LineFault::Undeclared),
+    ];
+    assert!(rt; faults == [TextFault::BadLine(3), TextFault::Undeclared(3)]);
 }
 
 // Whether this attempt is written so, with a reply.
@@ -197,6 +208,14 @@ fn is_written_so(heap: Global, decl: &Decl, first: FirstLine, want: &str) -> boo
     };
     match write_line(heap, decl, &line) {
         Ok(written) => written.as_str() == want,
+        Err(OutOfMemory) => false,
+    }
+}
+
+// Whether this text of an attempt is written again as that text.
+fn is_written_back(heap: Global, decl: &Decl, text: &str, want: &str) -> bool {
+    match first_line(decl, text) {
+        Ok(first) => is_written_so(heap, decl, first, want),
         Err(_) => false,
     }
 }
@@ -204,10 +223,7 @@ fn is_written_so(heap: Global, decl: &Decl, first: FirstLine, want: &str) -> boo
 // Each text of an attempt is written again as the text beside it.
 fn are_written_back(rt: &impl Abort, heap: Global, decl: &Decl, rows: &[(&str, &str)]) {
     for (text, want) in rows {
-        match first_line(decl, text) {
-            Ok(first) => assert!(rt; is_written_so(heap, decl, first, want), "at {text}"),
-            Err(_) => panic!(rt; "refused: {text}"),
-        }
+        assert!(rt; is_written_back(heap, decl, text, want), "at {text}");
     }
 }
 
@@ -238,15 +254,20 @@ const WRITTEN_BACK: [(&str, &str); 6] = [
 fn numbers_are_written_back(rt: HostRuntime) {
     let decl = declared(&rt, rt.alloc(), DECLARATION);
     are_written_back(&rt, rt.alloc(), &decl, &WRITTEN_BACK);
+    drop(decl);
 }
 
-// Each fault is spelled so.
+// Whether a fault is spelled so.
+fn is_spelled_so(heap: Global, fault: TextFault, want: &str) -> bool {
+    match format!(in heap; "{fault}") {
+        Ok(text) => text.as_str() == want,
+        Err(_) => false,
+    }
+}
+
 fn are_spelled_so(rt: &impl Abort, heap: Global, rows: &[(TextFault, &str)]) {
     for (fault, want) in rows {
-        match format!(in heap; "{fault}") {
-            Ok(text) => assert!(rt; text.as_str() == *want, "at {want}"),
-            Err(_) => panic!(rt; "no memory"),
-        }
+        assert!(rt; is_spelled_so(heap, *fault, want), "at {want}");
     }
 }
 
@@ -281,7 +302,9 @@ const TWO: &[u8] = b"1 start a\n2 start b\n";
 #[test]
 fn each_request_of_a_reading_is_refused(rt: HostRuntime) {
     let decl = declared(&rt, rt.alloc(), DECLARATION);
-    let refused = counted_without(rt.alloc(), &decl, TWO, 1);
-    assert!(rt; refused == (Err(TextFault::OutOfMemory), true));
-    assert!(rt; counted_without(rt.alloc(), &decl, TWO, 2) == (Ok(2), false));
+    let first = counted_without(rt.alloc(), &decl, TWO, 1);
+    let second = counted_without(rt.alloc(), &decl, TWO, 2);
+    drop(decl);
+    let want = [(Err(TextFault::OutOfMemory), true), (Ok(2), false)];
+    assert!(rt; [first, second] == want);
 }

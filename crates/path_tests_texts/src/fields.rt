@@ -68,10 +68,15 @@ fn line_and_rest(text: &[u8]) -> (&[u8], &[u8]) {
 
 #[test]
 fn cuts_at_the_first(rt: HostRuntime) {
-    assert!(rt; parts(b"1 use 0") == Some((b"1".as_slice(), b"use 0".as_slice())));
-    assert!(rt; parts(b"").is_none());
-    assert!(rt; line_and_rest(b"a\nb\n") == (b"a".as_slice(), b"\nb\n".as_slice()));
-    assert!(rt; line_and_rest(b"a") == (b"a".as_slice(), b"".as_slice()));
+    let cut = [parts(b"1 use 0"), parts(b"")];
+    assert!(rt; cut == [Some((b"1".as_slice(), b"use 0".as_slice())), None]);
+}
+
+#[test]
+fn lines_and_what_follows(rt: HostRuntime) {
+    let lines = [line_and_rest(b"a\nb\n"), line_and_rest(b"a")];
+    let first = (b"a".as_slice(), b"\nb\n".as_slice());
+    assert!(rt; lines == [first, (b"a".as_slice(), b"".as_slice())]);
 }
 
 // What follows a word in a text.
@@ -81,10 +86,8 @@ fn put(text: &[u8]) -> Option<&[u8]> {
 
 #[test]
 fn strips_a_front(rt: HostRuntime) {
-    assert!(rt; put(b"put 7") == Some(b"7".as_slice()));
-    assert!(rt; put(b"put ") == Some(b"".as_slice()));
-    assert!(rt; put(b"pu").is_none());
-    assert!(rt; put(b"add 7").is_none());
+    let rests = [put(b"put 7"), put(b"put "), put(b"pu"), put(b"add 7")];
+    assert!(rt; rests == [Some(b"7".as_slice()), Some(b"".as_slice()), None, None]);
 }
 
 // What begins where a line ends.
@@ -94,10 +97,13 @@ fn line_end(text: &[u8]) -> Option<&[u8]> {
 
 #[test]
 fn ends_of_lines(rt: HostRuntime) {
-    assert!(rt; line_end(b"") == Some(b"".as_slice()));
-    assert!(rt; line_end(b"\nx") == Some(b"\nx".as_slice()));
-    assert!(rt; line_end(b"x").is_none());
-    assert!(rt; line_end(b"\r\n").is_none());
+    let ends = [
+        line_end(b""),
+        line_end(b"\nx"),
+        line_end(b"x"),
+        line_end(b"\r\n"),
+    ];
+    assert!(rt; ends == [Some(b"".as_slice()), Some(b"\nx".as_slice()), None, None]);
 }
 
 // The number that a line ends with, and the rest of the text.
@@ -107,11 +113,16 @@ fn ending(text: &[u8]) -> Option<(u64, &[u8])> {
 
 #[test]
 fn numbers_at_ends_of_lines(rt: HostRuntime) {
-    assert!(rt; ending(b"7\n8") == Some((7, b"\n8".as_slice())));
-    assert!(rt; ending(b"18446744073709551615") == Some((u64::MAX, b"".as_slice())));
-    assert!(rt; ending(b"7 \n").is_none());
-    assert!(rt; ending(b"07\n").is_none());
-    assert!(rt; ending(b"\n").is_none());
+    let endings = [
+        ending(b"7\n8"),
+        ending(b"18446744073709551615"),
+        ending(b"7 \n"),
+        ending(b"07\n"),
+        ending(b"\n"),
+    ];
+    let seven = Some((7, b"\n8".as_slice()));
+    let most = Some((u64::MAX, b"".as_slice()));
+    assert!(rt; endings == [seven, most, None, None, None]);
 }
 
 // What comes after a line of two bytes.
@@ -121,7 +132,6 @@ fn after_two(text: &[u8]) -> &[u8] {
 
 #[test]
 fn what_comes_after_a_line(rt: HostRuntime) {
-    assert!(rt; after_two(b"ab\ncd") == b"cd".as_slice());
-    assert!(rt; after_two(b"ab\n").is_empty());
-    assert!(rt; after_two(b"ab").is_empty());
+    let rests = [after_two(b"ab\ncd"), after_two(b"ab\n"), after_two(b"ab")];
+    assert!(rt; rests == [b"cd".as_slice(), b"".as_slice(), b"".as_slice()]);
 }

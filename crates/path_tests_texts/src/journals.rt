@@ -56,7 +56,10 @@ fn is_journal<A: Allocator + Copy>(
     lines: &[Line],
 ) -> Result<bool, TextFault> {
     let journal = read_journal(alloc, decl, text.as_bytes())?;
-    Ok(journal.room == room && journal.lines.as_slice() == lines)
+    let is_room = journal.room == room;
+    let are_lines = journal.lines.as_slice() == lines;
+    drop(journal);
+    Ok(is_room && are_lines)
 }
 
 // Whether the text of a line is a journal of that line.
@@ -97,6 +100,7 @@ fn all_are_read_again(
 fn reads_what_was_written(rt: HostRuntime) {
     let decl = declared(&rt, rt.alloc(), DECLARATION);
     all_are_read_again(&rt, rt.alloc(), &decl, &ATTEMPTS, &REPLIES);
+    drop(decl);
 }
 
 const LINES: [Line; 2] = [
@@ -160,14 +164,12 @@ const VERSIONS: [(&str, Option<u32>, usize); 12] = [
 fn reads_lines_of_both_versions(rt: HostRuntime) {
     let decl = declared(&rt, rt.alloc(), DECLARATION);
     are_read_so(&rt, rt.alloc(), &decl, &LINES, &VERSIONS);
+    drop(decl);
 }
 
 // Why a text is refused, if it is.
 fn fault_of(heap: Global, decl: &Decl, text: &str) -> Option<TextFault> {
-    match read_journal(heap, decl, text.as_bytes()) {
-        Ok(_) => None,
-        Err(fault) => Some(fault),
-    }
+    read_journal(heap, decl, text.as_bytes()).err()
 }
 
 // Each of these texts has a bad first line.
@@ -301,11 +303,18 @@ const FAULTY: [(&str, TextFault); 16] = [
 ];
 
 #[test]
-fn refuses_other_texts(rt: HostRuntime) {
+fn refuses_other_spellings(rt: HostRuntime) {
     let decl = declared(&rt, rt.alloc(), DECLARATION);
     are_bad(&rt, rt.alloc(), &decl, &SECOND_SPELLINGS);
     are_bad(&rt, rt.alloc(), &decl, &OTHER_HEADS);
+    drop(decl);
+}
+
+#[test]
+fn names_the_first_faulty_line(rt: HostRuntime) {
+    let decl = declared(&rt, rt.alloc(), DECLARATION);
     are_refused(&rt, rt.alloc(), &decl, &FAULTY);
+    drop(decl);
 }
 
 // Whether the head of a room has this text.
@@ -314,17 +323,20 @@ fn is_head_of<A: Allocator + Copy>(alloc: A, room: u32, want: &str) -> Result<bo
         return Ok(false);
     }
     let text = write_head(alloc, room)?;
-    Ok(text.as_str() == want)
+    let is_so = text.as_str() == want;
+    drop(text);
+    Ok(is_so)
 }
 
-// The head of each room has this text, which is a journal without lines.
+// Whether the head of a room has this text, which is a journal without lines.
+fn has_head(heap: Global, decl: &Decl, room: u32, text: &str) -> bool {
+    is_head_of(heap, room, text) == Ok(true)
+        && is_journal(heap, decl, text, Some(room), &[]) == Ok(true)
+}
+
 fn have_heads(rt: &impl Abort, heap: Global, decl: &Decl, rows: &[(u32, &str)]) {
     for (room, text) in rows {
-        assert!(rt; is_head_of(heap, *room, text) == Ok(true), "at {text}");
-        assert!(rt;
-            is_journal(heap, decl, text, Some(*room), &[]) == Ok(true),
-            "at {text}"
-        );
+        assert!(rt; has_head(heap, decl, *room, text), "at {text}");
     }
 }
 
@@ -339,6 +351,7 @@ const HEADS: [(u32, &str); 4] = [
 fn each_head_is_read_again(rt: HostRuntime) {
     let decl = declared(&rt, rt.alloc(), DECLARATION);
     have_heads(&rt, rt.alloc(), &decl, &HEADS);
+    drop(decl);
 }
 
 #[test]
@@ -365,4 +378,5 @@ fn each_request_of_a_journal_is_refused(rt: HostRuntime) {
     is_refused_in_turn(&rt, rt.alloc(), &decl, first, None);
     let second = "journal 2 room 2\n1 start deposit: started 0\n1 finish 0: finished";
     is_refused_in_turn(&rt, rt.alloc(), &decl, second, Some(2));
+    drop(decl);
 }

@@ -46,11 +46,11 @@ fn ends_in_its_reply(heap: Global, reply: Reply, text: &str) -> bool {
 // Each line has this text, and its reply what stands behind the colon.
 fn are_written_so(rt: &impl Abort, heap: Global, decl: &Decl, rows: &[(Attempt, Reply, &str)]) {
     for (attempt, reply, want) in rows {
+        let is_written = is_written_so(heap, decl, *attempt, *reply, want);
         assert!(rt;
-            is_written_so(heap, decl, *attempt, *reply, want),
+            is_written && ends_in_its_reply(heap, *reply, want),
             "at {want}"
         );
-        assert!(rt; ends_in_its_reply(heap, *reply, want), "at {want}");
     }
 }
 
@@ -122,6 +122,7 @@ const EACH_REPLY: [(Attempt, Reply, &str); 13] = [
 fn each_reply_has_its_text(rt: HostRuntime) {
     let decl = declared(&rt, rt.alloc(), DECLARATION);
     are_written_so(&rt, rt.alloc(), &decl, &EACH_REPLY);
+    drop(decl);
 }
 
 /// The line with the longest numbers.
@@ -142,7 +143,9 @@ fn is_text_of<A: Allocator + Copy>(
     want: &str,
 ) -> Result<bool, OutOfMemory> {
     let text = write_line(alloc, decl, line)?;
-    Ok(text.as_str() == want)
+    let is_so = text.as_str() == want;
+    drop(text);
+    Ok(is_so)
 }
 
 #[test]
@@ -151,12 +154,15 @@ fn each_request_of_a_line_is_refused(rt: HostRuntime) {
     refuse_in_turn(&rt, rt.alloc(), OutOfMemory, |heap: &Refusing<Global>| {
         is_text_of(heap, &decl, &LONGEST, LONGEST_TEXT)
     });
+    drop(decl);
 }
 
 // Whether this is told of a reply.
 fn is_told<A: Allocator + Copy>(alloc: A, reply: Reply, want: &[u8]) -> Result<bool, OutOfMemory> {
     let bytes = told(alloc, reply)?;
-    Ok(bytes.as_slice() == want)
+    let is_so = bytes.as_slice() == want;
+    drop(bytes);
+    Ok(is_so)
 }
 
 #[test]

@@ -1,6 +1,6 @@
 //! Declarations, and the texts that they are printed as.
 
-use super::declared;
+use super::{declared, expect_text};
 use crate::in_turn::refuse_in_turn;
 use path_model::OutOfMemory;
 use path_print::print;
@@ -18,13 +18,17 @@ const POOL: &str = "resource r cell operation read, write path { read: 2 }, writ
 
 // The text that a declaration of this text is printed as.
 fn printed(rt: &impl Abort, heap: Global, text: &str) -> String {
-    print(heap, &declared(rt, heap, text)).expect(rt, "memory is ample")
+    let decl = declared(rt, heap, text);
+    let printed = print(heap, &decl);
+    drop(decl);
+    printed.expect(rt, "memory is ample")
 }
 
 // Each text is printed as the one beside it.
 fn prints(rt: &impl Abort, heap: Global, rows: &[(&str, &str)]) {
     for (text, want) in rows {
-        assert_eq!(rt; printed(rt, heap, text).as_str(), *want);
+        let printed = printed(rt, heap, text);
+        expect_text(rt, &printed, want);
     }
 }
 
@@ -79,6 +83,7 @@ fn prints_in_turn(rt: &impl Abort, heap: Global, text: &str) {
         let printed = print(refusing, &decl)?;
         Ok(printed.as_str() == text)
     });
+    drop(decl);
 }
 
 #[test]

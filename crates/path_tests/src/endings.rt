@@ -1,0 +1,45 @@
+//! How calls of the commands end.
+
+use path_streams::Status;
+use path_trace::{ROOM, trace_bytes};
+use std::alloc::Global;
+use std::process::Abort;
+
+/// How a call ends: its status, what it writes on its output, and what it says on standard error.
+pub(crate) type Ending<'a> = (Status, &'a str, &'a str);
+
+/// The call of this name, which wrote and said this, ended as told.
+pub(crate) fn ends_so(
+    rt: &impl Abort,
+    name: &str,
+    ended: (Status, &[u8], &[u8]),
+    want: Ending<'_>,
+) {
+    let want = (want.0, want.1.as_bytes(), want.2.as_bytes());
+    assert_eq!(rt; ended, want, "{name}");
+}
+
+/// A trace of attempts over the program's own devices ends so.
+pub(crate) fn traces(
+    rt: &impl Abort,
+    heap: Global,
+    name: &str,
+    texts: (&str, &str),
+    want: Ending<'_>,
+) {
+    let (declaration, attempts) = (texts.0.as_bytes(), texts.1.as_bytes());
+    let mut out = Vec::new(heap);
+    let mut err = Vec::new(heap);
+    let status = trace_bytes(heap, declaration, ROOM, false, attempts, &mut out, &mut err);
+    ends_so(rt, name, (status, &out, &err), want);
+}
+
+/// The name of a row, a declaration and attempts, and the ending of the trace of these over the program's own devices.
+pub(crate) type Traced<'a> = (&'a str, (&'a str, &'a str), Ending<'a>);
+
+/// Each trace ends so.
+pub(crate) fn all_trace(rt: &impl Abort, heap: Global, rows: &[Traced<'_>]) {
+    for (name, texts, want) in rows {
+        traces(rt, heap, name, *texts, *want);
+    }
+}
