@@ -1,0 +1,11 @@
+//! Tests of the public calls of desks. The crate has no other code, so that no library is proved twice.
+#![tactic(auto)]
+
+#[cfg(test)]
+mod memory;
+#[cfg(test)]
+mod own;
+#[cfg(test)]
+mod settling;
+#[cfg(test)]
+mod threads;

@@ -1,0 +1,1 @@
+//! Each request for memory refused in turn.

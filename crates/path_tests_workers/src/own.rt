@@ -1,0 +1,62 @@
+//! Systems to share, and attempts that are answered as told.
+
+use path_model::{Attempt, OpId, Reply};
+use path_read::read;
+use path_shelf::Device;
+use path_system::System;
+use path_workers::{Answer, Desk, Opening, Pass, Steps};
+use std::alloc::{Allocator, Global};
+use std::process::Abort;
+use std::sync::Wait;
+
+/// An attempt, the place of its line and the reply to it.
+pub(crate) type Row = (Attempt, Option<u64>, Reply);
+
+/// One resource, in which every deposit is followed by a remove.
+pub(crate) const SLOT: &[u8] =
+    b"resource slot cell operation deposit, remove path deposit ; remove end end";
+
+/// As many lines as the program has room for.
+pub(crate) const ROOM: u32 = 4096;
+
+/// The start of the first operation.
+pub(crate) const FIRST: Attempt = Attempt::Start(OpId(0));
+
+/// The start of the second operation.
+pub(crate) const SECOND: Attempt = Attempt::Start(OpId(1));
+
+/// A system of the text, which has one resource, over this device.
+pub(crate) fn system_of<D: Device>(
+    rt: &impl Abort,
+    alloc: Global,
+    text: &[u8],
+    device: D,
+    room: u32,
+) -> System<D> {
+    let decl = match read(alloc, text) {
+        Ok(decl) => decl,
+        Err(_) => panic!(rt; "no declaration"),
+    };
+    let mut devices = Vec::new(alloc);
+    assert!(rt; devices.push(device).is_ok());
+    match System::open(alloc, decl, devices, room) {
+        Ok(system) => system,
+        Err(_) => panic!(rt; "it was refused"),
+    }
+}
+
+/// Each attempt of the pass is answered as told.
+pub(crate) fn makes<L: Opening, S: Steps, A: Allocator + Copy, R: Wait + Abort>(
+    rt: &R,
+    desk: &Desk<L, S>,
+    pass: &mut Pass<L, A>,
+    rows: &[Row],
+) {
+    for (attempt, place, reply) in rows {
+        let answer = Answer {
+            place: *place,
+            reply: *reply,
+        };
+        assert!(rt; desk.attempt(rt, pass, *attempt) == Ok(answer));
+    }
+}

@@ -1,0 +1,53 @@
+-- What is kept under the lock, and in a pass.
+use Rattle.std.specs.Prelude.{◌≡◌, ℕ, ◌+◌, ◌<◌, ◌≤◌, List, [], ◌∷◌, length, Bool, true, false, if◌then◌else◌, Option, Some, None}
+use Rattle.path_model.specs.declared.ids.ActId.{ActId}
+use Rattle.path_model.specs.declared.journal.Attempt.{Attempt}
+use Rattle.path_model.specs.declared.journal.Attempt.TheVariants.{Start}
+use Rattle.path_model.specs.declared.journal.Reply.{Reply}
+use Rattle.path_model.specs.declared.journal.Reply.TheVariants.{Started}
+use Rattle.path_model.specs.declared.journal.Line.{Line}
+use Rattle.path_workers.specs.declared.answer.Receipt.{Receipt}
+use Rattle.path_workers.specs.Attempts.{starts, finishes, has_finish}
+
+-- a number of something that may not be there yet
+abbrev pub amount_or_none : {A : Type 0} → (A → ℕ) → Option A → ℕ
+amount_or_none f None = 0
+amount_or_none f (Some x) = f x
+
+-- the count is that of the lines since there were b, the book has it as its total, and the rest of the parts goes with it
+pub record IsCounted (b : ℕ) (journal : List Line) (count total parts amount : ℕ) : Type 0 where
+  pub lines : length journal ≡ b + count
+  pub booked : total ≡ count
+  pub parted : parts + count ≡ 18446744073709551615
+  pub unclaimed : amount ≡ 0
+
+-- starts that have no later finish
+abbrev pub opens : Reply → List Receipt → ℕ
+opens (Started n) rs = if has_finish n rs then 0 else 1
+opens reply rs = 0
+
+abbrev pub open_count : List Receipt → ℕ
+open_count [] = 0
+open_count (r ∷ rs) = opens r.reply rs + open_count rs
+
+-- the places that an attempt takes: a start also takes that of its finish
+abbrev pub places_for : Attempt → ℕ
+places_for (Start op) = 2
+places_for attempt = 1
+
+-- whether an activation is open after one receipt more
+abbrev pub open_then : ActId → Bool → Receipt → Bool
+open_then act b r = if starts act r.reply then true else if finishes act r.attempt then false else b
+
+-- the places rise, from the first that is allowed to below an end
+abbrev pub Rise : ℕ → List Receipt → ℕ → Type 0
+Rise low [] end = low ≤ end
+Rise low (r ∷ rs) end = (low ≤ r.place) × Rise (r.place + 1) rs end
+
+-- of a pass: its stake, its receipts with their capacity, how many starts they have, whether their places rise, and to where
+pub record IsKept (stake : ℕ) (receipts : List Receipt) (capacity starts : ℕ) (rises : Bool) (end : ℕ) : Type 0 where
+  pub stake_is : stake ≡ length receipts
+  pub reserved : length receipts + open_count receipts ≤ capacity
+  pub owed : open_count receipts ≤ starts
+  pub counted : starts ≤ length receipts
+  pub rising : rises ≡ true → Rise 0 receipts end

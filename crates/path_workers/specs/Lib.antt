@@ -1,0 +1,4 @@
+pub mod Attempts
+pub mod Settled
+pub mod Faults
+pub mod Holdings

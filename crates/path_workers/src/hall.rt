@@ -1,0 +1,126 @@
+//! What lies under the lock of a desk.
+
+ghost use Rattle.std.specs.Prelude.{◌≡◌, ◌+◌, ◌<◌, ◌≤◌, ◌^◌, length, vec_len, vec_capacity, IfSome};
+ghost use Rattle.path_model.specs.Journals.{with_line};
+ghost use Rattle.path_model.specs.Owed.{Owed};
+ghost use Rattle.path_workers.specs.Attempts.{lines_of, place_of, receipts_then};
+
+use crate::answer::{Answer, Receipt};
+use crate::opening::Opening;
+use crate::stake::Stake;
+use crate::steps::Steps;
+use path_model::{Attempt, Reply};
+use std::alloc::Allocator;
+use std::marker::Model;
+use std::sync::ledger::{Blank, Book, Share};
+
+/// What lies under the lock: the system, and the count of its lines since the desk was opened. Contracts see the system's account.
+#[derive(Drop)]
+pub struct Hall<L: Opening, S: Steps> {
+    system: S,
+    count: u64,
+    book: Book<L>,
+    rest: Share<L>,
+}
+
+impl<L: Opening, S: Steps> Model for Hall<L, S> {
+    ghost use Rattle.std.specs.Coded.{codes};
+    ghost use Rattle.path_decl.specs.Stored.{declaration_code};
+    ghost use Rattle.path_system.specs.Accounts.{Account};
+    ghost use Rattle.path_workers.specs.Holdings.{IsCounted};
+
+    ghost Value = { Account };
+
+    ghost coded = { Prim.hlevel (codes, declaration_code) };
+
+    ghost view = { λ h. S.account h.system };
+
+    ghost invariant = { λ h. IsCounted L.before (S.account h.system).journal h.count h.book.total h.rest.parts h.rest.amount };
+}
+
+impl<L: Opening, S: Steps> Hall<L, S> {
+    /// A hall over the system as it stands.
+    pub fn open(system: S, blank: Blank) -> Hall<L, S>
+        requires name { blank.name ≡ L.name }
+        requires parts { (blank.parts ≡ L.parts) × (blank.parts ≡ 18446744073709551615) }
+        requires before { length (S.account system).journal ≡ L.before }
+        ensures { result ≡ S.account system }
+    {
+        let (book, rest) = blank.open::<L>();
+        Hall {
+            system,
+            count: 0,
+            book,
+            rest,
+        }
+    }
+
+    /// The system.
+    pub fn close(self) -> S
+        ensures { S.account result ≡ self }
+    {
+        let Hall {
+            system,
+            count: _,
+            book: _,
+            rest: _,
+        } = self;
+        system
+    }
+
+    /// One step. The stake gains a line exactly where the journal does.
+    fn step(&mut self, stake: &mut Stake<L>, worker: u32, attempt: Attempt) -> Answer
+        ensures owed { Owed self.old.declaration self.old.room self.old.openings self.old.journal worker attempt result.reply }
+        ensures journal { self.new ≡ record self.old {
+          journal = with_line self.old.journal worker attempt result.reply;
+          failures = self.new.failures;
+        } }
+        ensures place { result.place ≡ place_of (length self.old.journal) result.reply }
+        ensures stake { stake.new ≡ stake.old + lines_of result.reply }
+        ensures here { IfSome result.place (λ p. (L.before ≤ p) × (p < 2 ^ 63)) }
+    {
+        let place = self.system.journal().len() as u64;
+        let reply = self.system.step(worker, attempt);
+        if let Reply::NoRoom = reply {
+            return Answer { place: None, reply };
+        }
+        stake.gain(&mut self.book, &mut self.rest);
+        self.count += 1;
+        Answer {
+            place: Some(place),
+            reply,
+        }
+    }
+
+    /// One step, and its receipt.
+    pub fn stamp<A: Allocator + Copy>(
+        &mut self,
+        receipts: &mut Vec<Receipt, A>,
+        stake: &mut Stake<L>,
+        worker: u32,
+        attempt: Attempt,
+    ) -> Answer
+        requires { vec_len receipts.old < vec_capacity receipts.old }
+        ensures owed { Owed self.old.declaration self.old.room self.old.openings self.old.journal worker attempt result.reply }
+        ensures journal { self.new ≡ record self.old {
+          journal = with_line self.old.journal worker attempt result.reply;
+          failures = self.new.failures;
+        } }
+        ensures place { result.place ≡ place_of (length self.old.journal) result.reply }
+        ensures receipts { receipts.new.items ≡ receipts_then receipts.old.items attempt result.place result.reply }
+        ensures capacity { vec_capacity receipts.new ≡ vec_capacity receipts.old }
+        ensures len { vec_len receipts.new ≡ vec_len receipts.old + lines_of result.reply }
+        ensures stake { stake.new ≡ stake.old + lines_of result.reply }
+        ensures here { IfSome result.place (λ p. (L.before ≤ p) × (p < 2 ^ 63)) }
+    {
+        let answer = self.step(stake, worker, attempt);
+        if let Some(place) = answer.place {
+            receipts.push_reserved(Receipt {
+                place,
+                attempt,
+                reply: answer.reply,
+            });
+        }
+        answer
+    }
+}

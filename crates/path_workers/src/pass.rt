@@ -1,0 +1,163 @@
+//! The receipts of one worker at a desk.
+
+ghost use Rattle.std.specs.Prelude.{◌≡◌, ◌↔◌, ◌⊎◌, ◌+◌, ◌<◌, ◌≤◌, ◌^◌, [], true, false, None};
+ghost use Rattle.std.specs.Prelude.{vec_len, vec_capacity, IsOk, IfOk, IfSome, OnOk, OnErr};
+ghost use Rattle.path_model.specs.declared.journal.Reply.TheVariants as replies;
+ghost use Rattle.path_workers.specs.Attempts.{receipts_then, finishes_open, is_open};
+ghost use Rattle.path_workers.specs.Holdings.{open_then, opens, places_for};
+
+use crate::answer::{Answer, Receipt};
+use crate::hall::Hall;
+use crate::opening::Opening;
+use crate::order::Order;
+use crate::stake::Stake;
+use crate::steps::Steps;
+use path_model::{ActId, Attempt, OutOfMemory, Reply};
+use std::alloc::{Allocator, Global};
+use std::marker::Model;
+use std::sync::ledger::Ledger;
+use std::sync::{Mutex, Wait};
+
+/// The receipts of one worker at one desk: one for each line of the journal that the worker's attempts through this pass wrote.
+///
+/// Contracts see the worker and the receipts. There is always a place for the receipt of each finish that is still owed: of a
+/// start that the pass has and whose finish it hasn't.
+#[derive(Drop)]
+pub struct Pass<L: Ledger, A: Allocator + Copy = Global> {
+    worker: u32,
+    receipts: Vec<Receipt, A>,
+    /// How many receipts are of starts that were admitted.
+    starts: usize,
+    order: Order,
+    stake: Stake<L>,
+}
+
+impl<L: Ledger, A: Allocator + Copy> Model for Pass<L, A> {
+    ghost use Rattle.std.specs.Prelude.{vec_capacity};
+    ghost use Rattle.path_workers.specs.Attempts.{Held};
+    ghost use Rattle.path_workers.specs.Holdings.{IsKept};
+
+    ghost Value = { Held };
+
+    ghost view = { λ p. record { worker = p.worker; receipts = p.receipts.items } };
+
+    ghost invariant = { λ p. IsKept p.stake p.receipts.items (vec_capacity p.receipts) p.starts p.order.rises p.order.end };
+}
+
+impl<L: Ledger, A: Allocator + Copy> Pass<L, A> {
+    /// A pass with no receipts.
+    pub fn new(alloc: A, worker: u32) -> Pass<L, A>
+        ensures { (result.worker ≡ worker) × (result.receipts ≡ []) }
+    {
+        Pass {
+            worker,
+            receipts: Vec::new(alloc),
+            starts: 0,
+            order: Order::new(),
+            stake: Stake::none(),
+        }
+    }
+
+    /// Whose pass it is.
+    pub fn worker(&self) -> u32
+        ensures { result ≡ self.now.worker }
+    {
+        self.worker
+    }
+
+    /// All receipts, in the order of the attempts.
+    pub fn receipts(&self) -> &[Receipt]
+        ensures { result.now ≡ self.now.receipts }
+    {
+        self.receipts.as_slice()
+    }
+}
+
+impl<L: Opening, A: Allocator + Copy> Pass<L, A> {
+    /// Takes the places of the receipts, and then makes one step of what lies under the lock.
+    pub fn attempt<S: Steps, R: Wait>(
+        &mut self,
+        rt: &R,
+        hall: &Mutex<Hall<L, S>>,
+        attempt: Attempt,
+    ) -> Result<Answer, OutOfMemory>
+        ensures worker { self.new.worker ≡ self.old.worker }
+        ensures gained { IfOk result (λ a. self.new.receipts ≡ receipts_then self.old.receipts attempt a.place a.reply) }
+        ensures no_room { IfOk result (λ a. (a.place ≡ None) ↔ (a.reply ≡ replies.NoRoom)) }
+        ensures here { IfOk result (λ a. IfSome a.place (λ p. L.before ≤ p)) }
+        ensures kept { OnErr result (self.new ≡ self.old) }
+        ensures finish { finishes_open attempt self.old.receipts ≡ true → IsOk result }
+    {
+        take_places(&mut self.receipts, self.starts, attempt)?;
+        let mut hall = hall.lock(rt);
+        let answer = hall.stamp(&mut self.receipts, &mut self.stake, self.worker, attempt);
+        self.starts += started(answer.reply);
+        self.order = self.order.then(answer.place);
+        Ok(answer)
+    }
+}
+
+/// How many activations a reply starts.
+fn started(reply: Reply) -> usize
+    ensures { result ≡ opens reply [] }
+{
+    match reply {
+        Reply::Started(_) => 1,
+        _ => 0,
+    }
+}
+
+/// Takes the places for the receipt of this attempt, and for those of the finishes that may still be owed. Where memory is wanting,
+/// a finish that is owed has its place already.
+fn take_places<A: Allocator + Copy>(
+    receipts: &mut Vec<Receipt, A>,
+    starts: usize,
+    attempt: Attempt,
+) -> Result<(), OutOfMemory>
+    requires { starts < 2 ^ 60 }
+    ensures items { receipts.new.items ≡ receipts.old.items }
+    ensures len { vec_len receipts.new ≡ vec_len receipts.old }
+    ensures ok { OnOk result ((vec_len receipts.new + starts + places_for attempt ≤ vec_capacity receipts.new)
+        ⊎ (finishes_open attempt receipts.old.items ≡ true)) }
+    ensures err { OnErr result (finishes_open attempt receipts.old.items ≡ false) }
+    ensures grown { vec_capacity receipts.old ≤ vec_capacity receipts.new }
+{
+    match attempt {
+        Attempt::Start(_) => Ok(receipts.reserve(starts + 2)?),
+        Attempt::Apply(_, _) => Ok(receipts.reserve(starts + 1)?),
+        Attempt::Finish(act) => {
+            if receipts.reserve(starts + 1).is_ok() || is_owed(receipts.as_slice(), act) {
+                Ok(())
+            } else {
+                Err(OutOfMemory)
+            }
+        }
+    }
+}
+
+/// Whether the pass has started this activation and not finished it.
+fn is_owed(receipts: &[Receipt], act: ActId) -> bool
+    ensures { result ≡ is_open act receipts.now }
+{
+    let mut owed = false;
+    for receipt in receipts {
+        owed = owed_after(owed, act, *receipt);
+    }
+    owed
+}
+
+fn owed_after(owed: bool, act: ActId, receipt: Receipt) -> bool
+    ensures { result ≡ open_then act owed receipt }
+{
+    if let Reply::Started(number) = receipt.reply {
+        if number.0 == act.0 {
+            return true;
+        }
+    }
+    if let Attempt::Finish(number) = receipt.attempt {
+        if number.0 == act.0 {
+            return false;
+        }
+    }
+    owed
+}
