@@ -1,5 +1,5 @@
 -- A count as far as two says whether there is exactly one.
-use Rattle.std.proofs.Common.{◌≡◌, ℕ, ◌+◌, ◌<◌, ◌≤◌, List, length, min, get_or, refl, sym, ap, ◌∙◌, subst, arith, below_more}
+use Rattle.std.proofs.Common.{◌≡◌, ℕ, ◌+◌, ◌<◌, ◌≤◌, List, length, min, get_or, ap, arith, below_more}
 use Rattle.std.proofs.lemmas.List.{get_or_default}
 use Rattle.path_model.specs.declared.journal.Line.{Line}
 use Rattle.path_workers.specs.Attempts.{Held}

@@ -1,3 +1,4 @@
 pub mod Opens
 pub mod Rising
 pub mod Copies
+pub mod Counted

@@ -2,7 +2,7 @@
 use Rattle.std.specs.Prelude.{ℕ, ◌==◌, List, [], ◌∷◌, ◌++◌, Bool, true, false, if◌then◌else◌, Option, Some, None}
 use Rattle.path_model.specs.declared.ids.ActId.{ActId}
 use Rattle.path_model.specs.declared.journal.Attempt.{Attempt}
-use Rattle.path_model.specs.declared.journal.Attempt.TheVariants.{Start, Apply, Finish}
+use Rattle.path_model.specs.declared.journal.Attempt.TheVariants.{Finish}
 use Rattle.path_model.specs.declared.journal.Reply.{Reply}
 use Rattle.path_model.specs.declared.journal.Reply.TheVariants.{Started, NoRoom}
 use Rattle.path_workers.specs.declared.answer.Receipt.{Receipt}

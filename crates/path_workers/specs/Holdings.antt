@@ -1,5 +1,5 @@
 -- What is kept under the lock, and in a pass.
-use Rattle.std.specs.Prelude.{◌≡◌, ℕ, ◌+◌, ◌<◌, ◌≤◌, List, [], ◌∷◌, length, Bool, true, false, if◌then◌else◌, Option, Some, None}
+use Rattle.std.specs.Prelude.{◌≡◌, ℕ, ◌+◌, ◌<◌, ◌≤◌, List, [], ◌∷◌, length, slice_index_or, Bool, true, false, if◌then◌else◌, Option, Some, None}
 use Rattle.path_model.specs.declared.ids.ActId.{ActId}
 use Rattle.path_model.specs.declared.journal.Attempt.{Attempt}
 use Rattle.path_model.specs.declared.journal.Attempt.TheVariants.{Start}
@@ -7,7 +7,8 @@ use Rattle.path_model.specs.declared.journal.Reply.{Reply}
 use Rattle.path_model.specs.declared.journal.Reply.TheVariants.{Started}
 use Rattle.path_model.specs.declared.journal.Line.{Line}
 use Rattle.path_workers.specs.declared.answer.Receipt.{Receipt}
-use Rattle.path_workers.specs.Attempts.{starts, finishes, has_finish}
+use Rattle.path_workers.specs.Attempts.{Held, starts, finishes, has_finish}
+use Rattle.path_workers.specs.Settled.{copies}
 
 -- a number of something that may not be there yet
 abbrev pub amount_or_none : {A : Type 0} → (A → ℕ) → Option A → ℕ
@@ -51,3 +52,7 @@ pub record IsKept (stake : ℕ) (receipts : List Receipt) (capacity starts : ℕ
   pub owed : open_count receipts ≤ starts
   pub counted : starts ≤ length receipts
   pub rising : rises ≡ true → Rise 0 receipts end
+
+-- each line from number b on has a receipt, or several
+abbrev pub EachHasCopy : ℕ → List Line → List Held → Type 0
+EachHasCopy b lines hs = (k : ℕ) (d : Line) → b ≤ k → k < length lines → 1 ≤ copies k (slice_index_or lines k d) hs

@@ -79,7 +79,7 @@ impl<L: Opening, S: Steps> Desk<L, S> {
         self,
         passes: Vec<Pass<M, A>, A>,
     ) -> Result<Settled<M, S, A>, (SettleFault, S)>
-        ensures passes { IfOk result (λ s. s.passes ≡ passes) }
+        ensures passes { IfOk result (λ s. s.passes.items ≡ passes.items) }
         ensures settled { IfOk result (λ s. IsSettled self (S.account s.system).journal passes.items) }
         ensures fault { IfErr result (λ e. IsFault self (S.account e.1).journal passes.items e.0) }
     {

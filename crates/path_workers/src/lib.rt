@@ -2,8 +2,10 @@
 #![tactic(auto)]
 
 mod answer;
+mod copy;
 mod desk;
 mod hall;
+mod merge;
 mod opening;
 mod order;
 mod pass;

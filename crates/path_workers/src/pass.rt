@@ -1,18 +1,21 @@
 //! The receipts of one worker at a desk.
 
-ghost use Rattle.std.specs.Prelude.{◌≡◌, ◌↔◌, ◌⊎◌, ◌+◌, ◌<◌, ◌≤◌, ◌^◌, [], true, false, None};
-ghost use Rattle.std.specs.Prelude.{vec_len, vec_capacity, IsOk, IfOk, IfSome, OnOk, OnErr};
+ghost use Rattle.std.specs.Prelude.{◌≡◌, ◌↔◌, ◌⊎◌, ◌+◌, ◌<◌, ◌≤◌, ◌^◌, [], true, false, min, None};
+ghost use Rattle.std.specs.Prelude.{vec_len, vec_capacity, IsOk, IsTrue, IfOk, IfSome, OnOk, OnErr};
 ghost use Rattle.path_model.specs.declared.journal.Reply.TheVariants as replies;
 ghost use Rattle.path_workers.specs.Attempts.{receipts_then, finishes_open, is_open};
 ghost use Rattle.path_workers.specs.Holdings.{open_then, opens, places_for};
+ghost use Rattle.path_workers.specs.Settled.{copies_in};
 
 use crate::answer::{Answer, Receipt};
+use crate::copy::{copies_among, copies_found, is_copy_of};
 use crate::hall::Hall;
+use crate::merge::Slot;
 use crate::opening::Opening;
 use crate::order::Order;
 use crate::stake::Stake;
 use crate::steps::Steps;
-use path_model::{ActId, Attempt, OutOfMemory, Reply};
+use path_model::{ActId, Attempt, Line, OutOfMemory, Reply};
 use std::alloc::{Allocator, Global};
 use std::marker::Model;
 use std::sync::ledger::Ledger;
@@ -30,6 +33,9 @@ pub struct Pass<L: Ledger, A: Allocator + Copy = Global> {
     starts: usize,
     order: Order,
     stake: Stake<L>,
+    /// How many receipts the walk of a settlement has met, and a slot of its heap.
+    met: usize,
+    slot: Slot,
 }
 
 impl<L: Ledger, A: Allocator + Copy> Model for Pass<L, A> {
@@ -55,6 +61,8 @@ impl<L: Ledger, A: Allocator + Copy> Pass<L, A> {
             starts: 0,
             order: Order::new(),
             stake: Stake::none(),
+            met: 0,
+            slot: Slot { pass: 0, next: 0 },
         }
     }
 
@@ -70,6 +78,64 @@ impl<L: Ledger, A: Allocator + Copy> Pass<L, A> {
         ensures { result.now ≡ self.now.receipts }
     {
         self.receipts.as_slice()
+    }
+
+    /// How many receipts equal the line at this place, this pass being the worker's, counted as far as two. The cost is a binary
+    /// search's where the places rise, and else that of a look at each receipt.
+    pub fn copies(&self, place: u64, line: &Line) -> u64
+        ensures { result ≡ min 2 (copies_in place line.now self.now) }
+    {
+        if self.worker != line.worker {
+            0
+        } else if self.order.rises {
+            copies_found(place, line, &self.receipts)
+        } else {
+            copies_among(place, line, &self.receipts)
+        }
+    }
+
+    /// The slot that this pass keeps for the walk of a settlement.
+    pub fn slot(&self) -> Slot {
+        self.slot
+    }
+
+    pub fn set_slot(&mut self, slot: Slot)
+        ensures { self.new ≡ self.old }
+    {
+        self.slot = slot;
+    }
+
+    /// At its first receipt, with itself in its slot.
+    pub fn begin(&mut self, pass: usize)
+        ensures { self.new ≡ self.old }
+    {
+        self.met = 0;
+        self.slot = Slot {
+            pass,
+            next: self.next_place(),
+        };
+    }
+
+    /// The place of the next receipt that the walk meets; the largest number where there is none.
+    pub fn next_place(&self) -> u64 {
+        match self.receipts.get(self.met) {
+            Some(receipt) => receipt.place,
+            None => u64::MAX,
+        }
+    }
+
+    /// Whether the next receipt equals the line at this place, this pass being the worker's; it is met then.
+    pub fn meets(&mut self, place: u64, line: &Line) -> bool
+        ensures same { self.new ≡ self.old }
+        ensures met { IsTrue result → 1 ≤ copies_in place line.now self.old }
+    {
+        let is_next = self.worker == line.worker
+            && self.met < self.receipts.len()
+            && is_copy_of(place, line, &self.receipts[self.met]);
+        if is_next {
+            self.met += 1;
+        }
+        is_next
     }
 }
 

@@ -1,4 +1,4 @@
-use Rattle.std.proofs.Common.{◌≡◌, ◌∙◌, refl, arith}
+use Rattle.std.proofs.Common.{arith}
 use Rattle.std.proofs.lemmas.Grind.{common_steps}
 use Rattle.path_workers.proofs.Opens.{is_open_push}
 use Rattle.path_workers.proofs.pass.is_owed.Goals as goal

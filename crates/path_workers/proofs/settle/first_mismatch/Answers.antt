@@ -1,4 +1,4 @@
-use Rattle.std.proofs.Common.{◌≡◌, ◌≤◌, ◌<◌, arith}
+use Rattle.std.proofs.Common.{arith}
 use Rattle.path_workers.proofs.Copies.{one_there, one_counted, copied_more}
 use Rattle.path_workers.proofs.settle.first_mismatch.Goals as goal
 

@@ -1,0 +1,120 @@
+-- Where there are as many receipts as lines, and each line has one, each has just one.
+use Rattle.std.proofs.Common.{◌≡◌, ◌≢◌, inl, inr, ℕ, ◌+◌, ◌-◌, ◌<◌, ◌≤◌, suc, zero, Bool, true, false, List, [], ◌∷◌, length, cond, get_or, refl, ap, arith, below_more}
+use Rattle.std.specs.Prelude.{if◌then◌else◌, ◌==◌}
+use Rattle.std.specs.List.{count_by}
+use Rattle.std.proofs.lemmas.Bool.{cases_lt}
+use Rattle.std.proofs.lemmas.List.{get_or_default}
+use Rattle.std.proofs.lemmas.List.Sums.{sum_by-cons}
+use Rattle.path_model.specs.declared.journal.Line.{Line}
+use Rattle.path_workers.specs.declared.answer.Receipt.{Receipt}
+use Rattle.path_workers.specs.Attempts.{Held}
+use Rattle.path_workers.specs.Settled.{is_copy, copies_in, copies, receipts_of, AllCopied}
+use Rattle.path_workers.specs.Holdings.{EachHasCopy}
+use Rattle.path_workers.proofs.Rising.{other_place}
+
+-- the sum of a number for each of m lines from number b on
+abbrev over : (ℕ → ℕ) → ℕ → ℕ → ℕ
+over f b zero = 0
+over f b (suc m) = over f b m + f (b + m)
+
+over_zero : (b m : ℕ) → over (λ k. 0) b m ≡ 0
+over_zero b zero = refl
+over_zero b (suc m) = let rest = over_zero b m in omega arith
+
+over_plus : (f g h : ℕ → ℕ) (b m : ℕ) → ((k : ℕ) → h k ≡ f k + g k) → over h b m ≡ over f b m + over g b m
+over_plus f g h b zero e = refl
+over_plus f g h b (suc m) e = let rest = over_plus f g h b m e in let last = e (b + m) in omega arith
+
+over_le : (f g : ℕ → ℕ) (b m : ℕ) → ((k : ℕ) → f k ≤ g k) → over f b m ≤ over g b m
+over_le f g b zero e = omega arith
+over_le f g b (suc m) e = let rest = over_le f g b m e in let last = e (b + m) in omega arith
+
+-- each below is one at least, so the sum is as many as there are
+over_low : (f : ℕ → ℕ) (b m : ℕ) → ((i : ℕ) → i < m → 1 ≤ f (b + i)) → m ≤ over f b m
+over_low f b zero e = omega arith
+over_low f b (suc m) e = let rest = over_low f b m (λ i h. e i (omega arith)) in let last = e m (omega arith) in omega arith
+
+-- and one that is more makes the sum more
+over_one : (f : ℕ → ℕ) (b m j : ℕ) → ((i : ℕ) → i < m → 1 ≤ f (b + i)) → j < m → m + f (b + j) ≤ over f b m + 1
+over_one f b zero j e h = absurd (omega arith)
+over_one f b (suc m) j e h = elim (cases_lt j m) [
+  | inl below ↦ (let rest = over_one f b m j (λ i lt. e i (omega arith)) below in let last = e m (omega arith) in omega arith)
+  | inr above ↦ (let same : j ≡ m = omega arith in let equal : f (b + j) ≡ f (b + m) = ap (λ (i : ℕ). f (b + i)) same in let rest = over_low f b m (λ i lt. e i (omega arith)) in omega arith)
+]
+
+-- whether the receipt is a copy of the line at place k
+abbrev hit : List Line → Line → Receipt → ℕ → ℕ
+hit lines d r k = cond (is_copy k (get_or lines k d) r) 1 0
+
+hit_elsewhere : (lines : List Line) (d : Line) (r : Receipt) (k : ℕ) → r.place ≢ k → hit lines d r k ≡ 0
+hit_elsewhere lines d r k other = ap {B = ℕ} (λ (b : Bool). cond b 1 0) (other_place k (get_or lines k d) r other)
+
+at_most_one : (b : Bool) → cond b 1 0 ≤ 1
+at_most_one true = omega arith
+at_most_one false = omega arith
+
+no_hit : (lines : List Line) (d : Line) (r : Receipt) (b m : ℕ) → b + m ≤ r.place → over (hit lines d r) b m ≡ 0
+no_hit lines d r b zero above = refl
+no_hit lines d r b (suc m) above =
+    let rest = no_hit lines d r b m (omega arith) in
+    let last = hit_elsewhere lines d r (b + m) (λ same. omega arith) in
+    omega arith
+
+-- a receipt is a copy of one line at most
+one_hit : (lines : List Line) (d : Line) (r : Receipt) (b m : ℕ) → over (hit lines d r) b m ≤ 1
+one_hit lines d r b zero = omega arith
+one_hit lines d r b (suc m) = elim (cases_lt r.place (b + m)) [
+  | inl below ↦ (let rest = one_hit lines d r b m in let last = hit_elsewhere lines d r (b + m) (λ same. omega arith) in omega arith)
+  | inr above ↦ (let rest = no_hit lines d r b m above in let last = at_most_one (is_copy (b + m) (get_or lines (b + m) d) r) in omega arith)
+]
+
+-- so the receipts of a pass are copies of no more lines than they are
+hits : (lines : List Line) (d : Line) (rs : List Receipt) (b m : ℕ) → over (λ k. count_by (λ r. is_copy k (get_or lines k d) r) rs) b m ≤ length rs
+hits lines d [] b m = let none = over_zero b m in omega arith
+hits lines d (r ∷ rs) b m =
+    let rest = hits lines d rs b m in
+    let first = one_hit lines d r b m in
+    let both = over_plus (hit lines d r) (λ k. count_by (λ q. is_copy k (get_or lines k d) q) rs) (λ k. count_by (λ q. is_copy k (get_or lines k d) q) (r ∷ rs)) b m
+    (λ k. sum_by-cons (λ (q : Receipt). cond (is_copy k (get_or lines k d) q) 1 0) r rs) in
+    omega (arith, rest, first, both)
+
+no_more : (b : Bool) (n : ℕ) → (if b then n else 0) ≤ n
+no_more true n = omega arith
+no_more false n = omega arith
+
+-- and so those of all passes
+all_hits : (lines : List Line) (d : Line) (hs : List Held) (b m : ℕ) → over (λ k. copies k (get_or lines k d) hs) b m ≤ receipts_of hs
+all_hits lines d [] b m = let none = over_zero b m in omega arith
+all_hits lines d (h ∷ hs) b m =
+    let rest = all_hits lines d hs b m in
+    let own = hits lines d h.receipts b m in
+    let less = over_le (λ k. copies_in k (get_or lines k d) h) (λ k. count_by (λ r. is_copy k (get_or lines k d) r) h.receipts) b m (λ k. no_more (h.worker == (get_or lines k d).worker) _) in
+    let both = over_plus (λ k. copies_in k (get_or lines k d) h) (λ k. copies k (get_or lines k d) hs) (λ k. copies k (get_or lines k d) (h ∷ hs)) b m
+    (λ k. sum_by-cons (λ (g : Held). copies_in k (get_or lines k d) g) h hs) in
+    let counted = sum_by-cons (λ (g : Held). length g.receipts) h hs in
+    omega (arith, rest, own, less, both, counted)
+
+-- as many receipts as lines, and one for each: just one for each
+pub all_copied : (b : ℕ) (lines : List Line) (hs : List Held) → receipts_of hs ≡ length lines - b → EachHasCopy b lines hs → AllCopied b lines hs
+all_copied b lines hs count each k d le lt =
+    let m : ℕ = length lines - b in
+    let f : ℕ → ℕ = (λ i. copies i (get_or lines i d) hs) in
+    let most = all_hits lines d hs b m in
+    let one = over_one f b m (k - b) (λ i h. each (b + i) d (omega arith) (omega arith)) (omega arith) in
+    let place : b + (k - b) ≡ k = omega arith in
+    let here : f (b + (k - b)) ≡ f k = ap f place in
+    let some = each k d le lt in
+    omega (arith, most, one, here, some, count)
+
+-- below one more
+pub found_more : (lines : List Line) (hs : List Held) (b i : ℕ) → ((k : ℕ) (d : Line) → b ≤ k → k < i → 1 ≤ copies k (get_or lines k d) hs) → ((d : Line) → 1 ≤ copies i (get_or lines i d) hs)
+    → (k : ℕ) (d : Line) → b ≤ k → k < i + 1 → 1 ≤ copies k (get_or lines k d) hs
+found_more lines hs b i below here k d le lt =
+    below_more (λ (j : ℕ). (e : Line) → b ≤ j → 1 ≤ copies j (get_or lines j e) hs) i (λ j low e from. below j e from low) (λ e from. here e) k lt d le
+
+-- whatever stands for a line past the end
+pub found_there : (lines : List Line) (hs gs : List Held) (k : ℕ) (d e : Line) → gs ≡ hs → k < length lines → 1 ≤ copies k (get_or lines k e) gs → 1 ≤ copies k (get_or lines k d) hs
+found_there lines hs gs k d e equal lt some =
+    let same : copies k (get_or lines k d) hs ≡ copies k (get_or lines k e) hs = ap (λ (l : Line). copies k l hs) (get_or_default lines k d e lt) in
+    let there : copies k (get_or lines k e) gs ≡ copies k (get_or lines k e) hs = ap (λ (fs : List Held). copies k (get_or lines k e) fs) equal in
+    omega arith
