@@ -45,18 +45,25 @@ pub(crate) fn system_of<D: Device>(
     }
 }
 
-/// Each attempt of the pass is answered as told.
+/// The attempt of the row is answered as told.
 pub(crate) fn makes<L: Opening, S: Steps, A: Allocator + Copy, R: Wait + Abort>(
+    rt: &R,
+    desk: &Desk<L, S>,
+    pass: &mut Pass<L, A>,
+    row: Row,
+) {
+    let (attempt, place, reply) = row;
+    assert!(rt; desk.attempt(rt, pass, attempt) == Ok(Answer { place, reply }));
+}
+
+/// Each of them is.
+pub(crate) fn makes_all<L: Opening, S: Steps, A: Allocator + Copy, R: Wait + Abort>(
     rt: &R,
     desk: &Desk<L, S>,
     pass: &mut Pass<L, A>,
     rows: &[Row],
 ) {
-    for (attempt, place, reply) in rows {
-        let answer = Answer {
-            place: *place,
-            reply: *reply,
-        };
-        assert!(rt; desk.attempt(rt, pass, *attempt) == Ok(answer));
+    for row in rows {
+        makes(rt, desk, pass, *row);
     }
 }

@@ -2,8 +2,8 @@
 use Rattle.std.proofs.Common.{length}
 use Rattle.path_tests_workers.proofs.settling.slot_settled.Given as goal
 
-abbrev pub ghosts-settled-L-Ledger : goal.ghosts-settled-L-Ledger
-ghosts-settled-L-Ledger g a = record { name = a.blank.name; parts = a.blank.parts }
+abbrev pub ghosts-exchanged-L-Ledger : goal.ghosts-exchanged-L-Ledger
+ghosts-exchanged-L-Ledger g a = record { name = a.blank.name; parts = a.blank.parts }
 
-abbrev pub ghosts-settled-L-Opening : goal.ghosts-settled-L-Opening
-ghosts-settled-L-Opening g a = record { before = length a.system.journal }
+abbrev pub ghosts-exchanged-L-Opening : goal.ghosts-exchanged-L-Opening
+ghosts-exchanged-L-Opening g a = record { before = length a.system.journal }
