@@ -246,3 +246,23 @@ fn lines_before_the_desk(rt: HostRuntime) {
     let outcome = deposited_before(&rt, rt.alloc());
     assert!(rt; outcome == Ok(Ok((5, 2, 0))));
 }
+
+fn told<R: Abort>(rt: &R, alloc: Global, fault: SettleFault, text: &str) {
+    let told = format!(in alloc; "{fault}").expect(rt, "memory is ample");
+    assert!(rt; told.as_str() == text);
+}
+
+#[test]
+fn fault_texts(rt: HostRuntime) {
+    let missing = SettleFault::MissingPass {
+        lines: 5,
+        receipts: 3,
+    };
+    told(&rt, rt.alloc(), missing, "5 lines and 3 receipts");
+    told(
+        &rt,
+        rt.alloc(),
+        SettleFault::Mismatch { place: 7 },
+        "line 7 is not one receipt",
+    );
+}

@@ -5,10 +5,10 @@ ghost use Rattle.std.specs.Prelude.{ℕ};
 use std::marker::Brand;
 use std::sync::ledger::Ledger;
 
-/// Which desk it is, and how many lines its system had when the desk was opened.
+/// The name of a desk in the types of that desk and its passes, and how many lines its system had when it was opened.
 ///
-/// It stands for one desk in the types of that desk and its passes. A program writes [`Brand`] for it, and contracts then know
-/// one desk from another. It takes no memory and no time.
+/// A function that opens a desk is generic in it, and is called with [`Brand`]: the proof of that call says which desk is meant.
+/// That is how contracts know the passes of one desk from those of another. At run time it is nothing.
 pub trait Opening: Ledger {
     ghost before: { ℕ };
 }

@@ -21,10 +21,10 @@ use std::marker::Model;
 use std::sync::ledger::Ledger;
 use std::sync::{Mutex, Wait};
 
-/// The receipts of one worker at one desk: one for each line of the journal that the worker's attempts through this pass wrote.
+/// The receipts of one worker at one desk: one for each line that the worker's attempts through this pass wrote.
 ///
-/// Contracts see the worker and the receipts. There is always a place for the receipt of each finish that is still owed: of a
-/// start that the pass has and whose finish it hasn't.
+/// Contracts see the worker and the receipts. A receipt is a share of its desk's count of lines, which rises under the lock alone: so
+/// nobody has a receipt without a step of that desk's system. The share takes no bytes.
 #[derive(Drop)]
 pub struct Pass<L: Ledger, A: Allocator + Copy = Global> {
     worker: u32,
@@ -66,14 +66,14 @@ impl<L: Ledger, A: Allocator + Copy> Pass<L, A> {
         }
     }
 
-    /// Whose pass it is.
+    /// The number of the worker whose pass it is.
     pub fn worker(&self) -> u32
         ensures { result ≡ self.now.worker }
     {
         self.worker
     }
 
-    /// All receipts, in the order of the attempts.
+    /// All receipts, in the order of the attempts. It waits for nobody.
     pub fn receipts(&self) -> &[Receipt]
         ensures { result.now ≡ self.now.receipts }
     {

@@ -10,30 +10,33 @@ use crate::steps::Steps;
 use path_model::Line;
 use std::alloc::{Allocator, Global};
 use std::sync::ledger::Ledger;
+use thiserror::Error;
 
 /// Why a desk isn't settled.
-#[derive(Clone, Copy, Debug, PartialEq, Eq)]
+#[derive(Clone, Copy, Debug, PartialEq, Eq, Error)]
 pub enum SettleFault {
     /// The numbers of lines since the desk was opened and of receipts differ.
+    #[error("{lines} lines and {receipts} receipts")]
     MissingPass {
-        /// The lines.
+        /// How many lines there are.
         lines: u64,
-        /// The receipts.
+        /// How many receipts all passes have; the largest `u64` where they have more.
         receipts: u64,
     },
-    /// The line at this place isn't equal to exactly one receipt; it is the first.
+    /// There are as many lines as receipts, but the line at this place isn't equal to exactly one of these. It is the first such line.
+    #[error("line {place} is not one receipt")]
     Mismatch {
-        /// The place.
+        /// The place in the journal, counted from 0.
         place: u64,
     },
 }
 
-/// A settled desk: the system, and the passes as they were.
+/// What a settled desk was: each line since it was opened is one receipt of these passes, and no receipt is left over.
 #[derive(Drop)]
 pub struct Settled<M: Ledger, S: Steps, A: Allocator + Copy = Global> {
-    /// The system, as it was left.
+    /// The system, as the last step left it.
     pub system: S,
-    /// The passes, unchanged.
+    /// The passes, as they were handed in.
     pub passes: Vec<Pass<M, A>, A>,
 }
 

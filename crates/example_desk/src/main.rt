@@ -1,0 +1,85 @@
+//! Two workers serve requests at one desk, each in a thread of its own. Then their receipts are settled against the journal.
+#![tactic(auto)]
+
+ghost use Rattle.std.specs.Prelude.{◌≡◌, length};
+
+use anyhow::{Result, anyhow};
+use path_model::{Attempt, OpId, Reply, Verb};
+use path_read::read;
+use path_shelf::Tally;
+use path_system::System;
+use path_workers::{Desk, Opening, Pass, Steps};
+use std::alloc::Global;
+use std::marker::Brand;
+use std::sync::Wait;
+use std::sync::ledger::Blank;
+use std::thread;
+use std::thread::Threads;
+
+/// The bytes that were served. Any number of requests overlap.
+const BYTES: &[u8] = b"resource bytes tally operation serve path { serve } end end";
+
+/// Starts a request, adds ten bytes and finishes it, a hundred times. A start that isn't admitted is left out.
+fn serve<L: Opening, S: Steps, R: Wait>(rt: &R, desk: &Desk<L, S>, mut pass: Pass<L>) -> Pass<L> {
+    for _ in 0..100 {
+        if let Ok(answer) = desk.attempt(rt, &mut pass, Attempt::Start(OpId(0))) {
+            if let Reply::Started(request) = answer.reply {
+                let _ = desk.attempt(rt, &mut pass, Attempt::Apply(request, Verb::Add(10)));
+                let _ = desk.attempt(rt, &mut pass, Attempt::Finish(request));
+            }
+        }
+    }
+    pass
+}
+
+/// The system, once two workers have served and each line is the receipt of one of them.
+fn served_by_two<L: Opening + Send + Sync, S: Steps + Send, R: Threads + Wait + Sync>(
+    rt: &R,
+    alloc: Global,
+    system: S,
+    blank: Blank,
+) -> Result<S>
+    requires name { blank.name ≡ L.name }
+    requires parts { (blank.parts ≡ L.parts) × (blank.parts ≡ 18446744073709551615) }
+    requires before { length (S.account system).journal ≡ L.before }
+{
+    let desk = Desk::<L, S>::open(system, blank);
+    let shared = &desk;
+    let one = desk.pass(alloc, 1);
+    let two = desk.pass(alloc, 2);
+    let (one, two) = thread::join(
+        rt,
+        move || serve(rt, shared, one),
+        move || serve(rt, shared, two),
+    );
+    let mut passes = Vec::new(alloc);
+    passes.push(one)?;
+    passes.push(two)?;
+    match desk.settle(passes) {
+        Ok(settled) => Ok(settled.system),
+        Err((fault, _system)) => Err(anyhow!("{fault}")),
+    }
+}
+
+/// A system over a tally that stands at 0, with room for a thousand lines.
+fn opened(alloc: Global) -> Result<System<Tally>> {
+    let decl = read(alloc, BYTES)?;
+    let mut devices = Vec::new(alloc);
+    devices.push(Tally::new(0))?;
+    match System::open(alloc, decl, devices, 1000) {
+        Ok(system) => Ok(system),
+        Err((fault, _devices)) => Err(anyhow!("{fault}")),
+    }
+}
+
+fn main(rt: HostRuntime) -> Result<()> {
+    let system = opened(rt.alloc())?;
+    let system = served_by_two::<Brand, System<Tally>, HostRuntime>(
+        &rt,
+        rt.alloc(),
+        system,
+        Blank::new(u64::MAX),
+    )?;
+    println!(rt; "{} lines, each with one receipt", system.journal().len())?;
+    Ok(())
+}
