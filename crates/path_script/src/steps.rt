@@ -1,6 +1,6 @@
 //! The steps of a process.
 
-ghost use Rattle.std.specs.Prelude.{◌≡◌, ◌+◌, ◌<◌, ◌≤◌, [], ◌∷◌, ◌++◌, map, length, All, IfSome, IfNone, IfOk, IfErr, OnOk};
+ghost use Rattle.std.specs.Prelude.{◌≡◌, ◌+◌, ◌^◌, ◌<◌, ◌≤◌, [], ◌∷◌, ◌++◌, map, length, All, IfSome, IfNone, IfOk, IfErr, OnOk};
 ghost use Rattle.path_fields.specs.Splits.{HasNone};
 ghost use Rattle.path_script.specs.Scripts.{MayStep, entered_after, IsBalanced};
 ghost use Rattle.path_script.specs.ScriptLines.{ends, line_text, Reads};
@@ -97,7 +97,7 @@ pub fn read_steps<'a, A: Allocator + Copy, B: Allocator + Copy>(
     lines: u32,
     before: u32,
 ) -> Result<(Vec<Step, B>, &'a [u8]), ScriptFault>
-    requires few_lines { lines ≤ 8192 }
+    requires few_lines { lines + 4096 < 2 ^ 32 }
     requires few_steps { before ≤ 4096 }
     ensures reads { IfOk result (λ p. Reads text.now (map (step_line decl.now.declaration) p.0.items ++ ends ∷ []) p.1.now) }
     ensures fits { IfOk result (λ p. All (StepFits decl.now.declaration) p.0.items) }

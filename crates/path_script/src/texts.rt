@@ -53,9 +53,15 @@ fn own_name<A: Allocator + Copy>(alloc: A, name: &[u8]) -> Result<String<A>, All
     String::from_str(alloc, name)
 }
 
-/// The script of a text, over the operations of the declaration. Each process is a line `process NAME`, its steps, one a line, and a line `end`; a
-/// step is `enter NAME`, `use put X`, `use take`, `use look`, `use add X` or `leave`. The line feed after the last line may be missing, and
-/// an empty text has no process. A fault names the first line that can't follow the lines before it, and why. One pass over the text.
+/// The script of a text, over the operations of the declaration. Each process is a line `process NAME`, its steps, one a line, and
+/// a line `end`; a step is `enter NAME`, `use put X`, `use take`, `use look`, `use add X` or `leave`. The line feed after the last
+/// line may be missing, and an empty text has no processes.
+///
+/// `TooLong` exactly where the text has more than [`LIMIT`] bytes; else another fault names the first line that can't follow the
+/// lines before it, counted from 0, and why: the first of `BadLine`, `Undeclared`, `Unbalanced`, `TooDeep` and `TooMany` that
+/// applies to it. `OutOfMemory` where a growth of memory is refused.
+///
+/// One pass over the text, with a look-up of each name that is entered; memory for each name and each step.
 pub fn read_script<A: Allocator + Copy, B: Allocator + Copy>(
     alloc: B,
     decl: &Decl<A>,
