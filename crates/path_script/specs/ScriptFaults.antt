@@ -59,14 +59,17 @@ pub data Breaks (d : Declaration) : Standing → ScriptLine → Cause → Type 0
 -- this line can't follow, for this cause
 pub data Refuses (d : Declaration) : Standing → List ℕ → Cause → Type 0 where
   -- it has none of the forms that may stand here
-  no_form : {s : Standing} {line : List ℕ} → ((l : ScriptLine) → LineFits l → MayStand s l → line ≢ line_text l) → Refuses d s line causes.Bad
+  no_form : {s : Standing} {line : List ℕ} → ((l : ScriptLine) → LineFits l → MayStand s l → line ≢ line_text l)
+      → Refuses d s line causes.Bad
   -- it has one, and breaks a rule
-  no_rule : {s : Standing} {line : List ℕ} {c : Cause} (l : ScriptLine) → LineFits l → line ≡ line_text l → Breaks d s l c → Refuses d s line c
+  no_rule : {s : Standing} {line : List ℕ} {c : Cause} (l : ScriptLine) → LineFits l → line ≡ line_text l → Breaks d s l c
+      → Refuses d s line c
 
 -- the text can't go on with this rest, for this cause
 pub data Stops (d : Declaration) : Standing → List ℕ → Cause → Type 0 where
   -- its first line can't follow
-  at_line : {s : Standing} {rest : List ℕ} {c : Cause} (line : List ℕ) → rest ≢ [] → IsFirstLine line rest → Refuses d s line c → Stops d s rest c
+  at_line : {s : Standing} {rest : List ℕ} {c : Cause} (line : List ℕ) → rest ≢ [] → IsFirstLine line rest → Refuses d s line c
+      → Stops d s rest c
   -- nothing is left, and a process hasn't ended
   at_end : {k n : ℕ} {rest : List ℕ} → rest ≡ [] → Stops d (within k n) rest causes.Bad
 
