@@ -68,7 +68,10 @@ fn refuses_faulty_lines(rt: HostRuntime) {
 // Line 0 of each text is bad.
 fn are_bad(rt: &impl Abort, heap: Global, decl: &Decl, texts: &[&str]) {
     for text in texts {
-        assert!(rt; refusal(heap, decl, text) == Some(ScriptFault::BadLine(0)), "at {text:?}");
+        assert!(rt;
+            refusal(heap, decl, text) == Some(ScriptFault::BadLine(0)),
+            "at {text:?}"
+        );
     }
 }
 
@@ -103,7 +106,10 @@ fn said_of(heap: Global, decl: &Decl, line: &str) -> Option<ScriptFault> {
 // Each line is bad there.
 fn are_bad_steps(rt: &impl Abort, heap: Global, decl: &Decl, lines: &[&str]) {
     for line in lines {
-        assert!(rt; said_of(heap, decl, line) == Some(ScriptFault::BadLine(2)), "at {line:?}");
+        assert!(rt;
+            said_of(heap, decl, line) == Some(ScriptFault::BadLine(2)),
+            "at {line:?}"
+        );
     }
 }
 

@@ -55,11 +55,7 @@ const TEXTS: [(&str, Told<'static>); 6] = [
         &[
             (
                 "producer",
-                &[
-                    Step::Enter(OpId(0)),
-                    Step::Apply(Verb::Put(7)),
-                    Step::Leave,
-                ],
+                &[Step::Enter(OpId(0)), Step::Apply(Verb::Put(7)), Step::Leave],
             ),
             (
                 "consumer",
