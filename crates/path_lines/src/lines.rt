@@ -122,8 +122,9 @@ pub fn push_told<A: Allocator + Copy>(out: &mut Vec<u8, A>, reply: Reply) -> Res
     Ok(())
 }
 
-/// Appends the text of a reply to a text.
-fn push_answer<A: Allocator + Copy>(out: &mut String<A>, reply: Reply) -> Result<(), OutOfMemory>
+/// Appends the text of a reply. Where memory is wanting, a front of it may have been appended. Grows the text only where its
+/// capacity doesn't suffice.
+pub fn push_reply<A: Allocator + Copy>(out: &mut String<A>, reply: Reply) -> Result<(), OutOfMemory>
     ensures { OnOk result (string_bytes out.new ≡ string_bytes out.old ++ reply_text reply) }
 {
     let (words, number) = spelled(reply);
@@ -148,7 +149,7 @@ pub fn push_line<A: Allocator + Copy, B: Allocator + Copy>(
     write!(out, "{worker} ")?;
     push_attempt(out, decl, line.attempt)?;
     out.push_str(": ")?;
-    push_answer(out, line.reply)
+    push_reply(out, line.reply)
 }
 
 /// The text of a line without a line feed: the attempt, `: ` and the reply. Refused only for want of memory.

@@ -4,6 +4,8 @@ use Rattle.path_lex.specs.declared.fault.DeclFault.{DeclFault}
 use Rattle.path_lex.specs.declared.fault.DeclFault.TheVariants as declarations
 use Rattle.path_lines.specs.declared.texts.TextFault.{TextFault}
 use Rattle.path_lines.specs.declared.texts.TextFault.TheVariants as texts
+use Rattle.path_script.specs.declared.fault.ScriptFault.{ScriptFault}
+use Rattle.path_script.specs.declared.fault.ScriptFault.TheVariants as scripts
 use Rattle.path_system.specs.declared.fault.OpenFault.{OpenFault}
 use Rattle.path_system.specs.declared.fault.OpenFault.TheVariants as openings
 use Rattle.path_audit.specs.declared.auditor.AuditFault.{AuditFault}
@@ -43,6 +45,11 @@ abbrev pub text_status : TextFault → Status
 text_status texts.OutOfMemory = statuses.NoMemory
 text_status fault = statuses.TextRefused
 
+-- the status of a refused script
+abbrev pub script_status : ScriptFault → Status
+script_status scripts.OutOfMemory = statuses.NoMemory
+script_status fault = statuses.TextRefused
+
 -- the status of a fault
 abbrev pub status_of : Fault → Status
 status_of (faults.Declaration fault) = declaration_status fault
@@ -53,4 +60,6 @@ status_of (faults.Unreadable name) = statuses.StreamFailed
 status_of (faults.TooLong name) = statuses.StreamFailed
 status_of faults.Unwritable = statuses.StreamFailed
 status_of (faults.Text fault) = text_status fault
+status_of (faults.Script fault) = script_status fault
+status_of faults.Unsettled = statuses.Unsound
 status_of faults.OutOfMemory = statuses.NoMemory

@@ -9,6 +9,7 @@ use path_audit::AuditFault;
 use path_lex::DeclFault;
 use path_lines::TextFault;
 use path_model::OutOfMemory;
+use path_script::ScriptFault;
 use path_system::OpenFault;
 use std::alloc::{AllocError, AllocFailed};
 use std::fmt::Display;
@@ -34,6 +35,10 @@ pub enum Fault<'a> {
     Unwritable,
     /// The attempts, or the text of a journal, are refused.
     Text(TextFault),
+    /// The text of a script is refused.
+    Script(ScriptFault),
+    /// The journal of a run isn't what its processes were told.
+    Unsettled,
     /// Memory is wanting.
     OutOfMemory,
 }
@@ -78,11 +83,13 @@ impl<'a> Fault<'a> {
             | Fault::Open(OpenFault::OutOfMemory)
             | Fault::Audit(AuditFault::OutOfMemory)
             | Fault::Text(TextFault::OutOfMemory)
+            | Fault::Script(ScriptFault::OutOfMemory)
             | Fault::OutOfMemory => Status::NoMemory,
             Fault::Declaration(_) => Status::DeclarationRefused,
             Fault::Arguments | Fault::Open(_) | Fault::Audit(_) => Status::CommandRefused,
             Fault::Unreadable(_) | Fault::TooLong(_) | Fault::Unwritable => Status::StreamFailed,
-            Fault::Text(_) => Status::TextRefused,
+            Fault::Text(_) | Fault::Script(_) => Status::TextRefused,
+            Fault::Unsettled => Status::Unsound,
         }
     }
 }
@@ -125,6 +132,8 @@ impl Display for Fault<'_> {
             Fault::TooLong(name) => write!(f, "file: {name}: too long"),
             Fault::Unwritable => f.write_str("output: cannot write"),
             Fault::Text(fault) => write!(f, "text: {fault}"),
+            Fault::Script(fault) => write!(f, "script: {fault}"),
+            Fault::Unsettled => f.write_str("run: not settled"),
             Fault::OutOfMemory => f.write_str("out of memory"),
         }
     }

@@ -11,9 +11,9 @@ pub enum Status {
     CommandRefused,
     /// 3: a file or stream failed.
     StreamFailed,
-    /// 4: the attempts, or the text of a journal, are refused.
+    /// 4: the attempts, the text of a journal, or a script are refused.
     TextRefused,
-    /// 5: the journal is unsound.
+    /// 5: a line of the journal is wrong, or not all processes of a run are done.
     Unsound,
     /// 6: memory is wanting.
     NoMemory,

@@ -22,16 +22,16 @@ resource slot cell operation deposit, remove path deposit ; remove end end
 2 use 1 look
 END
 
-docs/language.md describes declarations, docs/attempts.md attempts, replies and reports, and
-docs/journals.md journals and their audit.
+docs/language.md describes declarations, docs/attempts.md attempts, replies and reports,
+docs/journals.md journals and their audit, and docs/scripts.md scripts of processes.
 
 Exit statuses:
   0  done
   1  the declaration is refused
   2  the command line is refused
   3  a file or stream failed
-  4  the attempts or the journal are refused
-  5  a line of the journal is wrong
+  4  the attempts, the journal or the script are refused
+  5  a line of the journal is wrong, or not all processes are done
   6  memory is wanting";
 
 /// The name of a file, which has to be there.
@@ -110,6 +110,21 @@ fn audit<'a>(alloc: Global) -> Result<Command<'a>, AllocError> {
         ))
 }
 
+/// The command that runs a script.
+fn run<'a>(alloc: Global) -> Result<Command<'a>, AllocError> {
+    Command::new(alloc, "run")
+        .about("Runs the processes of a script, writes the journal and says how each process ended")
+        .after_help(
+            "docs/language.md describes declarations, docs/scripts.md scripts and how processes end.",
+        )
+        .arg(file(alloc, "DECL", "the file of the declaration"))?
+        .arg(file(alloc, "SCRIPT", "the file of the script"))?
+        .arg(room(
+            alloc,
+            "how many lines the journal has room for, 1 to 1048576",
+        ))
+}
+
 /// The program with one command more, where that was made.
 fn with<'a>(
     program: Command<'a>,
@@ -130,5 +145,6 @@ pub fn command<'a>(alloc: Global) -> Result<Command<'a>, AllocError> {
     let program = with(program, check(alloc))?;
     let program = with(program, compile(alloc))?;
     let program = with(program, trace(alloc))?;
-    with(program, audit(alloc))
+    let program = with(program, audit(alloc))?;
+    with(program, run(alloc))
 }

@@ -8,11 +8,14 @@ use crate::files::{read_file, read_stdin};
 use clap::error::ErrorKind;
 use clap::{ArgMatches, Error};
 use path_commands::{audit_bytes, check_to, compile_to};
+use path_processes::run_bytes;
 use path_streams::{Fault, Status, tell, whole};
 use path_trace::{ROOM, trace_bytes};
 use std::env;
 use std::io::Write;
 use std::rt::{Env, Files};
+use std::sync::Wait;
+use std::thread::Threads;
 
 /// Tells what clap has to say: help and the version on standard output, all else on standard error.
 fn tell_words<O: Write, E: Write>(error: &Error, out: &mut O, err: &mut E) -> Status
@@ -105,6 +108,22 @@ fn audit<R: Files + AllocGlobal, O: Write, E: Write>(
     }
 }
 
+/// Runs the script of one file under the declaration of another.
+fn run<R: Files + AllocGlobal + Threads + Wait + Sync, O: Write, E: Write>(
+    rt: &R,
+    words: &ArgMatches<'_>,
+    out: &mut O,
+    err: &mut E,
+) -> Status {
+    let room = words.get_one("room").unwrap_or(ROOM);
+    match read_both(rt, words, "SCRIPT") {
+        Ok((declaration, script)) => {
+            run_bytes(rt, rt.alloc(), &declaration, room, &script, out, err)
+        }
+        Err(fault) => tell(err, fault),
+    }
+}
+
 /// Traces what standard input holds.
 fn without_words<R: Input + AllocGlobal, O: Write, E: Write>(
     rt: &R,
@@ -121,7 +140,7 @@ fn without_words<R: Input + AllocGlobal, O: Write, E: Write>(
 }
 
 /// Does what the words of the command line asked for, as clap matched them.
-fn matched<R: Files + Input + AllocGlobal, O: Write, E: Write>(
+fn matched<R: Files + Input + AllocGlobal + Threads + Wait + Sync, O: Write, E: Write>(
     rt: &R,
     matches: &ArgMatches<'_>,
     out: &mut O,
@@ -131,13 +150,14 @@ fn matched<R: Files + Input + AllocGlobal, O: Write, E: Write>(
         Some(("check", words)) => check(rt, words, out, err),
         Some(("compile", words)) => compile(rt, words, out, err),
         Some(("audit", words)) => audit(rt, words, out, err),
+        Some(("run", words)) => run(rt, words, out, err),
         Some((_, words)) => trace(rt, words, out, err),
         None => without_words(rt, out, err),
     }
 }
 
 /// Does what these words of the command line ask for.
-fn asked<R: Files + Input + AllocGlobal, O: Write, E: Write>(
+fn asked<R: Files + Input + AllocGlobal + Threads + Wait + Sync, O: Write, E: Write>(
     rt: &R,
     words: &[String],
     out: &mut O,
@@ -153,8 +173,12 @@ fn asked<R: Files + Input + AllocGlobal, O: Write, E: Write>(
 }
 
 /// Does what the words of the command line ask for. Where several causes stand, the first counts: words, files,
-/// declaration, attempts or journal, room.
-pub fn perform<R: Env + Files + Input + AllocGlobal, O: Write, E: Write>(
+/// declaration, attempts, journal or script, room.
+pub fn perform<
+    R: Env + Files + Input + AllocGlobal + Threads + Wait + Sync,
+    O: Write,
+    E: Write,
+>(
     rt: &R,
     out: &mut O,
     err: &mut E,
