@@ -5,3 +5,4 @@ pub mod Telling
 pub mod Progress
 pub mod Following
 pub mod Refusals
+pub mod CallerLemmas
