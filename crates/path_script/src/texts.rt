@@ -88,6 +88,7 @@ pub fn read_script<A: Allocator + Copy, B: Allocator + Copy>(
     while !rest.is_empty() {
         let (line, _) = until(rest, b'\n');
         let count = processes.len() as u32;
+        // Each process has a line for each of its steps, and two more.
         let lines = told + 2 * count;
         let name = match read_begin(line, count) {
             Ok(name) => own_name(alloc, name)?,
