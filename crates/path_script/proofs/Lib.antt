@@ -3,5 +3,8 @@ pub mod StepLemmas
 pub mod Reading
 pub mod Telling
 pub mod Progress
-pub mod Following
+pub mod OneScript
+pub mod Running
 pub mod Refusals
+pub mod OneFault
+pub mod CallerLemmas

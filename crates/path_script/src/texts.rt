@@ -5,6 +5,7 @@ ghost use Rattle.std.specs.String.{string_bytes};
 ghost use Rattle.path_model.specs.Declarations.{Declaration};
 ghost use Rattle.path_lex.specs.Names.{IsName};
 ghost use Rattle.path_fields.specs.Splits.{HasNone};
+ghost use Rattle.path_script.specs.declared.fault.ScriptFault.{ScriptFault};
 ghost use Rattle.path_script.specs.declared.fault.ScriptFault.TheVariants as faults;
 ghost use Rattle.path_script.specs.Scripts.{Plan};
 ghost use Rattle.path_script.specs.ScriptLines.{begins, line_text};
@@ -71,6 +72,9 @@ pub fn read_script<A: Allocator + Copy, B: Allocator + Copy>(
     // A text tells one script.
     ensures one { IfOk result (λ s. (ps : List Plan) → IsScriptText decl.now.declaration text.now ps → ps ≡ s.processes) }
     ensures err { IfErr result (λ e. IsScriptFault decl.now.declaration text.now e) }
+    // A text that isn't too long has one fault at most, but for want of memory.
+    ensures one_fault { IfErr result (λ e. (f : ScriptFault) → length text.now ≤ 262144
+        → e ≢ faults.OutOfMemory → f ≢ faults.OutOfMemory → IsScriptFault decl.now.declaration text.now f → f ≡ e) }
     ensures too_long { IsErrOf result faults.TooLong ↔ (262144 < length text.now) }
     // What is refused, but for its length or want of memory, is the text of no script.
     ensures none { IfErr result (λ e. e ≢ faults.TooLong → e ≢ faults.OutOfMemory → IsNoScriptText decl.now.declaration text.now) }
@@ -84,6 +88,7 @@ pub fn read_script<A: Allocator + Copy, B: Allocator + Copy>(
     while !rest.is_empty() {
         let (line, _) = until(rest, b'\n');
         let count = processes.len() as u32;
+        // Each process has a line for each of its steps, and two more.
         let lines = told + 2 * count;
         let name = match read_begin(line, count) {
             Ok(name) => own_name(alloc, name)?,
