@@ -121,6 +121,11 @@ module _ (E : Type 0) (line_of : E → List ℕ) (Fits : E → Type 0) where
         let p = cut_once 10 line (line_of e) [] (text_of fs) h (clean e (All-head Fits e fs fits)) (is ∙ first_of_text e fs) in
         (e, fs, refl, p.0)
 
+    -- what spells a text begins with its first line
+    pub spells_first : (line rest : List ℕ) (es : List E) → All Fits es → rest ≢ [] → IsFirstLine line rest → Spells rest es → (e : E) × (fs : List E) × (es ≡ e ∷ fs) × (line ≡ line_of e)
+    spells_first line rest es fits more (h, inl is) sp = spells_last line es fits (λ e. more (is ∙ e)) h (subst (λ x. Spells x es) is sp)
+    spells_first line rest es fits more (h, inr (left, is)) sp = let p = spells_cut line left es fits h (subst (λ x. Spells x es) is sp) in (p.0, p.1, p.2, p.3)
+
     line_at : (line : List ℕ) (es : List E) (e : E) (fs : List E) → ((e : E) → Fits e → line ≢ line_of e) → es ≡ e ∷ fs → line ≡ line_of e → All Fits es → ⊥
     line_at line es e fs none is spelled fits = none e (All-head Fits e fs (subst (All Fits) is fits)) spelled
 
@@ -181,3 +186,16 @@ module _ (E : Type 0) (line_of : E → List ℕ) (Fits : E → Type 0) where
           let same : e ≡ p.0 = once e p.0 fit (All-head Fits p.0 p.1 fits) p.3 in
           let rest : g ∷ es ≡ p.1 = spells_once (g ∷ es) p.1 q.0 (All-tail Fits e (g ∷ es) h) (All-tail Fits p.0 p.1 fits) (inr (sym q.1)) p.4 in
           let is = p.2 in cc
+
+      -- what spells a text begins with the lines that the text begins with
+      pub spells_behind : (before : List E) (rest : List ℕ) (es : List E) → All Fits before → All Fits es → Spells (text_of before ++ rest) es → (fs : List E) × (es ≡ before ++ fs) × Spells rest fs
+      spells_behind [] rest es h k s = (es, refl, s)
+      spells_behind (b ∷ bs) rest es h k s =
+          let fit = All-head Fits b bs h in
+          let regroup : text_of (b ∷ bs) ++ rest ≡ line_of b ++ 10 ∷ (text_of bs ++ rest) = simp append_assoc in
+          let p = spells_cut (line_of b) (text_of bs ++ rest) es k (clean b fit) (subst (λ x. Spells x es) regroup s) in
+          let fits : All Fits (p.0 ∷ p.1) = subst (All Fits) p.2 k in
+          let same : b ≡ p.0 = once b p.0 fit (All-head Fits p.0 p.1 fits) p.3 in
+          let q = spells_behind bs rest p.1 (All-tail Fits b bs h) (All-tail Fits p.0 p.1 fits) p.4 in
+          let is = p.2 in
+          let left = q.1 in (q.0, cc, q.2)
