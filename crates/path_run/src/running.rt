@@ -52,6 +52,7 @@ fn outcome<L: Opening, S: Steps>(
 ) -> Result<Outcome<S>, RunFault<S>>
     requires before { before ≡ L.before }
     requires places { (vec_len slips ≡ 0) × (vec_len passes ≤ vec_capacity slips) }
+    requires ends { vec_len ends ≡ vec_len passes }
     ensures ends { IfOk result (λ o. (o.ends.items ≡ ends.items) × (vec_len o.ends ≡ vec_len ends)) }
     ensures passes { IfOk result (λ o. (o.passes.items ≡ passes.items) × (vec_len o.passes ≡ vec_len passes)) }
     ensures settled { IfOk result (λ o. IsSettled before (S.account o.system).journal o.passes.items) }
