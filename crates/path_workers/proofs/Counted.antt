@@ -1,5 +1,5 @@
 -- Where there are as many receipts as lines, and each line has one, each has just one.
-use Rattle.std.proofs.Common.{◌≡◌, ◌≢◌, inl, inr, ℕ, ◌+◌, ◌-◌, ◌<◌, ◌≤◌, suc, zero, Bool, true, false, List, [], ◌∷◌, length, cond, get_or, refl, ap, arith, below_more}
+use Rattle.std.proofs.Common.{◌≡◌, ◌≢◌, inl, inr, ℕ, ◌+◌, ◌-◌, ◌<◌, ◌≤◌, suc, zero, Bool, true, false, List, [], ◌∷◌, length, cond, get_or, refl, ap, sym, subst, arith, below_more}
 use Rattle.std.specs.Prelude.{if◌then◌else◌, ◌==◌}
 use Rattle.std.specs.List.{count_by}
 use Rattle.std.proofs.lemmas.Bool.{cases_lt}
@@ -8,7 +8,7 @@ use Rattle.std.proofs.lemmas.List.Sums.{sum_by-cons}
 use Rattle.path_model.specs.declared.journal.Line.{Line}
 use Rattle.path_workers.specs.declared.answer.Receipt.{Receipt}
 use Rattle.path_workers.specs.Attempts.{Held}
-use Rattle.path_workers.specs.Settled.{is_copy, copies_in, copies, receipts_of, AllCopied}
+use Rattle.path_workers.specs.Settled.{is_copy, copies_in, copies, receipts_of, AllCopied, IsSettled}
 use Rattle.path_workers.specs.Holdings.{EachHasCopy}
 use Rattle.path_workers.proofs.Rising.{other_place}
 
@@ -118,3 +118,75 @@ found_there lines hs gs k d e equal lt some =
     let same : copies k (get_or lines k d) hs ≡ copies k (get_or lines k e) hs = ap (λ (l : Line). copies k l hs) (get_or_default lines k d e lt) in
     let there : copies k (get_or lines k e) gs ≡ copies k (get_or lines k e) hs = ap (λ (fs : List Held). copies k (get_or lines k e) fs) equal in
     omega arith
+
+over_ones : (f : ℕ → ℕ) (b m : ℕ) → ((i : ℕ) → i < m → f (b + i) ≡ 1) → over f b m ≡ m
+over_ones f b zero e = refl
+over_ones f b (suc m) e = let rest = over_ones f b m (λ i h. e i (omega arith)) in let last = e m (omega arith) in omega arith
+
+-- a sum that isn't 0 has a number that isn't
+somewhere : (f : ℕ → ℕ) (b m : ℕ) → over f b m ≢ 0 → (k : ℕ) × (b ≤ k) × (k < b + m) × (f k ≢ 0)
+somewhere f b zero some = absurd (some refl)
+somewhere f b (suc m) some = elim (cases_lt (f (b + m)) 1) [
+  | inl none ↦ (let rest = somewhere f b m (λ zero_there. some (omega (arith, none, zero_there))) in (rest.0, rest.1, omega (arith, rest.2), rest.3))
+  | inr one ↦ (b + m, omega arith, omega arith, λ none. omega (arith, one, none))
+]
+
+-- a receipt that is a copy of none of the lines is one too many
+hits_but : (lines : List Line) (d : Line) (rs : List Receipt) (b m j : ℕ) (e : Receipt) → j < length rs → over (hit lines d (get_or rs j e)) b m ≡ 0
+    → over (λ k. count_by (λ r. is_copy k (get_or lines k d) r) rs) b m + 1 ≤ length rs
+hits_but lines d [] b m j e lt none = absurd (omega arith)
+hits_but lines d (r ∷ rs) b m zero e lt none =
+    let rest = hits lines d rs b m in
+    let both = over_plus (hit lines d r) (λ k. count_by (λ q. is_copy k (get_or lines k d) q) rs) (λ k. count_by (λ q. is_copy k (get_or lines k d) q) (r ∷ rs)) b m
+    (λ k. sum_by-cons (λ (q : Receipt). cond (is_copy k (get_or lines k d) q) 1 0) r rs) in
+    omega (arith, rest, none, both)
+hits_but lines d (r ∷ rs) b m (suc j) e lt none =
+    let rest = hits_but lines d rs b m j e (omega arith) none in
+    let first = one_hit lines d r b m in
+    let both = over_plus (hit lines d r) (λ k. count_by (λ q. is_copy k (get_or lines k d) q) rs) (λ k. count_by (λ q. is_copy k (get_or lines k d) q) (r ∷ rs)) b m
+    (λ k. sum_by-cons (λ (q : Receipt). cond (is_copy k (get_or lines k d) q) 1 0) r rs) in
+    omega (arith, rest, first, both)
+
+all_but : (lines : List Line) (d : Line) (hs : List Held) (b m i j : ℕ) (f : Held) (e : Receipt) → i < length hs → j < length (get_or hs i f).receipts
+    → over (hit lines d (get_or (get_or hs i f).receipts j e)) b m ≡ 0 → over (λ k. copies k (get_or lines k d) hs) b m + 1 ≤ receipts_of hs
+all_but lines d [] b m i j f e lt in_range none = absurd (omega arith)
+all_but lines d (h ∷ hs) b m zero j f e lt in_range none =
+    let rest = all_hits lines d hs b m in
+    let own = hits_but lines d h.receipts b m j e in_range none in
+    let less = over_le (λ k. copies_in k (get_or lines k d) h) (λ k. count_by (λ r. is_copy k (get_or lines k d) r) h.receipts) b m (λ k. no_more (h.worker == (get_or lines k d).worker) _) in
+    let both = over_plus (λ k. copies_in k (get_or lines k d) h) (λ k. copies k (get_or lines k d) hs) (λ k. copies k (get_or lines k d) (h ∷ hs)) b m
+    (λ k. sum_by-cons (λ (g : Held). copies_in k (get_or lines k d) g) h hs) in
+    let counted = sum_by-cons (λ (g : Held). length g.receipts) h hs in
+    omega (arith, rest, own, less, both, counted)
+all_but lines d (h ∷ hs) b m (suc i) j f e lt in_range none =
+    let rest = all_but lines d hs b m i j f e (omega arith) in_range none in
+    let own = hits lines d h.receipts b m in
+    let less = over_le (λ k. copies_in k (get_or lines k d) h) (λ k. count_by (λ r. is_copy k (get_or lines k d) r) h.receipts) b m (λ k. no_more (h.worker == (get_or lines k d).worker) _) in
+    let both = over_plus (λ k. copies_in k (get_or lines k d) h) (λ k. copies k (get_or lines k d) hs) (λ k. copies k (get_or lines k d) (h ∷ hs)) b m
+    (λ k. sum_by-cons (λ (g : Held). copies_in k (get_or lines k d) g) h hs) in
+    let counted = sum_by-cons (λ (g : Held). length g.receipts) h hs in
+    omega (arith, rest, own, less, both, counted)
+
+is_one : (x : Bool) → ◌≢◌ {A = ℕ} (cond x 1 0) 0 → x ≡ true
+is_one true some = refl
+is_one false some = absurd (some refl)
+
+-- of a settled desk each receipt is a copy of the line at its place, which was written since the desk was opened
+pub each_receipt_is_a_line : (b : ℕ) (lines : List Line) (hs : List Held) → IsSettled b lines hs → (i j : ℕ) (f : Held) (e : Receipt) (d : Line) → i < length hs → j < length (get_or hs i f).receipts
+    → (b ≤ (get_or (get_or hs i f).receipts j e).place) × ((get_or (get_or hs i f).receipts j e).place < length lines)
+    × (is_copy (get_or (get_or hs i f).receipts j e).place (get_or lines (get_or (get_or hs i f).receipts j e).place d) (get_or (get_or hs i f).receipts j e) ≡ true)
+each_receipt_is_a_line b lines hs settled i j f e d lt in_range =
+    let r : Receipt = get_or (get_or hs i f).receipts j e in
+    let m : ℕ = length lines - b in
+    let ones = over_ones (λ k. copies k (get_or lines k d) hs) b m (λ k h. settled.1 (b + k) d (omega arith) (omega (arith, h))) in
+    let there = somewhere (hit lines d r) b m (λ none. let few = all_but lines d hs b m i j f e lt in_range none in omega (arith, few, ones, settled.0)) in
+    let k : ℕ = there.0 in
+    let copy : is_copy k (get_or lines k d) r ≡ true = is_one (is_copy k (get_or lines k d) r) there.3 in
+    let place : r.place ≡ k = elim (cases_lt r.place k) [
+      | inl below ↦ absurd (let other = other_place k (get_or lines k d) r (λ same. omega (arith, below, same)) in cc)
+      | inr above ↦ (elim (cases_lt k r.place) [
+        | inl over ↦ absurd (let other = other_place k (get_or lines k d) r (λ same. omega (arith, over, same)) in cc)
+        | inr under ↦ omega (arith, above, under)
+      ])
+    ] in
+    (omega (arith, place, there.1), omega (arith, place, there.2), subst (λ (n : ℕ). is_copy n (get_or lines n d) r ≡ true) (sym place) copy)

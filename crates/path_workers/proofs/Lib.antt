@@ -2,3 +2,4 @@ pub mod Opens
 pub mod Rising
 pub mod Copies
 pub mod Counted
+pub mod CallerLemmas

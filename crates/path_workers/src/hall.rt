@@ -9,7 +9,7 @@ use crate::answer::{Answer, Receipt};
 use crate::opening::Opening;
 use crate::stake::Stake;
 use crate::steps::Steps;
-use path_model::{Attempt, Reply};
+use path_model::{Attempt, Line, Reply};
 use std::alloc::Allocator;
 use std::marker::Model;
 use std::sync::ledger::{Blank, Book, Share};
@@ -65,6 +65,28 @@ impl<L: Opening, S: Steps> Hall<L, S> {
             book: _,
             rest: _,
         } = self;
+        system
+    }
+
+    /// All lines, in the order of the steps.
+    pub fn journal(&self) -> &[Line]
+        ensures { result.now ≡ self.now.journal }
+    {
+        self.system.journal()
+    }
+
+    /// The system. Passes of this desk have no more receipts than it has lines since the desk was opened.
+    pub fn close_with(self, stake: Stake<L>) -> S
+        ensures system { S.account result ≡ self }
+        ensures few { stake + L.before ≤ length self.journal }
+    {
+        let Hall {
+            system,
+            count: _,
+            mut book,
+            rest: _,
+        } = self;
+        stake.audit(&mut book);
         system
     }
 

@@ -5,6 +5,7 @@
 #![tactic(auto)]
 
 mod answer;
+mod closing;
 mod copy;
 mod desk;
 mod hall;
@@ -13,12 +14,16 @@ mod opening;
 mod order;
 mod pass;
 mod settle;
+mod slip;
 mod stake;
 mod steps;
 
 pub use answer::{Answer, Receipt};
+pub use closing::settle_own;
 pub use desk::Desk;
+pub use hall::Hall;
 pub use opening::Opening;
 pub use pass::Pass;
 pub use settle::{SettleFault, Settled};
+pub use slip::Slip;
 pub use steps::Steps;

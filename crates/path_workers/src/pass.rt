@@ -1,6 +1,6 @@
 //! The receipts of one worker at a desk.
 
-ghost use Rattle.std.specs.Prelude.{◌≡◌, ◌↔◌, ◌⊎◌, ◌+◌, ◌<◌, ◌≤◌, ◌^◌, [], true, false, min, None};
+ghost use Rattle.std.specs.Prelude.{◌≡◌, ◌↔◌, ◌⊎◌, ◌+◌, ◌<◌, ◌≤◌, ◌^◌, [], true, false, length, min, None};
 ghost use Rattle.std.specs.Prelude.{vec_len, vec_capacity, IsOk, IsTrue, IfOk, IfSome, OnOk, OnErr};
 ghost use Rattle.path_model.specs.declared.journal.Reply.TheVariants as replies;
 ghost use Rattle.path_workers.specs.Attempts.{receipts_then, finishes_open, is_open};
@@ -13,6 +13,7 @@ use crate::hall::Hall;
 use crate::merge::Slot;
 use crate::opening::Opening;
 use crate::order::Order;
+use crate::slip::Slip;
 use crate::stake::Stake;
 use crate::steps::Steps;
 use path_model::{ActId, Attempt, Line, OutOfMemory, Reply};
@@ -137,6 +138,23 @@ impl<L: Ledger, A: Allocator + Copy> Pass<L, A> {
         }
         is_next
     }
+
+    /// The receipts without the desk, and how many of its lines they claim.
+    pub fn into_slip(self) -> (Slip<A>, Stake<L>)
+        ensures slip { result.0 ≡ self }
+        ensures stake { result.1 ≡ length self.receipts }
+    {
+        let Pass {
+            worker,
+            receipts,
+            starts: _,
+            order: _,
+            stake,
+            met: _,
+            slot: _,
+        } = self;
+        (Slip::new(worker, receipts), stake)
+    }
 }
 
 impl<L: Opening, A: Allocator + Copy> Pass<L, A> {
@@ -155,7 +173,23 @@ impl<L: Opening, A: Allocator + Copy> Pass<L, A> {
         ensures finish { finishes_open attempt self.old.receipts ≡ true → IsOk result }
     {
         take_places(&mut self.receipts, self.starts, attempt)?;
-        let mut hall = hall.lock(rt);
+        self.make(&mut hall.lock(rt), attempt)
+    }
+
+    /// Takes the places of the receipts, and then makes one step of what its caller holds the lock of. It waits for nobody.
+    pub fn make<S: Steps>(
+        &mut self,
+        hall: &mut Hall<L, S>,
+        attempt: Attempt,
+    ) -> Result<Answer, OutOfMemory>
+        ensures worker { self.new.worker ≡ self.old.worker }
+        ensures gained { IfOk result (λ a. self.new.receipts ≡ receipts_then self.old.receipts attempt a.place a.reply) }
+        ensures no_room { IfOk result (λ a. (a.place ≡ None) ↔ (a.reply ≡ replies.NoRoom)) }
+        ensures here { IfOk result (λ a. IfSome a.place (λ p. L.before ≤ p)) }
+        ensures kept { OnErr result (self.new ≡ self.old) }
+        ensures finish { finishes_open attempt self.old.receipts ≡ true → IsOk result }
+    {
+        take_places(&mut self.receipts, self.starts, attempt)?;
         let answer = hall.stamp(&mut self.receipts, &mut self.stake, self.worker, attempt);
         self.starts += started(answer.reply);
         self.order = self.order.then(answer.place);

@@ -83,7 +83,7 @@ fn first_mismatch<M: Ledger, A: Allocator + Copy>(
 }
 
 /// Compares the lines from this number on with the receipts.
-fn check<M: Ledger, A: Allocator + Copy>(
+pub fn check<M: Ledger, A: Allocator + Copy>(
     journal: &[Line],
     before: u64,
     passes: &mut [Pass<M, A>],

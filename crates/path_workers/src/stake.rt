@@ -1,6 +1,6 @@
 //! How many lines of its desk a pass has, so that nobody else can claim them.
 
-ghost use Rattle.std.specs.Prelude.{◌≡◌, ◌+◌, ◌<◌};
+ghost use Rattle.std.specs.Prelude.{◌≡◌, ◌+◌, ◌<◌, ◌≤◌};
 
 use std::marker::Model;
 use std::sync::ledger::{Book, Ledger, Share};
@@ -47,6 +47,33 @@ impl<L: Ledger> Stake<L> {
                 self.share = Some(share);
             }
             None => self.share = Some(part),
+        }
+    }
+
+    /// Both together.
+    pub fn merge(self, other: Stake<L>) -> Stake<L>
+        ensures { result ≡ self + other }
+    {
+        let Stake { share: mine } = self;
+        let Stake { share: theirs } = other;
+        match (mine, theirs) {
+            (Some(mut share), Some(part)) => {
+                share.merge(part);
+                Stake { share: Some(share) }
+            }
+            (None, theirs) => Stake { share: theirs },
+            (mine, None) => Stake { share: mine },
+        }
+    }
+
+    /// It is no greater than the book's total.
+    pub fn audit(self, book: &mut Book<L>)
+        ensures bound { self ≤ book.old.total }
+        ensures total { book.new.total ≡ book.old.total }
+    {
+        let Stake { share } = self;
+        if let Some(mut share) = share {
+            book.audit(&mut share);
         }
     }
 }

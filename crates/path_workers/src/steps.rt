@@ -3,9 +3,12 @@
 ghost use Rattle.std.specs.Prelude.{◌≡◌, ◌≤◌};
 ghost use Rattle.path_model.specs.declared.journal.Reply.TheVariants as replies;
 ghost use Rattle.path_model.specs.Asked.{resource_asked};
+ghost use Rattle.path_model.specs.Declarations.{paths_of};
 ghost use Rattle.path_model.specs.Honest.{IsHonest};
 ghost use Rattle.path_model.specs.Journals.{with_line};
+ghost use Rattle.path_model.specs.Legal.{Every};
 ghost use Rattle.path_model.specs.Owed.{Owed, taken};
+ghost use Rattle.path_model.specs.Trees.{WellFormed};
 ghost use Rattle.path_system.specs.Accounts.{Account, HasFailed, StayBut};
 
 use path_model::{Attempt, Line, Reply};
@@ -25,6 +28,10 @@ pub trait Steps: Drop {
         ensures honest { IsHonest (account self.now).declaration (account self.now).room (account self.now).openings
             (account self.now).journal }
         ensures room { taken (account self.now).journal ≤ (account self.now).room };
+
+    /// A law, which takes no time: the paths of the declaration are well formed.
+    fn has_well_formed_paths(&self)
+        ensures { Every WellFormed (paths_of (account self.now).declaration) };
 
     /// One attempt of a worker, as [`System::step`] says.
     fn step(&mut self, worker: u32, attempt: Attempt) -> Reply
@@ -46,6 +53,10 @@ impl<D: Device, A: Allocator + Copy> Steps for System<D, A> {
 
     fn journal(&self) -> &[Line] {
         System::journal(self)
+    }
+
+    fn has_well_formed_paths(&self) {
+        let _decl = System::decl(self);
     }
 
     fn step(&mut self, worker: u32, attempt: Attempt) -> Reply {

@@ -6,7 +6,7 @@ use Rattle.path_workers.specs.Attempts.{receipts_then}
 use Rattle.path_workers.specs.Holdings.{Rise, opens, places_for}
 use Rattle.path_workers.proofs.Opens.{placed_of, has_place, kept, starts_alone}
 use Rattle.path_workers.proofs.Rising.{rises_then}
-use Rattle.path_workers.proofs.pass.Pass.attempt.Goals as goal
+use Rattle.path_workers.proofs.pass.Pass.make.Goals as goal
 
 pub stamp-answer-requires : goal.stamp-answer-requires
 stamp-answer-requires g c =
@@ -19,7 +19,7 @@ stamp-answer-requires g c =
 pub invariant_of-self-2 : goal.invariant_of-self-2
 invariant_of-self-2 g c =
     let i = c.self.inside in
-    let h = c.deref_mut.result.now in
+    let h = c.args.hall.now in
     let q = c.stamp-answer.result.reply in
     let s = c.stamp-answer.ensures in
     let cap : ℕ = vec_capacity c.take_places.new.receipts in

@@ -1,0 +1,4 @@
+pub mod Taking
+pub mod Steps
+pub mod Hands
+pub mod Orders

@@ -1,0 +1,50 @@
+-- What one step adds to the receipts of a process.
+use Rattle.std.specs.Prelude.{◌≡◌, ◌≢◌, ◌⊎◌, ℕ, List, [], ◌∷◌, ◌++◌}
+use Rattle.path_model.specs.declared.ids.OpId.{OpId}
+use Rattle.path_model.specs.declared.ids.ActId.{ActId}
+use Rattle.path_model.specs.declared.journal.Attempt.{Attempt}
+use Rattle.path_model.specs.declared.journal.Reply.{Reply}
+use Rattle.path_model.specs.declared.journal.Reply.TheVariants.{NoRoom}
+use Rattle.path_workers.specs.declared.answer.Receipt.{Receipt}
+use Rattle.path_script.specs.declared.script.Step.{Step}
+use Rattle.path_script.specs.declared.script.Step.TheVariants.{Enter}
+use Rattle.path_run.specs.declared.outcome.End.{End}
+use Rattle.path_run.specs.declared.outcome.End.TheVariants as ends
+use Rattle.path_run.specs.declared.enter.Tried.{Tried}
+use Rattle.path_run.specs.declared.enter.Tried.TheVariants as tries
+use Rattle.path_run.specs.Runs.{note, Finishes, IsRun}
+
+-- what an attempt with this reply gains: a receipt, or nothing for want of room
+abbrev pub Gains : Attempt → Reply → List Receipt → Type 0
+Gains attempt reply gained =
+    ((reply ≡ NoRoom) × (gained ≡ [])) ⊎ ((reply ≢ NoRoom) × ((place : ℕ) × (gained ≡ note place attempt reply ∷ [])))
+
+-- the step is behind the process, and these receipts are its own
+abbrev pub Adds : Step → List ActId → List ActId → List Receipt → Type 0
+Adds step held then gained =
+    (steps : List Step) (rs : List Receipt) (end : End) → IsRun steps then rs end → IsRun (step ∷ steps) held (gained ++ rs) end
+
+-- what may follow where a process has ended so: finishes of what was entered, or nothing
+abbrev pub After : End → List ActId → List Receipt → Type 0
+After ends.NoRoom held rs = Finishes held rs
+After (ends.Faulted reply) held rs = Finishes held rs
+After ends.Stopped held rs = Finishes held rs
+After ends.NoMemory held rs = Finishes held rs
+After end held rs = rs ≡ []
+
+-- the step ends the process, and these receipts are its own
+abbrev pub Closes : Step → List ActId → End → List Receipt → Type 0
+Closes step held end gained =
+    (steps : List Step) (rs : List Receipt) → After end held rs → IsRun (step ∷ steps) held (gained ++ rs) end
+
+-- an enter was tried so often and blocked each time
+abbrev pub AreTries : OpId → List Receipt → Type 0
+AreTries op gained =
+    (steps : List Step) (held : List ActId) (rs : List Receipt) (end : End)
+    → IsRun (Enter op ∷ steps) held rs end → IsRun (Enter op ∷ steps) held (gained ++ rs) end
+
+-- one try to enter
+abbrev pub HasTried : OpId → List Receipt → Tried → Type 0
+HasTried op gained (tries.Entered act) = (held : List ActId) → Adds (Enter op) held (act ∷ held) gained
+HasTried op gained tries.Freed = AreTries op gained
+HasTried op gained (tries.Ended end) = (held : List ActId) → Closes (Enter op) held end gained

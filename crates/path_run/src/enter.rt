@@ -1,0 +1,77 @@
+//! Enters, which wait where a path blocks them.
+
+ghost use Rattle.std.specs.Prelude.{◌≡◌, ◌∷◌, ◌++◌, List, MatchResult};
+ghost use Rattle.path_model.specs.declared.ids.ActId.{ActId as Act};
+ghost use Rattle.path_script.specs.declared.script.Step.TheVariants as steps;
+ghost use Rattle.path_workers.specs.declared.answer.Receipt.{Receipt as Note};
+ghost use Rattle.path_run.specs.Parts.{Adds, Closes, AreTries, HasTried};
+
+use crate::floor::{Floor, told};
+use crate::outcome::End;
+use path_model::{ActId, Attempt, OpId, Reply};
+use path_workers::{Opening, Pass, Steps};
+use std::sync::Wait;
+
+/// What comes of one try to enter.
+enum Tried {
+    Entered(ActId),
+    Freed,
+    Ended(End),
+}
+
+/// Tries once. Where a path blocks it, it is marked as waiting in the same hold of the lock, and waits for a finish.
+fn try_once<L: Opening, S: Steps, R: Wait>(
+    rt: &R,
+    floor: &Floor<L, S>,
+    pass: &mut Pass<L>,
+    op: OpId,
+) -> Tried
+    ensures worker { pass.new.worker ≡ pass.old.worker }
+    ensures run { (gained : List Note) × (pass.new.receipts ≡ pass.old.receipts ++ gained) × HasTried op gained result }
+{
+    let mut shift = floor.shift.lock(rt);
+    let Ok(reply) = told(pass, &mut shift.hall, Attempt::Start(op)) else {
+        return Tried::Ended(End::NoMemory);
+    };
+    match reply {
+        Reply::Started(act) => return Tried::Entered(act),
+        Reply::Blocked(_) => {}
+        Reply::NoRoom => return Tried::Ended(End::NoRoom),
+        other => return Tried::Ended(End::Faulted(other)),
+    }
+    let seen = shift.finishes;
+    shift.wait_one();
+    if shift.stalled {
+        floor.freed.notify_all();
+    }
+    let shift = floor
+        .freed
+        .wait_while(rt, shift, |s| s.finishes == seen && !s.stalled);
+    if shift.finishes == seen {
+        Tried::Ended(End::Stalled(op))
+    } else {
+        Tried::Freed
+    }
+}
+
+/// Tries to enter until it is admitted or ends the process; each further try comes after an admitted finish.
+pub fn enter<L: Opening, S: Steps, R: Wait>(
+    rt: &R,
+    floor: &Floor<L, S>,
+    pass: &mut Pass<L>,
+    op: OpId,
+) -> Result<ActId, End>
+    ensures worker { pass.new.worker ≡ pass.old.worker }
+    ensures run { (gained : List Note) × (pass.new.receipts ≡ pass.old.receipts ++ gained)
+        × MatchResult result (λ act. (held : List Act) → Adds (steps.Enter op) held (act ∷ held) gained)
+        (λ end. (held : List Act) → Closes (steps.Enter op) held end gained) }
+{
+    for _ in rt.forever() {
+        match try_once(rt, floor, pass, op) {
+            Tried::Entered(act) => return Ok(act),
+            Tried::Freed => {}
+            Tried::Ended(end) => return Err(end),
+        }
+    }
+    unreachable!()
+}

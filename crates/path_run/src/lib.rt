@@ -1,0 +1,17 @@
+//! Processes that run the steps of a script under one system, each in a thread of its own.
+#![tactic(auto)]
+
+mod begun;
+mod enter;
+mod entered;
+mod floor;
+mod lines;
+mod outcome;
+mod running;
+mod step;
+mod turnstile;
+mod work;
+
+pub use outcome::{End, Outcome, RunFault};
+pub use running::run;
+pub use turnstile::{AlwaysOpen, Turnstile};

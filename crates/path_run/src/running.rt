@@ -1,0 +1,135 @@
+//! Runs.
+
+ghost use Rattle.std.specs.Prelude.{◌≡◌, ℕ, ◌<◌, ◌≤◌, length, vec_len, vec_capacity, slice_index_or, IfOk, IfErr};
+ghost use Rattle.path_script.specs.Scripts.{LawfulScript};
+ghost use Rattle.path_workers.specs.Settled.{IsSettled};
+ghost use Rattle.path_run.specs.Runs.{EachRuns};
+
+use crate::begun::{Worked, work_in_threads};
+use crate::floor::Floor;
+use crate::lines::first_disorder;
+use crate::outcome::{End, Outcome, RunFault};
+use crate::turnstile::Turnstile;
+use path_script::{Process, Script};
+use path_workers::{Hall, Opening, Pass, SettleFault, Slip, Steps, settle_own};
+use std::alloc::Global;
+use std::marker::Brand;
+use std::sync::Wait;
+use std::sync::ledger::{Blank, Ledger};
+use std::thread::Threads;
+
+/// The passes without the ends.
+fn passes_of<L: Ledger>(
+    worked: Vec<Worked<L>>,
+    mut passes: Vec<Pass<L>>,
+    mut ends: Vec<End>,
+) -> (Vec<Pass<L>>, Vec<End>)
+    requires { (vec_len passes ≡ 0) × (vec_len ends ≡ 0) × (vec_len worked ≤ vec_capacity passes) × (vec_len worked ≤ vec_capacity ends) }
+    ensures len { (vec_len result.0 ≡ vec_len worked) × (vec_len result.1 ≡ vec_len worked) }
+    ensures each { (k : ℕ) (h : _) (e : _) (w : _) → k < vec_len worked
+        → (slice_index_or result.0.items k h ≡ (slice_index_or worked.items k w).pass)
+        × (slice_index_or result.1.items k e ≡ (slice_index_or worked.items k w).end) }
+{
+    for one in worked {
+        let Worked { pass, end } = one;
+        let Ok(()) = passes.push(pass) else {
+            unreachable!()
+        };
+        let Ok(()) = ends.push(end) else {
+            unreachable!()
+        };
+    }
+    (passes, ends)
+}
+
+/// The outcome of processes that have ended.
+fn outcome<L: Opening, S: Steps>(
+    hall: Hall<L, S>,
+    before: u64,
+    passes: Vec<Pass<L>>,
+    slips: Vec<Slip>,
+    ends: Vec<End>,
+) -> Result<Outcome<S>, RunFault<S>>
+    requires before { before ≡ L.before }
+    requires places { (vec_len slips ≡ 0) × (vec_len passes ≤ vec_capacity slips) }
+    requires ends { vec_len ends ≡ vec_len passes }
+    ensures ends { IfOk result (λ o. (o.ends.items ≡ ends.items) × (vec_len o.ends ≡ vec_len ends)) }
+    ensures passes { IfOk result (λ o. (o.passes.items ≡ passes.items) × (vec_len o.passes ≡ vec_len passes)) }
+    ensures settled { IfOk result (λ o. IsSettled before (S.account o.system).journal o.passes.items) }
+{
+    match settle_own(hall, before, passes, slips) {
+        Ok((system, slips)) => {
+            match first_disorder(system.journal(), slips.as_slice(), ends.as_slice()) {
+                None => Ok(Outcome {
+                    system,
+                    passes: slips,
+                    ends,
+                }),
+                Some(place) => Err(RunFault::Unsettled(SettleFault::Mismatch { place }, system)),
+            }
+        }
+        Err((fault, system)) => Err(RunFault::Unsettled(fault, system)),
+    }
+}
+
+fn run_at<L: Opening + Send + Sync, S: Steps + Send, T: Turnstile, R: Threads + Wait + Sync>(
+    rt: &R,
+    alloc: Global,
+    system: S,
+    blank: Blank,
+    processes: &[Process],
+    turnstile: &T,
+) -> Result<Outcome<S>, RunFault<S>>
+    requires name { blank.name ≡ L.name }
+    requires parts { (blank.parts ≡ L.parts) × (blank.parts ≡ 18446744073709551615) }
+    requires before { length (S.account system).journal ≡ L.before }
+    requires lawful { LawfulScript processes.now }
+    ensures len { IfOk result (λ o. (vec_len o.passes ≡ length processes.now) × (vec_len o.ends ≡ length processes.now)) }
+    ensures settled { IfOk result (λ o. IsSettled (length (S.account system).journal) (S.account o.system).journal o.passes.items) }
+    ensures runs { IfOk result (λ o. EachRuns processes.now o.passes.items o.ends.items) }
+{
+    let before = system.journal().len() as u64;
+    let count = processes.len();
+    let Ok(slips) = Vec::with_capacity(alloc, count) else {
+        return Err(RunFault::OutOfMemory(system));
+    };
+    let Ok(passes) = Vec::with_capacity(alloc, count) else {
+        return Err(RunFault::OutOfMemory(system));
+    };
+    let Ok(ends) = Vec::with_capacity(alloc, count) else {
+        return Err(RunFault::OutOfMemory(system));
+    };
+    let floor = Floor::<L, S>::new(Hall::open(system, blank), count as u64);
+    let worked = work_in_threads(rt, &floor, turnstile, alloc, processes);
+    let hall = floor.into_hall();
+    let Ok(worked) = worked else {
+        return Err(RunFault::OutOfMemory(hall.close()));
+    };
+    let (passes, ends) = passes_of(worked, passes, ends);
+    match outcome(hall, before, passes, slips, ends) {
+        Ok(outcome) => Ok(outcome),
+        Err(fault) => Err(fault),
+    }
+}
+
+/// Runs each process of the script in a thread of its own.
+pub fn run<S: Steps + Send, T: Turnstile, R: Threads + Wait + Sync>(
+    rt: &R,
+    alloc: Global,
+    system: S,
+    script: &Script,
+    turnstile: &T,
+) -> Result<Outcome<S>, RunFault<S>>
+    ensures len { IfOk result (λ o. (vec_len o.passes ≡ length script.now.processes) × (vec_len o.ends ≡ length script.now.processes)) }
+    ensures settled { IfOk result (λ o. IsSettled (length (S.account system).journal) (S.account o.system).journal o.passes.items) }
+    ensures runs { IfOk result (λ o. EachRuns script.now.processes o.passes.items o.ends.items) }
+{
+    run_at::<Brand, S, T, R>(
+        rt,
+        alloc,
+        system,
+        Blank::new(u64::MAX),
+        script.processes(),
+        turnstile,
+    )
+}

@@ -1,0 +1,111 @@
+//! One step of a process.
+
+ghost use Rattle.std.specs.Prelude.{◌≡◌, [], ◌∷◌, ◌++◌, List, length, MatchResult, OnOk, OnErr};
+ghost use Rattle.path_model.specs.declared.ids.ActId.{ActId as Act};
+ghost use Rattle.path_script.specs.declared.script.Step.TheVariants as steps;
+ghost use Rattle.path_script.specs.Scripts.{MayStep, entered_after};
+ghost use Rattle.path_workers.specs.declared.answer.Receipt.{Receipt as Note};
+ghost use Rattle.path_run.specs.Parts.{Gains, Adds, Closes};
+
+use crate::enter::enter;
+use crate::entered::Entered;
+use crate::floor::{Floor, told};
+use crate::outcome::End;
+use path_model::{ActId, Attempt, OutOfMemory, Reply, Verb};
+use path_script::Step;
+use path_workers::{Opening, Pass, Steps};
+use std::sync::Wait;
+
+/// An attempt that waits for no finish. An admitted finish wakes all that wait.
+pub fn attempt<L: Opening, S: Steps, R: Wait>(
+    rt: &R,
+    floor: &Floor<L, S>,
+    pass: &mut Pass<L>,
+    attempt: Attempt,
+) -> Result<Reply, OutOfMemory>
+    ensures worker { pass.new.worker ≡ pass.old.worker }
+    ensures run { (gained : List Note) × (pass.new.receipts ≡ pass.old.receipts ++ gained)
+        × MatchResult result (λ reply. Gains attempt reply gained) (λ _. gained ≡ []) }
+{
+    let mut shift = floor.shift.lock(rt);
+    let reply = told(pass, &mut shift.hall, attempt)?;
+    if let Reply::Finished = reply {
+        shift.finish_one();
+        floor.freed.notify_all();
+    }
+    Ok(reply)
+}
+
+/// Uses the device of an activation.
+fn apply<L: Opening, S: Steps, R: Wait>(
+    rt: &R,
+    floor: &Floor<L, S>,
+    pass: &mut Pass<L>,
+    act: ActId,
+    verb: Verb,
+) -> Result<(), End>
+    ensures worker { pass.new.worker ≡ pass.old.worker }
+    ensures run { (gained : List Note) × (pass.new.receipts ≡ pass.old.receipts ++ gained)
+        × MatchResult result (λ _. (held : List Act) → Adds (steps.Apply verb) (act ∷ held) (act ∷ held) gained)
+        (λ end. (held : List Act) → Closes (steps.Apply verb) (act ∷ held) end gained) }
+{
+    let Ok(reply) = attempt(rt, floor, pass, Attempt::Apply(act, verb)) else {
+        return Err(End::NoMemory);
+    };
+    match reply {
+        Reply::Used(_) => Ok(()),
+        Reply::NoRoom => Err(End::NoRoom),
+        other => Err(End::Faulted(other)),
+    }
+}
+
+/// Leaves an activation.
+fn leave<L: Opening, S: Steps, R: Wait>(
+    rt: &R,
+    floor: &Floor<L, S>,
+    pass: &mut Pass<L>,
+    act: ActId,
+) -> Result<(), End>
+    ensures worker { pass.new.worker ≡ pass.old.worker }
+    ensures run { (gained : List Note) × (pass.new.receipts ≡ pass.old.receipts ++ gained)
+        × MatchResult result (λ _. (held : List Act) → Adds steps.Leave (act ∷ held) held gained)
+        (λ end. (held : List Act) → Closes steps.Leave (act ∷ held) end gained) }
+{
+    let Ok(reply) = attempt(rt, floor, pass, Attempt::Finish(act)) else {
+        return Err(End::NoMemory);
+    };
+    match reply {
+        Reply::Finished => Ok(()),
+        Reply::NoRoom => Err(End::NoRoom),
+        other => Err(End::Faulted(other)),
+    }
+}
+
+/// Takes a step, with what was entered.
+pub fn take<L: Opening, S: Steps, R: Wait>(
+    rt: &R,
+    floor: &Floor<L, S>,
+    pass: &mut Pass<L>,
+    entered: &mut Entered,
+    step: Step,
+) -> Result<(), End>
+    requires { MayStep (length entered.old) step }
+    ensures worker { pass.new.worker ≡ pass.old.worker }
+    ensures run { (gained : List Note) × (pass.new.receipts ≡ pass.old.receipts ++ gained)
+        × MatchResult result (λ _. Adds step entered.old entered.new gained) (λ end. Closes step entered.new end gained) }
+    ensures ok { OnOk result (length entered.new ≡ entered_after (length entered.old) step) }
+    ensures err { OnErr result (entered.new ≡ entered.old) }
+{
+    match step {
+        Step::Enter(op) => {
+            let act = enter(rt, floor, pass, op)?;
+            entered.push(act);
+        }
+        Step::Apply(verb) => apply(rt, floor, pass, entered.last(), verb)?,
+        Step::Leave => {
+            leave(rt, floor, pass, entered.last())?;
+            entered.pop();
+        }
+    }
+    Ok(())
+}

@@ -1,0 +1,95 @@
+//! What one process does.
+
+ghost use Rattle.std.specs.Prelude.{◌≡◌, ◌≤◌, [], ◌++◌, List, true, false, length, IsTrue, IsFalse};
+ghost use Rattle.path_model.specs.declared.ids.ActId.{ActId as Act};
+ghost use Rattle.path_script.specs.Scripts.{IsBalanced};
+ghost use Rattle.path_workers.specs.declared.answer.Receipt.{Receipt as Note};
+ghost use Rattle.path_run.specs.Runs.{Finishes, IsRun};
+ghost use Rattle.path_run.specs.Parts.{After};
+
+use crate::entered::Entered;
+use crate::floor::Floor;
+use crate::outcome::End;
+use crate::step::{attempt, take};
+use crate::turnstile::Turnstile;
+use path_model::{Attempt, Reply};
+use path_script::Step;
+use path_workers::{Opening, Pass, Steps};
+use std::sync::Wait;
+
+/// Takes the steps in order, up to the one that ends the process.
+fn take_steps<L: Opening, S: Steps, T: Turnstile, R: Wait>(
+    rt: &R,
+    floor: &Floor<L, S>,
+    turnstile: &T,
+    pass: &mut Pass<L>,
+    entered: &mut Entered,
+    steps: &[Step],
+) -> End
+    requires fresh { (pass.old.receipts ≡ []) × (entered.old ≡ []) }
+    requires balanced { IsBalanced steps.now }
+    requires few { length steps.now ≤ 4096 }
+    ensures worker { pass.new.worker ≡ pass.old.worker }
+    ensures run { (rs : List Note) → After result entered.new rs → IsRun steps.now [] (pass.new.receipts ++ rs) result }
+{
+    for place in 0..steps.len() as u32 {
+        if !turnstile.before(pass.worker(), place) {
+            return End::Stopped;
+        }
+        if let Err(end) = take(rt, floor, pass, entered, steps[place as usize]) {
+            return end;
+        }
+    }
+    End::Done
+}
+
+/// Finishes what was entered and not left, the last first.
+fn finish_all<L: Opening, S: Steps, R: Wait>(
+    rt: &R,
+    floor: &Floor<L, S>,
+    pass: &mut Pass<L>,
+    mut entered: Entered,
+)
+    ensures worker { pass.new.worker ≡ pass.old.worker }
+    ensures run { (gained : List Note) × (pass.new.receipts ≡ pass.old.receipts ++ gained) × Finishes entered gained }
+{
+    while let Some(act) = entered.pop() {
+        match attempt(rt, floor, pass, Attempt::Finish(act)) {
+            Ok(Reply::NoRoom) | Err(_) => return,
+            Ok(_) => {}
+        }
+    }
+}
+
+/// Whether a process that ends so first finishes what it had entered.
+fn gives_up(end: End) -> bool
+    ensures yes { IsTrue result → (held : List Act) (rs : List Note) → Finishes held rs → After end held rs }
+    ensures no { IsFalse result → (held : List Act) → After end held [] }
+{
+    match end {
+        End::NoRoom | End::Faulted(_) | End::Stopped | End::NoMemory => true,
+        End::Done | End::Stalled(_) | End::NotStarted => false,
+    }
+}
+
+/// Takes the steps, up to the one that ends the process, and then leaves nothing behind that nobody waits for.
+pub fn work<L: Opening, S: Steps, T: Turnstile, R: Wait>(
+    rt: &R,
+    floor: &Floor<L, S>,
+    turnstile: &T,
+    pass: &mut Pass<L>,
+    steps: &[Step],
+) -> End
+    requires fresh { pass.old.receipts ≡ [] }
+    requires balanced { IsBalanced steps.now }
+    requires few { length steps.now ≤ 4096 }
+    ensures worker { pass.new.worker ≡ pass.old.worker }
+    ensures run { IsRun steps.now [] pass.new.receipts result }
+{
+    let mut entered = Entered::none();
+    let end = take_steps(rt, floor, turnstile, pass, &mut entered, steps);
+    if gives_up(end) {
+        finish_all(rt, floor, pass, entered);
+    }
+    end
+}

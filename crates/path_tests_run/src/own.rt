@@ -1,0 +1,89 @@
+//! Systems and scripts of tests.
+
+use path_model::{Line, Reply};
+use path_read::read;
+use path_run::{End, Outcome, RunFault, Turnstile, run};
+use path_script::{Script, read_script};
+use path_shelf::Device;
+use path_system::System;
+use std::alloc::Global;
+use std::process::Abort;
+use std::sync::Wait;
+use std::thread::Threads;
+
+/// One resource, in which every deposit is followed by a remove.
+pub(crate) const SLOT: &[u8] =
+    b"resource slot cell operation deposit, remove path deposit ; remove end end";
+
+/// As many lines as the program has room for.
+pub(crate) const ROOM: u32 = 4096;
+
+/// A system of the text, which has one resource, over this device.
+pub(crate) fn system_of<D: Device>(
+    rt: &impl Abort,
+    alloc: Global,
+    text: &[u8],
+    device: D,
+    room: u32,
+) -> System<D> {
+    let decl = match read(alloc, text) {
+        Ok(decl) => decl,
+        Err(_) => panic!(rt; "no declaration"),
+    };
+    let mut devices = Vec::new(alloc);
+    assert!(rt; devices.push(device).is_ok());
+    match System::open(alloc, decl, devices, room) {
+        Ok(system) => system,
+        Err(_) => panic!(rt; "it was refused"),
+    }
+}
+
+/// The script of the text, over the system's operations.
+pub(crate) fn script_of<D: Device>(
+    rt: &impl Abort,
+    alloc: Global,
+    system: &System<D>,
+    text: &[u8],
+) -> Script {
+    match read_script(alloc, system.decl(), text) {
+        Ok(script) => script,
+        Err(_) => panic!(rt; "no script"),
+    }
+}
+
+/// The outcome of a run.
+pub(crate) fn ran<D: Device + Send, T: Turnstile, R: Threads + Wait + Abort + Sync>(
+    rt: &R,
+    alloc: Global,
+    system: System<D>,
+    text: &[u8],
+    turnstile: &T,
+) -> Outcome<System<D>> {
+    let script = script_of(rt, alloc, &system, text);
+    match run(rt, alloc, system, &script, turnstile) {
+        Ok(outcome) => outcome,
+        Err(RunFault::OutOfMemory(_system)) => panic!(rt; "out of memory"),
+        Err(RunFault::Unsettled(fault, _system)) => panic!(rt; "{fault:?}"),
+    }
+}
+
+/// How many lines aren't blocked starts.
+pub(crate) fn unblocked(journal: &[Line]) -> usize {
+    journal
+        .iter()
+        .filter(|line| !matches!(line.reply, Reply::Blocked(_)))
+        .count()
+}
+
+/// How many activations were started.
+pub(crate) fn started(journal: &[Line]) -> usize {
+    journal
+        .iter()
+        .filter(|line| matches!(line.reply, Reply::Started(_)))
+        .count()
+}
+
+/// Whether the ends are these.
+pub(crate) fn end_so(ends: &[End], wanted: &[End]) -> bool {
+    ends == wanted
+}
