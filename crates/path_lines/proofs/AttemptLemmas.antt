@@ -106,7 +106,7 @@ use_clean = both (codes "use ") (search rules) (search rules)
 finish_clean : (b : ℕ) → IsBreak b → HasNone b (codes "finish ")
 finish_clean = both (codes "finish ") (search rules) (search rules)
 
-verb_clean : (b : ℕ) → IsBreak b → (v : Verb) → VerbFits v → HasNone b (verb_text v)
+pub verb_clean : (b : ℕ) → IsBreak b → (v : Verb) → VerbFits v → HasNone b (verb_text v)
 verb_clean b k (Put x) h = none_joined b (codes "put ") (decimal x) (put_clean b k) (none_in_number b x (no_digit b k) h)
 verb_clean b k Take h = take_clean b k
 verb_clean b k Look h = look_clean b k

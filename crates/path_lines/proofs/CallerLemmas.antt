@@ -1,5 +1,6 @@
--- What callers cite: texts of lines, whatever a line tells; that a line is a line, and of one attempt.
-pub use Rattle.path_lines.proofs.EntryLemmas.{first_line, is_first, ends_first}
+-- What callers cite: texts of lines, whatever a line tells; that a line is a line, and of one attempt; names, verbs and operations.
+pub use Rattle.path_lines.proofs.NameLemmas.{name_is_ascii, name_without, line_feed_outside}
+pub use Rattle.path_lines.proofs.EntryLemmas.{named, first_line, is_first, ends_first}
 pub use Rattle.path_lines.proofs.WholeTexts.{text_of, Spells, ReadLines, lines_none, whole_parts, lines_more, all_read, first_of_text, ends_in_feed, refuted, nothing_spelled, spells_once}
-pub use Rattle.path_lines.proofs.AttemptLemmas.{IsBreak, line_clean, undeclared_clean}
-pub use Rattle.path_lines.proofs.OneReading.{number_is_some, entry_once}
+pub use Rattle.path_lines.proofs.AttemptLemmas.{IsBreak, verb_clean, line_clean, undeclared_clean}
+pub use Rattle.path_lines.proofs.OneReading.{number_is_some, verb_once, operation_once, entry_once}

@@ -31,7 +31,7 @@ tail_three e = cc
 tail_four : {a b c d a' b' c' d' : ℕ} {xs ys : List ℕ} → a ∷ b ∷ c ∷ d ∷ xs ≡ a' ∷ b' ∷ c' ∷ d' ∷ ys → xs ≡ ys
 tail_four e = cc
 
-verb_once : (u v : Verb) → VerbFits u → VerbFits v → verb_text u ≡ verb_text v → u ≡ v
+pub verb_once : (u v : Verb) → VerbFits u → VerbFits v → verb_text u ≡ verb_text v → u ≡ v
 verb_once (Put x) (Put y) h k e = ap Put (decimal_injective x y h k (tail_four e))
 verb_once (Put x) Take h k e = let i = same_head e in absurd (omega arith)
 verb_once (Put x) Look h k e = let i = same_head e in absurd (omega arith)
@@ -72,7 +72,7 @@ other_kind : (d : Declaration) (a b : OpId) → All IsName (operation_names d) �
 other_kind d a b names ha hb e =
     name_is_plain (operation_text d a) (decimal b.0) (All-contains IsName (operation_names d) (operation_text d a) names (named d a ha).1) (e ∙ numbered d b hb)
 
-operation_once : (d : Declaration) (a b : OpId) → AreDistinctNames (operation_names d) → a.0 < 2 ^ 32 → b.0 < 2 ^ 32 → operation_text d a ≡ operation_text d b → a ≡ b
+pub operation_once : (d : Declaration) (a b : OpId) → AreDistinctNames (operation_names d) → a.0 < 2 ^ 32 → b.0 < 2 ^ 32 → operation_text d a ≡ operation_text d b → a ≡ b
 operation_once d a b names fa fb e = ap (λ (n : ℕ). let o : OpId = record { 0 = n } in o) (elim (cases_lt a.0 (length d.operations)) [
   | inl ha ↦ elim (cases_lt b.0 (length d.operations)) [
     | inl hb ↦ place_once (operation_names d) a.0 b.0 names.distinct (within d a.0 ha) (within d b.0 hb) (sym (named d a ha).0 ∙ e ∙ (named d b hb).0)

@@ -39,8 +39,9 @@ pub struct FirstLine {
     pub length: usize,
 }
 
-/// A verb with which the line ends, with its number where it has one.
-fn read_verb(text: &[u8]) -> Option<(Verb, &[u8])>
+/// The verb that the first line of the text consists of, with its number where it has one, and the text from the end of that line on,
+/// which is empty or begins with a line feed; nothing where that line is no verb. One pass over the line; takes no memory.
+pub fn read_verb(text: &[u8]) -> Option<(Verb, &[u8])>
     ensures some { IfSome result (λ p. (text.now ≡ verb_text p.0 ++ p.1.now) × VerbFits p.0 × EndsAt 10 p.1.now) }
     ensures none { IfNone result ((v : Verb) (rest : List ℕ) → VerbFits v → EndsAt 10 rest → text.now ≢ verb_text v ++ rest) }
 {
@@ -96,8 +97,9 @@ fn is_ascii(name: &[u8]) -> bool
     name.iter().all(|byte| *byte < 128)
 }
 
-/// The operation with this name. Names are ASCII, so nothing else is looked up.
-fn declared<A: Allocator + Copy>(decl: &Decl<A>, name: &[u8]) -> Option<OpId>
+/// The operation with this name, all of these bytes; `None` where none has it. Names are ASCII, so nothing else is looked up. One pass
+/// over the bytes and a look-up in a hash table; takes no memory.
+pub fn declared<A: Allocator + Copy>(decl: &Decl<A>, name: &[u8]) -> Option<OpId>
     ensures some { IfSome result (λ a. slice_get (operation_names decl.now.declaration) a.0 ≡ Some name.now) }
     ensures none { IfNone result (Contains (operation_names decl.now.declaration) name.now → ⊥) }
 {

@@ -14,3 +14,5 @@ mod in_turn;
 mod journals;
 #[cfg(test)]
 mod lines;
+#[cfg(test)]
+mod verbs;

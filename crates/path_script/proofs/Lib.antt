@@ -1,0 +1,9 @@
+pub mod LineLemmas
+pub mod StepLemmas
+pub mod Reading
+pub mod Telling
+pub mod Progress
+pub mod OneScript
+pub mod Running
+pub mod Refusals
+pub mod OneFault

@@ -1,0 +1,99 @@
+-- Each line has one form, and no line feed.
+use Rattle.std.proofs.Common.{◌≡◌, ◌≢◌, ℕ, List, [], ◌∷◌, ◌++◌, codes, refl, sym, ap, ◌∙◌, inl, subst, arith, rules}
+use Rattle.std.proofs.lemmas.List.{append-nil}
+use Rattle.path_model.specs.declared.journal.Verb.{Verb}
+use Rattle.path_lex.specs.Names.{IsName}
+use Rattle.path_lines.specs.LineTexts.{verb_text, VerbFits}
+use Rattle.path_fields.specs.Splits.{HasNone, EndsAt}
+use Rattle.path_fields.proofs.CallerLemmas.{cut_none, none_joined}
+use Rattle.path_lines.proofs.CallerLemmas.{name_without, line_feed_outside, verb_clean, verb_once}
+use Rattle.path_script.specs.ScriptLines.{ScriptLine, begins, enters, uses, leaves, ends, line_text, LineFits}
+
+same_head : {x y : ℕ} {xs ys : List ℕ} → x ∷ xs ≡ y ∷ ys → x ≡ y
+same_head e = cc
+
+same_third : {a b c x y z : ℕ} {xs ys : List ℕ} → a ∷ b ∷ c ∷ xs ≡ x ∷ y ∷ z ∷ ys → c ≡ z
+same_third e = cc
+
+use_tail : {xs ys : List ℕ} → codes "use " ++ xs ≡ codes "use " ++ ys → xs ≡ ys
+use_tail e = cc
+
+enter_tail : {xs ys : List ℕ} → codes "enter " ++ xs ≡ codes "enter " ++ ys → xs ≡ ys
+enter_tail e = cc
+
+process_tail : {xs ys : List ℕ} → codes "process " ++ xs ≡ codes "process " ++ ys → xs ≡ ys
+process_tail e = cc
+
+no_short : {xs : List ℕ} → codes "end" ≡ codes "ent" ++ xs → ⊥
+no_short e = let i = same_third e in omega arith
+
+-- what begins as a use and has no verb behind it is no line
+pub no_use : (line r : List ℕ) → line ≡ codes "use " ++ r → ((v : Verb) (rest : List ℕ) → VerbFits v → EndsAt 10 rest → r ≢ verb_text v ++ rest) → (l : ScriptLine) → LineFits l → line ≢ line_text l
+no_use line r e none (begins name) fit i = let h = same_head (sym e ∙ i) in omega arith
+no_use line r e none (enters name) fit i = let h = same_head (sym e ∙ i) in omega arith
+no_use line r e none (uses v) fit i = none v [] fit tt (use_tail (sym e ∙ i) ∙ sym (append-nil (verb_text v)))
+no_use line r e none leaves fit i = let h = same_head (sym e ∙ i) in omega arith
+no_use line r e none ends fit i = let h = same_head (sym e ∙ i) in omega arith
+
+-- what stands behind a verb in its line is nothing
+pub whole_use : (line r x rest : List ℕ) → HasNone 10 line → line ≡ codes "use " ++ r → r ≡ x ++ rest → EndsAt 10 rest → line ≡ codes "use " ++ x
+whole_use line r x [] clean e f end = e ∙ ap (λ v. codes "use " ++ v) (f ∙ append-nil x)
+whole_use line r x (b ∷ bs) clean e f end =
+    let whole : line ≡ (codes "use " ++ x) ++ 10 ∷ bs = e ∙ ap (λ v. codes "use " ++ v) (f ∙ ap (λ k. x ++ k ∷ bs) end) in
+    absurd (cut_none 10 (codes "use " ++ x) bs (subst (HasNone 10) whole clean))
+
+process_clean : HasNone 10 (codes "process ")
+process_clean = search rules
+
+enter_clean : HasNone 10 (codes "enter ")
+enter_clean = search rules
+
+use_clean : HasNone 10 (codes "use ")
+use_clean = search rules
+
+name_clean : (name : List ℕ) → IsName name → HasNone 10 name
+name_clean name is = name_without 10 name line_feed_outside is.word
+
+-- a line has no line feed
+pub line_clean : (l : ScriptLine) → LineFits l → HasNone 10 (line_text l)
+line_clean (begins name) fit = none_joined 10 (codes "process ") name process_clean (name_clean name fit)
+line_clean (enters name) fit = none_joined 10 (codes "enter ") name enter_clean (name_clean name fit)
+line_clean (uses v) fit = none_joined 10 (codes "use ") (verb_text v) use_clean (verb_clean 10 (inl refl) v fit)
+line_clean leaves fit = search rules
+line_clean ends fit = search rules
+
+-- no line is empty
+pub line_some : (l : ScriptLine) → line_text l ≢ []
+line_some (begins name) e = cc
+line_some (enters name) e = cc
+line_some (uses v) e = cc
+line_some leaves e = cc
+line_some ends e = cc
+
+-- a text is that of one line
+pub line_once : (l m : ScriptLine) → LineFits l → LineFits m → line_text l ≡ line_text m → l ≡ m
+line_once (begins x) (begins y) h k e = ap begins (process_tail e)
+line_once (begins x) (enters y) h k e = let i = same_head e in absurd (omega arith)
+line_once (begins x) (uses v) h k e = let i = same_head e in absurd (omega arith)
+line_once (begins x) leaves h k e = let i = same_head e in absurd (omega arith)
+line_once (begins x) ends h k e = let i = same_head e in absurd (omega arith)
+line_once (enters x) (begins y) h k e = let i = same_head e in absurd (omega arith)
+line_once (enters x) (enters y) h k e = ap enters (enter_tail e)
+line_once (enters x) (uses v) h k e = let i = same_head e in absurd (omega arith)
+line_once (enters x) leaves h k e = let i = same_head e in absurd (omega arith)
+line_once (enters x) ends h k e = absurd (no_short (sym e))
+line_once (uses v) (begins y) h k e = let i = same_head e in absurd (omega arith)
+line_once (uses v) (enters y) h k e = let i = same_head e in absurd (omega arith)
+line_once (uses v) (uses w) h k e = ap uses (verb_once v w h k (use_tail e))
+line_once (uses v) leaves h k e = let i = same_head e in absurd (omega arith)
+line_once (uses v) ends h k e = let i = same_head e in absurd (omega arith)
+line_once leaves (begins y) h k e = let i = same_head e in absurd (omega arith)
+line_once leaves (enters y) h k e = let i = same_head e in absurd (omega arith)
+line_once leaves (uses w) h k e = let i = same_head e in absurd (omega arith)
+line_once leaves leaves h k e = refl
+line_once leaves ends h k e = let i = same_head e in absurd (omega arith)
+line_once ends (begins y) h k e = let i = same_head e in absurd (omega arith)
+line_once ends (enters y) h k e = absurd (no_short e)
+line_once ends (uses w) h k e = let i = same_head e in absurd (omega arith)
+line_once ends leaves h k e = let i = same_head e in absurd (omega arith)
+line_once ends ends h k e = refl

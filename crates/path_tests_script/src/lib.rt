@@ -1,0 +1,13 @@
+//! Tests of the public calls of scripts. The crate has no other code, so that no library is proved twice.
+#![tactic(auto)]
+
+#[cfg(test)]
+mod declaration;
+#[cfg(test)]
+mod faults;
+#[cfg(test)]
+mod in_turn;
+#[cfg(test)]
+mod limits;
+#[cfg(test)]
+mod scripts;
