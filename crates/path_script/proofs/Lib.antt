@@ -7,4 +7,3 @@ pub mod OneScript
 pub mod Running
 pub mod Refusals
 pub mod OneFault
-pub mod CallerLemmas

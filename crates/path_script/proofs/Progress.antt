@@ -1,7 +1,7 @@
 -- How far a script was read, and what the next line makes of it.
-use Rattle.std.proofs.Common.{◌≡◌, ◌≢◌, ℕ, ◌+◌, ◌-◌, ◌*◌, ◌<◌, ◌≤◌, List, [], ◌∷◌, ◌++◌, length, drop, All, map, refl, sym, ap, ◌∙◌, subst, append_assoc, arith, length-append, length-drop}
+use Rattle.std.proofs.Common.{◌≡◌, ◌≢◌, ℕ, ◌+◌, ◌-◌, ◌*◌, ◌<◌, ◌≤◌, List, [], ◌∷◌, ◌++◌, length, drop, All, map, sym, ap, ◌∙◌, subst, append_assoc, arith, length-append, length-drop}
 use Rattle.std.proofs.lemmas.List.{append-nil, map-append}
-use Rattle.std.proofs.lemmas.List.Elements.{All-push, All-nil}
+use Rattle.std.proofs.lemmas.List.Elements.{All-push}
 use Rattle.std.proofs.lemmas.List.Sums.{sum_by_push}
 use Rattle.std.proofs.lemmas.Grind.{flat_map-append}
 use Rattle.path_model.specs.Declarations.{Declaration}
@@ -20,7 +20,7 @@ use Rattle.path_script.specs.ScriptLines.{ScriptLine, begins, ends, line_text, L
 use Rattle.path_script.specs.ScriptTexts.{step_line, StepFits, opening_lines, plan_lines, script_lines, PlanFits, IsScript, IsScriptText}
 use Rattle.path_script.specs.ScriptFaults.{within, between, whole, part, Refuses, Stops, at_line, at_end, IsFaultAt, IsStepFault, fault_of, Says, IsScriptFault}
 use Rattle.path_script.proofs.StepLemmas.{leads_more, length-opening, length-script}
-use Rattle.path_script.proofs.Reading.{reads_none, reads_first, reads_joined}
+use Rattle.path_script.proofs.Reading.{reads_first, reads_joined}
 use Rattle.path_script.proofs.Telling.{step_fits}
 
 -- a line that was cut off is the first line
@@ -41,15 +41,6 @@ pub record ReadSteps (d : Declaration) (text : List ℕ) (before : ℕ) (steps :
   pub few : before + length steps ≤ 4096
   pub shorter : length rest ≤ length text
 
-pub steps_none : (d : Declaration) (text : List ℕ) (before : ℕ) (steps : List Step) → steps ≡ [] → before ≤ 4096 → ReadSteps d text before steps 0 text
-steps_none d text before steps none few = subst (λ x. ReadSteps d text before x 0 text) (sym none) (record {
-  reads = reads_none text;
-  fits = All-nil (StepFits d);
-  leads = refl;
-  few = omega (arith, few);
-  shorter = omega arith;
-})
-
 pub steps_more : (d : Declaration) (text : List ℕ) (before : ℕ) (steps news : List Step) (entered : ℕ) (rest after line : List ℕ) (s : Step) → All IsName (operation_names d) → rest ≢ [] → IsFirstLine line rest → after ≡ drop (length line + 1) rest
     → line ≡ line_text (step_line d s) → StepFits d s → MayStep entered s → before + length steps < 4096 → news ≡ steps ++ s ∷ [] → ReadSteps d text before steps entered rest
     → ReadSteps d text before news (entered_after entered s) after
@@ -65,12 +56,6 @@ steps_more d text before steps news entered rest after line s names some first l
       few = omega (arith, longer, few);
       shorter = let short = r.shorter in omega (arith, short, less);
     }
-
--- the process ends
-pub steps_end : (d : Declaration) (text : List ℕ) (before : ℕ) (steps : List Step) (entered : ℕ) (rest after line : List ℕ) → rest ≢ [] → IsFirstLine line rest → after ≡ drop (length line + 1) rest → line ≡ line_text ends
-    → ReadSteps d text before steps entered rest → Reads text (map (step_line d) steps ++ ends ∷ []) after
-steps_end d text before steps entered rest after line some first left is r =
-    more_read text rest after line (map (step_line d) steps) ends some tt is first left r.reads
 
 -- the text can't go on
 stopped : (d : Declaration) (text : List ℕ) (lines before : ℕ) (steps : List Step) (entered : ℕ) (rest : List ℕ) (k : ℕ) (c : Cause) → k ≡ length steps → Stops d (within (before + length steps) entered) rest c
@@ -121,16 +106,6 @@ pub record ReadProcesses (d : Declaration) (text : List ℕ) (ps : List Plan) (t
   pub script : IsScript d ps
   pub reads : Reads text (script_lines d ps) rest
   pub count : told ≡ steps_in ps
-
-pub processes_none : (d : Declaration) (text : List ℕ) (ps : List Plan) → ps ≡ [] → ReadProcesses d text ps 0 text
-processes_none d text ps none = subst (λ x. ReadProcesses d text x 0 text) (sym none) (record {
-  script = record {
-    lawful = record { balanced = All-nil (λ (p : Plan). IsBalanced p.steps); few_processes = omega arith; few_steps = omega arith };
-    fits = All-nil (PlanFits d);
-  };
-  reads = reads_none text;
-  count = refl;
-})
 
 -- the line that begins a process was read
 begun : (d : Declaration) (text : List ℕ) (ps : List Plan) (told : ℕ) (rest behind line name : List ℕ) → rest ≢ [] → IsFirstLine line rest → behind ≡ drop (length line + 1) rest → line ≡ line_text (begins name) → IsName name → ReadProcesses d text ps told rest

@@ -1,10 +1,9 @@
 -- Steps, one behind another: what they lead to, and how many lines they have.
-use Rattle.std.proofs.Common.{◌≡◌, ℕ, ◌+◌, ◌*◌, ◌<◌, ◌≤◌, List, [], ◌∷◌, ◌++◌, length, drop, drop-cons, slice_index_or, add-one, refl, sym, ap, ◌∙◌, subst, arith, length-append, map}
-use Rattle.std.proofs.lemmas.List.{length-map, drop_all}
+use Rattle.std.proofs.Common.{◌≡◌, ℕ, ◌+◌, ◌*◌, List, [], ◌∷◌, ◌++◌, length, refl, sym, ap, subst, arith, length-append, map}
+use Rattle.std.proofs.lemmas.List.{length-map}
 use Rattle.std.proofs.lemmas.List.Sums.{sum_by-cons}
 use Rattle.path_model.specs.Declarations.{Declaration}
 use Rattle.path_script.specs.declared.script.Step.{Step}
-use Rattle.path_script.specs.declared.script.Step.TheVariants.{Enter, Apply, Leave}
 use Rattle.path_script.specs.Scripts.{Plan, MayStep, entered_after, Leads, steps_in}
 use Rattle.path_script.specs.ScriptLines.{ends}
 use Rattle.path_script.specs.ScriptTexts.{step_line, opening_lines, plan_lines, script_lines}
@@ -13,34 +12,6 @@ use Rattle.path_script.specs.ScriptTexts.{step_line, opening_lines, plan_lines, 
 pub leads_more : (n : ℕ) (steps : List Step) (m : ℕ) (s : Step) → Leads n steps m → MayStep m s → Leads n (steps ++ s ∷ []) (entered_after m s)
 leads_more n [] m s e may = (subst (λ k. MayStep k s) (sym e) may, ap (λ k. entered_after k s) e)
 leads_more n (t ∷ rest) m s h may = (h.0, leads_more (entered_after n t) rest m s h.1 may)
-
--- steps lead to one number
-pub leads_once : (n : ℕ) (steps : List Step) (m k : ℕ) → Leads n steps m → Leads n steps k → m ≡ k
-leads_once n [] m k h i = sym h ∙ i
-leads_once n (s ∷ rest) m k h i = leads_once (entered_after n s) rest m k h.1 i.1
-
--- what stands behind steps can be taken behind them
-pub leads_on : (n : ℕ) (steps more : List Step) (m k : ℕ) → Leads n steps m → Leads n (steps ++ more) k → Leads m more k
-leads_on n [] more m k h i = subst (λ j. Leads j more k) h i
-leads_on n (s ∷ rest) more m k h i = leads_on (entered_after n s) rest more m k h.1 i.1
-
--- a step can be taken at its place, and the steps behind it go on from there
-pub step_at : (steps : List Step) (k n m : ℕ) (s : Step) → k < length steps → Leads n (drop k steps) m → MayStep n (slice_index_or steps k s) × Leads (entered_after n (slice_index_or steps k s)) (drop (k + 1) steps) m
-step_at steps k n m s lt h = rw add-one (subst (λ x. Leads n x m) (drop-cons steps k s lt) h)
-
--- behind the last step nothing is to be taken
-pub none_left : (steps : List Step) (k n m : ℕ) → length steps ≤ k → Leads n (drop k steps) m → n ≡ m
-none_left steps k n m le h = subst (λ x. Leads n x m) (drop_all k steps le) h
-
--- never more than 16 are entered
-pub few_entered : (n : ℕ) (steps : List Step) (m : ℕ) → n ≤ 16 → Leads n steps m → m ≤ 16
-few_entered n [] m few h = omega (arith, few, h)
-few_entered n (s ∷ rest) m few h = few_entered (entered_after n s) rest m (few_after n s few h.0) h.1
-  where
-    few_after : (n : ℕ) (s : Step) → n ≤ 16 → MayStep n s → entered_after n s ≤ 16
-    few_after n (Enter a) few may = omega arith
-    few_after n (Apply v) few may = few
-    few_after n Leave few may = omega arith
 
 -- how many lines processes have
 pub length-opening : (d : Declaration) (p : Plan) → length (opening_lines d p) ≡ length p.steps + 1

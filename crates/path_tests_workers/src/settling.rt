@@ -124,6 +124,8 @@ fn slot_settled<R: Wait + Abort>(
     exchanged::<Brand, R>(rt, alloc, system, Blank::new(u64::MAX), given)
 }
 
+// It also finds a desk that settles another system than it was opened with, and one that steps another attempt than it was given:
+// no clause can see these.
 #[test]
 fn settle(rt: HostRuntime) {
     let outcome = slot_settled(&rt, rt.alloc(), Given::Both);
