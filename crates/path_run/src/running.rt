@@ -1,9 +1,17 @@
 //! Runs.
 
 ghost use Rattle.std.specs.Prelude.{◌≡◌, ℕ, ◌<◌, ◌≤◌, length, vec_len, vec_capacity, slice_index_or, IfOk, IfErr};
+ghost use Rattle.path_model.specs.Declarations.{paths_of};
+ghost use Rattle.path_model.specs.Honest.{IsHonest};
+ghost use Rattle.path_model.specs.Legal.{Every};
+ghost use Rattle.path_model.specs.Trees.{WellFormed};
 ghost use Rattle.path_script.specs.Scripts.{LawfulScript};
+ghost use Rattle.path_workers.specs.declared.settle.SettleFault.{SettleFault as Fault};
 ghost use Rattle.path_workers.specs.Settled.{IsSettled};
+ghost use Rattle.path_run.specs.declared.outcome.RunFault.TheVariants as faults;
 ghost use Rattle.path_run.specs.Runs.{EachRuns};
+ghost use Rattle.path_run.specs.Lines.{EachIsOrderly, EachIsBlockedNow};
+ghost use Rattle.path_run.specs.Unsettled.{IsUnsettled, IsUnsettledRun};
 
 use crate::begun::{Worked, work_in_threads};
 use crate::floor::Floor;
@@ -56,9 +64,16 @@ fn outcome<L: Opening, S: Steps>(
     ensures ends { IfOk result (λ o. (o.ends.items ≡ ends.items) × (vec_len o.ends ≡ vec_len ends)) }
     ensures passes { IfOk result (λ o. (o.passes.items ≡ passes.items) × (vec_len o.passes ≡ vec_len passes)) }
     ensures settled { IfOk result (λ o. IsSettled before (S.account o.system).journal o.passes.items) }
+    ensures orderly { IfOk result (λ o. EachIsOrderly (S.account o.system).journal o.passes.items o.ends.items) }
+    ensures honest { IfOk result (λ o. IsHonest (S.account o.system).declaration (S.account o.system).room (S.account o.system).openings
+        (S.account o.system).journal) }
+    ensures well_formed { IfOk result (λ o. Every WellFormed (paths_of (S.account o.system).declaration)) }
+    ensures unsettled { IfErr result (λ e. (fault : Fault) (left : _) → e ≡ faults.Unsettled fault left
+        → IsUnsettled before (S.account left).journal passes.items ends.items fault) }
 {
     match settle_own(hall, before, passes, slips) {
         Ok((system, slips)) => {
+            system.has_well_formed_paths();
             match first_disorder(system.journal(), slips.as_slice(), ends.as_slice()) {
                 None => Ok(Outcome {
                     system,
@@ -87,6 +102,10 @@ fn run_at<L: Opening + Send + Sync, S: Steps + Send, T: Turnstile, R: Threads + 
     ensures len { IfOk result (λ o. (vec_len o.passes ≡ length processes.now) × (vec_len o.ends ≡ length processes.now)) }
     ensures settled { IfOk result (λ o. IsSettled (length (S.account system).journal) (S.account o.system).journal o.passes.items) }
     ensures runs { IfOk result (λ o. EachRuns processes.now o.passes.items o.ends.items) }
+    ensures orderly { IfOk result (λ o. EachIsOrderly (S.account o.system).journal o.passes.items o.ends.items) }
+    ensures blocked { IfOk result (λ o. EachIsBlockedNow (S.account o.system).declaration (S.account o.system).journal o.ends.items) }
+    ensures unsettled { IfErr result (λ e. (fault : Fault) (left : _) → e ≡ faults.Unsettled fault left
+        → IsUnsettledRun processes.now (length (S.account system).journal) (S.account left).journal fault) }
 {
     let before = system.journal().len() as u64;
     let count = processes.len();
@@ -123,6 +142,10 @@ pub fn run<S: Steps + Send, T: Turnstile, R: Threads + Wait + Sync>(
     ensures len { IfOk result (λ o. (vec_len o.passes ≡ length script.now.processes) × (vec_len o.ends ≡ length script.now.processes)) }
     ensures settled { IfOk result (λ o. IsSettled (length (S.account system).journal) (S.account o.system).journal o.passes.items) }
     ensures runs { IfOk result (λ o. EachRuns script.now.processes o.passes.items o.ends.items) }
+    ensures orderly { IfOk result (λ o. EachIsOrderly (S.account o.system).journal o.passes.items o.ends.items) }
+    ensures blocked { IfOk result (λ o. EachIsBlockedNow (S.account o.system).declaration (S.account o.system).journal o.ends.items) }
+    ensures unsettled { IfErr result (λ e. (fault : Fault) (left : _) → e ≡ faults.Unsettled fault left
+        → IsUnsettledRun script.now.processes (length (S.account system).journal) (S.account left).journal fault) }
 {
     run_at::<Brand, S, T, R>(
         rt,

@@ -60,7 +60,7 @@ pub(crate) fn ran<D: Device + Send, T: Turnstile, R: Threads + Wait + Abort + Sy
     turnstile: &T,
 ) -> Outcome<System<D>> {
     let script = script_of(rt, alloc, &system, text);
-    match run(rt, alloc, system, &script, turnstile) {
+    match run::<System<D>, T, R>(rt, alloc, system, &script, turnstile) {
         Ok(outcome) => outcome,
         Err(RunFault::OutOfMemory(_system)) => panic!(rt; "out of memory"),
         Err(RunFault::Unsettled(fault, _system)) => panic!(rt; "{fault:?}"),
