@@ -1,6 +1,6 @@
 -- Processes that stalled are blocked after the whole journal.
 use Rattle.std.proofs.Common.{◌≡◌, inl, inr, ℕ, ◌+◌, ◌-◌, ◌<◌, suc, List, [], ◌∷◌, ◌++◌, length, take, drop, get_or, Bool, true, refl, sym, ap, ◌∙◌, subst, arith, length-append, length-drop, drop-cons, add-one}
-use Rattle.std.specs.Prelude.{Some, ◌&&◌}
+use Rattle.std.specs.Prelude.{Some, ◌&&◌, ◌==◌}
 use Rattle.std.proofs.lemmas.Bool.Decides.{nat_tests}
 use Rattle.std.proofs.lemmas.List.{get_or-drop, take-append-drop}
 use Rattle.std.proofs.Math.Seq.{get_or-append_seam}
@@ -99,7 +99,7 @@ module _ (d : Declaration) (room : ℕ) (openings : List (List ℕ)) (wf : legal
       let at : get_or rs (length first) r ≡ r = ap (λ (xs : List Receipt). get_or xs (length first) r) last.3 ∙ get_or-append_seam first r [] r in
       let line : IsLine lines r = subst (λ (q : Receipt). IsLine lines q) at (copied (length first) r (omega arith)) in
       let l : Line = get_or lines last.1 a_line in
-      let both = and_both _ _ _ line.1 in
+      let both = and_both (last.1 == last.1) (same_attempt l.attempt (Start op)) (same_reply l.reply (Blocked last.2)) line.1 in
       let attempt : l.attempt ≡ Start op = same_start l.attempt op both.0 in
       let reply : l.reply ≡ Blocked last.2 = same_blocked l.reply last.2 both.1 in
       let is : l ≡ blocked_line l.worker op last.2 = ap (λ (a : Attempt). record { worker = l.worker; attempt = a; reply = l.reply }) attempt ∙ ap (λ (q : Reply). record { worker = l.worker; attempt = Start op; reply = q }) reply in

@@ -26,13 +26,14 @@ use std::sync::Wait;
 use std::sync::ledger::{Blank, Ledger};
 use std::thread::Threads;
 
-/// The passes without the ends.
+/// The passes and the ends, each in order.
 fn passes_of<L: Ledger>(
     worked: Vec<Worked<L>>,
     mut passes: Vec<Pass<L>>,
     mut ends: Vec<End>,
 ) -> (Vec<Pass<L>>, Vec<End>)
-    requires { (vec_len passes ≡ 0) × (vec_len ends ≡ 0) × (vec_len worked ≤ vec_capacity passes) × (vec_len worked ≤ vec_capacity ends) }
+    requires empty { (vec_len passes ≡ 0) × (vec_len ends ≡ 0) }
+    requires places { (vec_len worked ≤ vec_capacity passes) × (vec_len worked ≤ vec_capacity ends) }
     ensures len { (vec_len result.0 ≡ vec_len worked) × (vec_len result.1 ≡ vec_len worked) }
     ensures each { (k : ℕ) (h : _) (e : _) (w : _) → k < vec_len worked
         → (slice_index_or result.0.items k h ≡ (slice_index_or worked.items k w).pass)
@@ -50,7 +51,7 @@ fn passes_of<L: Ledger>(
     (passes, ends)
 }
 
-/// The outcome of processes that have ended.
+/// The outcome of processes that have ended, with these passes and ends. The slips have their places in the vector that is handed in.
 fn outcome<L: Opening, S: Steps>(
     hall: Hall<L, S>,
     before: u64,
@@ -87,6 +88,7 @@ fn outcome<L: Opening, S: Steps>(
     }
 }
 
+/// The same over a desk that the caller names.
 fn run_at<L: Opening + Send + Sync, S: Steps + Send, T: Turnstile, R: Threads + Wait + Sync>(
     rt: &R,
     alloc: Global,
@@ -131,7 +133,22 @@ fn run_at<L: Opening + Send + Sync, S: Steps + Send, T: Turnstile, R: Threads + 
     }
 }
 
-/// Runs each process of the script in a thread of its own.
+/// Runs each process of the script in a thread of its own, over a system that they share. The number of a process is that of its
+/// worker. `use` and `leave` act on the activation that the process entered last and hasn't left.
+///
+/// Before each step the turnstile is asked, while nobody holds the lock. An enter that a path blocks is marked as waiting in the same
+/// hold of the lock, and is tried again only once a finish has been admitted since; each admitted finish wakes all that wait. Where
+/// each process that hasn't ended waits, all of them end as [`End::Stalled`] and finish nothing. A process that ends as
+/// [`End::NoRoom`], [`End::Faulted`], [`End::Stopped`] or [`End::NoMemory`] first finishes what it had entered, the last first.
+///
+/// The outcome has one pass and one end for each process, in order. Each line that was written is one receipt of one pass; the
+/// receipts of a pass are those of its script, up to its end; and what a process stalled at is blocked in the system that is left.
+///
+/// `OutOfMemory` where a growth of memory was refused before any process began; the system comes back. `Unsettled` where the journal
+/// isn't what the processes were told, which no process of a run causes: at the first place where the desk isn't settled, or where
+/// the receipts of a process don't rise, are blocked again with no finish between, or where one stalled before a later finish.
+///
+/// It waits for all processes. Beside their steps it takes a walk through the lines for each process, and a settlement.
 pub fn run<S: Steps + Send, T: Turnstile, R: Threads + Wait + Sync>(
     rt: &R,
     alloc: Global,
@@ -139,7 +156,8 @@ pub fn run<S: Steps + Send, T: Turnstile, R: Threads + Wait + Sync>(
     script: &Script,
     turnstile: &T,
 ) -> Result<Outcome<S>, RunFault<S>>
-    ensures len { IfOk result (λ o. (vec_len o.passes ≡ length script.now.processes) × (vec_len o.ends ≡ length script.now.processes)) }
+    ensures len { IfOk result (λ o. (vec_len o.passes ≡ length script.now.processes)
+        × (vec_len o.ends ≡ length script.now.processes)) }
     ensures settled { IfOk result (λ o. IsSettled (length (S.account system).journal) (S.account o.system).journal o.passes.items) }
     ensures runs { IfOk result (λ o. EachRuns script.now.processes o.passes.items o.ends.items) }
     ensures orderly { IfOk result (λ o. EachIsOrderly (S.account o.system).journal o.passes.items o.ends.items) }
