@@ -1,5 +1,5 @@
 -- Receipts that may follow each other.
-use Rattle.std.proofs.Common.{◌≡◌, ◌≢◌, ◌⊎◌, inl, inr, ℕ, ◌+◌, ◌-◌, ◌≤◌, ◌<◌, List, length, get_or, true, false, refl, sym, ap, ◌∙◌, subst, arith, below_more}
+use Rattle.std.proofs.Common.{◌≡◌, ℕ, ◌+◌, ◌<◌, List, length, get_or, ap, ◌∙◌, subst, arith, below_more}
 use Rattle.std.proofs.lemmas.List.{get_or_default}
 use Rattle.path_model.specs.declared.journal.Attempt.TheVariants.{Start}
 use Rattle.path_model.specs.declared.journal.Reply.TheVariants.{Finished}
@@ -7,7 +7,7 @@ use Rattle.path_model.specs.declared.journal.Line.{Line}
 use Rattle.path_workers.specs.declared.answer.Receipt.{Receipt}
 use Rattle.path_workers.specs.Attempts.{Held}
 use Rattle.path_run.specs.declared.outcome.End.{End}
-use Rattle.path_run.specs.Lines.{HasFinish, HasNoFinish, is_blocked, MayFollow, AreInOrderTo, AreInOrder}
+use Rattle.path_run.specs.Lines.{HasFinish, HasNoFinish, MayFollow, AreInOrderTo, EachIsOrderly, IsFirstDisorder}
 
 nothing : Line
 nothing = record { worker = 0; attempt = Start (record { 0 = 0 }); reply = Finished }
@@ -31,3 +31,12 @@ held_at P hs es i r rs f lt same is own holds h e =
     let held : r ≡ get_or hs i h = is ∙ get_or_default hs i r h lt in
     subst (λ (x : End). P (get_or hs i h).receipts x) (get_or_default es i f e (omega arith))
     (subst (λ (xs : List Receipt). P xs (get_or es i f)) (own ∙ ap (λ (x : Held). x.receipts) held) holds)
+
+-- the same of equal lists
+pub orderly_of : (ls ls' : List Line) (hs hs' : List Held) (es es' : List End) → ls ≡ ls' → hs ≡ hs' → es ≡ es' → EachIsOrderly ls hs es → EachIsOrderly ls' hs' es'
+orderly_of ls ls' hs hs' es es' l h e orderly =
+    subst (λ (x : List Line). EachIsOrderly x hs' es') l (subst (λ (x : List Held). EachIsOrderly ls x es') h (subst (λ (x : List End). EachIsOrderly ls hs x) e orderly))
+
+pub disorder_of : (ls ls' : List Line) (hs hs' : List Held) (es es' : List End) (place : ℕ) → ls ≡ ls' → hs ≡ hs' → es ≡ es' → IsFirstDisorder ls hs es place → IsFirstDisorder ls' hs' es' place
+disorder_of ls ls' hs hs' es es' place l h e first =
+    subst (λ (x : List Line). IsFirstDisorder x hs' es' place) l (subst (λ (x : List Held). IsFirstDisorder ls x es' place) h (subst (λ (x : List End). IsFirstDisorder ls hs x place) e first))

@@ -1,5 +1,6 @@
 -- What the receipts of a process have to do with the lines of the journal.
-use Rattle.std.specs.Prelude.{◌≡◌, ◌≢◌, ◌⊎◌, ◌<◌, ◌≤◌, ◌+◌, ◌-◌, ℕ, List, length, slice_index_or, Bool, true, false, Some}
+use Rattle.std.specs.Prelude.{◌≡◌, ◌≢◌, ◌⊎◌, ◌<◌, ◌≤◌, ◌+◌, ◌-◌, ℕ, List, length, slice_index_or}
+use Rattle.std.specs.Prelude.{Bool, true, false, Some}
 use Rattle.path_model.specs.declared.ids.PathId.{PathId}
 use Rattle.path_model.specs.declared.journal.Reply.{Reply}
 use Rattle.path_model.specs.declared.journal.Reply.TheVariants.{Blocked, Finished}
@@ -57,7 +58,8 @@ EachIsOrderly lines hs es =
 abbrev pub IsOutOfOrder : List Line → List Receipt → ℕ → Type 0
 IsOutOfOrder lines rs place =
     (i : ℕ) × (i + 1 < length rs) × AreInOrderTo i lines rs
-    × ((d : Receipt) → (MayFollow lines (slice_index_or rs i d) (slice_index_or rs (i + 1) d) → ⊥) × (place ≡ (slice_index_or rs (i + 1) d).place))
+    × ((d : Receipt) → (MayFollow lines (slice_index_or rs i d) (slice_index_or rs (i + 1) d) → ⊥)
+    × (place ≡ (slice_index_or rs (i + 1) d).place))
 
 -- the process stalled, this is the place of its last receipt, and a finish was admitted after it
 abbrev pub IsStale : List Line → List Receipt → End → ℕ → Type 0

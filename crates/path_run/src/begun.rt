@@ -24,7 +24,7 @@ pub struct Worked<L: Ledger> {
     pub end: End,
 }
 
-/// The receipts are those of a process of this number with these steps.
+/// That the receipts are those of a process of this number with these steps.
 #[derive(Clone, Copy)]
 pub struct RunOf<'a> {
     worker: u32,
@@ -38,7 +38,7 @@ impl<'a, L: Ledger> Promise<Worked<L>> for RunOf<'a> {
     ghost kept_by = { λ p w. (w.pass.worker ≡ p.worker) × IsRun p.steps.now [] w.pass.receipts w.end };
 }
 
-/// A process for which a thread was made, or none could be.
+/// A process for which a thread was made, or none could be. Contracts see its number and its steps.
 #[derive(Drop)]
 struct Begun<'a, L: Ledger> {
     child: Option<PromisedHandle<Worked<L>, RunOf<'a>>>,
@@ -78,7 +78,7 @@ impl<'a, L: Opening> Begun<'a, L> {
     }
 }
 
-/// What the thread of a process does.
+/// What the thread of a process does: its steps, and then it is marked as ended.
 fn work_there<L: Opening, S: Steps, T: Turnstile, R: Wait>(
     rt: &R,
     floor: &Floor<L, S>,
@@ -98,7 +98,8 @@ fn work_there<L: Opening, S: Steps, T: Turnstile, R: Wait>(
     Worked { pass, end }
 }
 
-/// One thread for each process, joined in order. All memory is taken before the first begins.
+/// One thread for each process, joined in order. Its memory is taken before the first begins. Where no thread can be made for a
+/// process, it is marked as ended at once, so that nobody waits for it.
 pub fn work_in_threads<
     L: Opening + Send + Sync,
     S: Steps + Send,
@@ -115,16 +116,19 @@ pub fn work_in_threads<
     ensures len { IfOk result (λ v. vec_len v ≡ length processes.now) }
     ensures runs { IfOk result (λ v. (i : ℕ) (p : _) (w : _) → i < length processes.now
         → ((slice_index_or v.items i w).pass.worker ≡ i)
-        × IsRun (slice_index_or processes.now i p).steps [] (slice_index_or v.items i w).pass.receipts (slice_index_or v.items i w).end) }
+        × IsRun (slice_index_or processes.now i p).steps [] (slice_index_or v.items i w).pass.receipts
+        (slice_index_or v.items i w).end) }
 {
     thread::scope(
         thread::scope_env(),
         rt,
         |scope| -> Result<Vec<Worked<L>>, AllocError>
             requires { LawfulScript processes.now }
-            ensures { IfOk result (λ v. (vec_len v ≡ length processes.entry.now) × ((i : ℕ) (p : _) (w : _) → i < length processes.entry.now
+            ensures { IfOk result (λ v. (vec_len v ≡ length processes.entry.now)
+                × ((i : ℕ) (p : _) (w : _) → i < length processes.entry.now
                 → ((slice_index_or v.items i w).pass.worker ≡ i)
-                × IsRun (slice_index_or processes.entry.now i p).steps [] (slice_index_or v.items i w).pass.receipts (slice_index_or v.items i w).end)) }
+                × IsRun (slice_index_or processes.entry.now i p).steps [] (slice_index_or v.items i w).pass.receipts
+                (slice_index_or v.items i w).end)) }
         {
             let worked = Vec::with_capacity(alloc, processes.len())?;
             let mut begun = Vec::with_capacity(alloc, processes.len())?;
@@ -164,7 +168,8 @@ fn join_all<'a, L: Opening, R: Threads + Wait>(
     ensures len { vec_len result ≡ vec_len begun.entry }
     ensures runs { (i : ℕ) (b : _) (w : _) → i < vec_len begun.entry
         → ((slice_index_or result.items i w).pass.worker ≡ (slice_index_or begun.entry.items i b).0)
-        × IsRun (slice_index_or begun.entry.items i b).1 [] (slice_index_or result.items i w).pass.receipts (slice_index_or result.items i w).end }
+        × IsRun (slice_index_or begun.entry.items i b).1 [] (slice_index_or result.items i w).pass.receipts
+        (slice_index_or result.items i w).end }
 {
     for one in begun {
         let Ok(()) = worked.push(one.join(rt, alloc)) else {

@@ -14,12 +14,16 @@ use std::sync::Wait;
 
 /// What comes of one try to enter.
 enum Tried {
+    /// It was admitted.
     Entered(ActId),
+    /// It was blocked, and a finish was admitted since.
     Freed,
+    /// The process ends.
     Ended(End),
 }
 
-/// Tries once. Where a path blocks it, it is marked as waiting in the same hold of the lock, and waits for a finish.
+/// Tries once. Where a path blocks it, it is marked as waiting in the same hold of the lock, and waits for a finish or for the mark
+/// that all wait.
 fn try_once<L: Opening, S: Steps, R: Wait>(
     rt: &R,
     floor: &Floor<L, S>,

@@ -14,7 +14,7 @@ pub struct Shift<L: Opening, S: Steps> {
     pub hall: Hall<L, S>,
     /// How many finishes were admitted.
     pub finishes: u64,
-    /// How many processes wait for a finish since it was admitted.
+    /// How many processes wait, each since a try after the last admitted finish.
     waiting: u64,
     /// How many processes haven't ended.
     left: u64,
@@ -51,13 +51,14 @@ impl<L: Opening, S: Steps> Shift<L, S> {
         self.waiting = 0;
     }
 
+    /// Marks the desk as stalled where somebody hasn't ended and each that hasn't waits.
     fn mark(&mut self) {
         if self.left > 0 && self.waiting >= self.left {
             self.stalled = true;
         }
     }
 
-    /// What the settlement needs.
+    /// The hall, once all processes have ended.
     pub fn into_hall(self) -> Hall<L, S> {
         let Shift {
             hall,
@@ -91,13 +92,14 @@ impl<L: Opening, S: Steps> Floor<L, S> {
         self.freed.notify_all();
     }
 
+    /// The hall, once all processes have ended.
     pub fn into_hall(self) -> Hall<L, S> {
         let Floor { shift, freed: _ } = self;
         shift.into_inner().into_hall()
     }
 }
 
-/// One attempt, while its caller holds the lock.
+/// One attempt, while its caller holds the lock. Its receipt is gained, or none for want of room.
 pub fn told<L: Opening, S: Steps>(
     pass: &mut Pass<L>,
     hall: &mut Hall<L, S>,

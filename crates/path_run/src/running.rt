@@ -1,9 +1,17 @@
 //! Runs.
 
 ghost use Rattle.std.specs.Prelude.{◌≡◌, ℕ, ◌<◌, ◌≤◌, length, vec_len, vec_capacity, slice_index_or, IfOk, IfErr};
+ghost use Rattle.path_model.specs.Declarations.{paths_of};
+ghost use Rattle.path_model.specs.Honest.{IsHonest};
+ghost use Rattle.path_model.specs.Legal.{Every};
+ghost use Rattle.path_model.specs.Trees.{WellFormed};
 ghost use Rattle.path_script.specs.Scripts.{LawfulScript};
+ghost use Rattle.path_workers.specs.declared.settle.SettleFault.{SettleFault as Fault};
 ghost use Rattle.path_workers.specs.Settled.{IsSettled};
+ghost use Rattle.path_run.specs.declared.outcome.RunFault.TheVariants as faults;
 ghost use Rattle.path_run.specs.Runs.{EachRuns};
+ghost use Rattle.path_run.specs.Lines.{EachIsOrderly, EachIsBlockedNow};
+ghost use Rattle.path_run.specs.Unsettled.{IsUnsettled, IsUnsettledRun};
 
 use crate::begun::{Worked, work_in_threads};
 use crate::floor::Floor;
@@ -18,13 +26,14 @@ use std::sync::Wait;
 use std::sync::ledger::{Blank, Ledger};
 use std::thread::Threads;
 
-/// The passes without the ends.
+/// The passes and the ends, each in order.
 fn passes_of<L: Ledger>(
     worked: Vec<Worked<L>>,
     mut passes: Vec<Pass<L>>,
     mut ends: Vec<End>,
 ) -> (Vec<Pass<L>>, Vec<End>)
-    requires { (vec_len passes ≡ 0) × (vec_len ends ≡ 0) × (vec_len worked ≤ vec_capacity passes) × (vec_len worked ≤ vec_capacity ends) }
+    requires empty { (vec_len passes ≡ 0) × (vec_len ends ≡ 0) }
+    requires places { (vec_len worked ≤ vec_capacity passes) × (vec_len worked ≤ vec_capacity ends) }
     ensures len { (vec_len result.0 ≡ vec_len worked) × (vec_len result.1 ≡ vec_len worked) }
     ensures each { (k : ℕ) (h : _) (e : _) (w : _) → k < vec_len worked
         → (slice_index_or result.0.items k h ≡ (slice_index_or worked.items k w).pass)
@@ -42,7 +51,7 @@ fn passes_of<L: Ledger>(
     (passes, ends)
 }
 
-/// The outcome of processes that have ended.
+/// The outcome of processes that have ended, with these passes and ends. The slips have their places in the vector that is handed in.
 fn outcome<L: Opening, S: Steps>(
     hall: Hall<L, S>,
     before: u64,
@@ -56,9 +65,16 @@ fn outcome<L: Opening, S: Steps>(
     ensures ends { IfOk result (λ o. (o.ends.items ≡ ends.items) × (vec_len o.ends ≡ vec_len ends)) }
     ensures passes { IfOk result (λ o. (o.passes.items ≡ passes.items) × (vec_len o.passes ≡ vec_len passes)) }
     ensures settled { IfOk result (λ o. IsSettled before (S.account o.system).journal o.passes.items) }
+    ensures orderly { IfOk result (λ o. EachIsOrderly (S.account o.system).journal o.passes.items o.ends.items) }
+    ensures honest { IfOk result (λ o. IsHonest (S.account o.system).declaration (S.account o.system).room (S.account o.system).openings
+        (S.account o.system).journal) }
+    ensures well_formed { IfOk result (λ o. Every WellFormed (paths_of (S.account o.system).declaration)) }
+    ensures unsettled { IfErr result (λ e. (fault : Fault) (left : _) → e ≡ faults.Unsettled fault left
+        → IsUnsettled before (S.account left).journal passes.items ends.items fault) }
 {
     match settle_own(hall, before, passes, slips) {
         Ok((system, slips)) => {
+            system.has_well_formed_paths();
             match first_disorder(system.journal(), slips.as_slice(), ends.as_slice()) {
                 None => Ok(Outcome {
                     system,
@@ -72,6 +88,7 @@ fn outcome<L: Opening, S: Steps>(
     }
 }
 
+/// The same over a desk that the caller names.
 fn run_at<L: Opening + Send + Sync, S: Steps + Send, T: Turnstile, R: Threads + Wait + Sync>(
     rt: &R,
     alloc: Global,
@@ -87,6 +104,10 @@ fn run_at<L: Opening + Send + Sync, S: Steps + Send, T: Turnstile, R: Threads + 
     ensures len { IfOk result (λ o. (vec_len o.passes ≡ length processes.now) × (vec_len o.ends ≡ length processes.now)) }
     ensures settled { IfOk result (λ o. IsSettled (length (S.account system).journal) (S.account o.system).journal o.passes.items) }
     ensures runs { IfOk result (λ o. EachRuns processes.now o.passes.items o.ends.items) }
+    ensures orderly { IfOk result (λ o. EachIsOrderly (S.account o.system).journal o.passes.items o.ends.items) }
+    ensures blocked { IfOk result (λ o. EachIsBlockedNow (S.account o.system).declaration (S.account o.system).journal o.ends.items) }
+    ensures unsettled { IfErr result (λ e. (fault : Fault) (left : _) → e ≡ faults.Unsettled fault left
+        → IsUnsettledRun processes.now (length (S.account system).journal) (S.account left).journal fault) }
 {
     let before = system.journal().len() as u64;
     let count = processes.len();
@@ -112,7 +133,22 @@ fn run_at<L: Opening + Send + Sync, S: Steps + Send, T: Turnstile, R: Threads + 
     }
 }
 
-/// Runs each process of the script in a thread of its own.
+/// Runs each process of the script in a thread of its own, over a system that they share. The number of a process is that of its
+/// worker. `use` and `leave` act on the activation that the process entered last and hasn't left.
+///
+/// Before each step the turnstile is asked, while nobody holds the lock. An enter that a path blocks is marked as waiting in the same
+/// hold of the lock, and is tried again only once a finish has been admitted since; each admitted finish wakes all that wait. Where
+/// each process that hasn't ended waits, all of them end as [`End::Stalled`] and finish nothing. A process that ends as
+/// [`End::NoRoom`], [`End::Faulted`], [`End::Stopped`] or [`End::NoMemory`] first finishes what it had entered, the last first.
+///
+/// The outcome has one pass and one end for each process, in order. Each line that was written is one receipt of one pass; the
+/// receipts of a pass are those of its script, up to its end; and what a process stalled at is blocked in the system that is left.
+///
+/// `OutOfMemory` where a growth of memory was refused before any process began; the system comes back. `Unsettled` where the journal
+/// isn't what the processes were told, which no process of a run causes: at the first place where the desk isn't settled, or where
+/// the receipts of a process don't rise, are blocked again with no finish between, or where one stalled before a later finish.
+///
+/// It waits for all processes. Beside their steps it takes a walk through the lines for each process, and a settlement.
 pub fn run<S: Steps + Send, T: Turnstile, R: Threads + Wait + Sync>(
     rt: &R,
     alloc: Global,
@@ -120,9 +156,14 @@ pub fn run<S: Steps + Send, T: Turnstile, R: Threads + Wait + Sync>(
     script: &Script,
     turnstile: &T,
 ) -> Result<Outcome<S>, RunFault<S>>
-    ensures len { IfOk result (λ o. (vec_len o.passes ≡ length script.now.processes) × (vec_len o.ends ≡ length script.now.processes)) }
+    ensures len { IfOk result (λ o. (vec_len o.passes ≡ length script.now.processes)
+        × (vec_len o.ends ≡ length script.now.processes)) }
     ensures settled { IfOk result (λ o. IsSettled (length (S.account system).journal) (S.account o.system).journal o.passes.items) }
     ensures runs { IfOk result (λ o. EachRuns script.now.processes o.passes.items o.ends.items) }
+    ensures orderly { IfOk result (λ o. EachIsOrderly (S.account o.system).journal o.passes.items o.ends.items) }
+    ensures blocked { IfOk result (λ o. EachIsBlockedNow (S.account o.system).declaration (S.account o.system).journal o.ends.items) }
+    ensures unsettled { IfErr result (λ e. (fault : Fault) (left : _) → e ≡ faults.Unsettled fault left
+        → IsUnsettledRun script.now.processes (length (S.account system).journal) (S.account left).journal fault) }
 {
     run_at::<Brand, S, T, R>(
         rt,

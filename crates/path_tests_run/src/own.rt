@@ -51,16 +51,25 @@ pub(crate) fn script_of<D: Device>(
     }
 }
 
-/// The outcome of a run.
+/// What is run: a script, over a new system of a declaration with so much room.
+#[derive(Clone, Copy)]
+pub(crate) struct Case<'a> {
+    pub(crate) declaration: &'a [u8],
+    pub(crate) room: u32,
+    pub(crate) script: &'a [u8],
+}
+
+/// The outcome of a run over this device.
 pub(crate) fn ran<D: Device + Send, T: Turnstile, R: Threads + Wait + Abort + Sync>(
     rt: &R,
     alloc: Global,
-    system: System<D>,
-    text: &[u8],
+    case: Case<'_>,
+    device: D,
     turnstile: &T,
 ) -> Outcome<System<D>> {
-    let script = script_of(rt, alloc, &system, text);
-    match run(rt, alloc, system, &script, turnstile) {
+    let system = system_of(rt, alloc, case.declaration, device, case.room);
+    let script = script_of(rt, alloc, &system, case.script);
+    match run::<System<D>, T, R>(rt, alloc, system, &script, turnstile) {
         Ok(outcome) => outcome,
         Err(RunFault::OutOfMemory(_system)) => panic!(rt; "out of memory"),
         Err(RunFault::Unsettled(fault, _system)) => panic!(rt; "{fault:?}"),

@@ -1,6 +1,6 @@
 //! A turnstile that stops the first process before a step.
 
-use crate::own::{ROOM, SLOT, end_so, ran, system_of};
+use crate::own::{Case, ROOM, SLOT, end_so, ran};
 use path_model::{OpId, Reply};
 use path_run::{End, Turnstile};
 use path_shelf::Cell;
@@ -36,7 +36,11 @@ fn zeros() -> [AtomicU64; 9] {
 
 impl Turnstile for Stopping {
     fn before(&self, worker: u32, step: u32) -> bool {
-        let asked = if worker == 0 { &self.first } else { &self.second };
+        let asked = if worker == 0 {
+            &self.first
+        } else {
+            &self.second
+        };
         if let Some(count) = asked.get(step as usize) {
             count.fetch_add(1, Ordering::SeqCst);
         }
@@ -70,8 +74,12 @@ fn run_stops_before_each_step(rt: HostRuntime) {
             first: zeros(),
             second: zeros(),
         };
-        let system = system_of(&rt, rt.alloc(), SLOT, Cell::new(0), ROOM);
-        let outcome = ran(&rt, rt.alloc(), system, ROUNDS, &turnstile);
+        let case = Case {
+            declaration: SLOT,
+            room: ROOM,
+            script: ROUNDS,
+        };
+        let outcome = ran(&rt, rt.alloc(), case, Cell::new(0), &turnstile);
         assert!(&rt; end_so(outcome.ends.as_slice(), &[End::Stopped, other]));
         assert!(&rt; asked_below(&turnstile.first, stop as usize + 1));
         assert!(&rt; asked_below(&turnstile.second, asked));

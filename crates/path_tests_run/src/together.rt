@@ -1,6 +1,6 @@
 //! Processes that must run at once, and two that hold what the other wants.
 
-use crate::own::{ROOM, end_so, ran, started, system_of};
+use crate::own::{Case, ROOM, end_so, ran, started};
 use path_model::OpId;
 use path_run::{End, Turnstile};
 use path_shelf::Cell;
@@ -46,18 +46,32 @@ impl Turnstile for Meeting {
 
 #[test]
 fn run_readers_together(rt: HostRuntime) {
-    let system = system_of(&rt, rt.alloc(), BOOK, Cell::new(0), ROOM);
     let text = b"process p\nenter read\nleave\nend\nprocess q\nenter read\nleave\nend\n";
-    let outcome = ran(&rt, rt.alloc(), system, text, &Meeting::new());
+    let case = Case {
+        declaration: BOOK,
+        room: ROOM,
+        script: text,
+    };
+    let outcome = ran(&rt, rt.alloc(), case, Cell::new(0), &Meeting::new());
     assert!(&rt; end_so(outcome.ends.as_slice(), &[End::Done, End::Done]));
 }
 
 #[test]
 fn run_deadlock(rt: HostRuntime) {
-    let system = system_of(&rt, rt.alloc(), PAIR, Cell::new(0), ROOM);
-    let text = b"process p\nenter a\nenter b\nleave\nleave\nend\nprocess q\nenter b\nenter a\nleave\nleave\nend\n";
-    let outcome = ran(&rt, rt.alloc(), system, text, &Meeting::new());
-    assert!(&rt; end_so(outcome.ends.as_slice(), &[End::Stalled(OpId(1)), End::Stalled(OpId(0))]));
+    let text =
+        b"process p\nenter a\nenter b\nleave\nleave\nend\nprocess q\nenter b\nenter a\nleave\nleave\nend\n";
+    let case = Case {
+        declaration: PAIR,
+        room: ROOM,
+        script: text,
+    };
+    let outcome = ran(&rt, rt.alloc(), case, Cell::new(0), &Meeting::new());
+    assert!(&rt;
+        end_so(
+            outcome.ends.as_slice(),
+            &[End::Stalled(OpId(1)), End::Stalled(OpId(0))]
+        )
+    );
     assert_eq!(&rt; outcome.system.journal().len(), 4);
     assert_eq!(&rt; started(outcome.system.journal()), 2);
 }

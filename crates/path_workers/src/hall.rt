@@ -69,14 +69,14 @@ impl<L: Opening, S: Steps> Hall<L, S> {
     }
 
     /// All lines, in the order of the steps.
-    pub fn journal(&self) -> &[Line]
+    pub(crate) fn journal(&self) -> &[Line]
         ensures { result.now ≡ self.now.journal }
     {
         self.system.journal()
     }
 
     /// The system. Passes of this desk have no more receipts than it has lines since the desk was opened.
-    pub fn close_with(self, stake: Stake<L>) -> S
+    pub(crate) fn close_with(self, stake: Stake<L>) -> S
         ensures system { S.account result ≡ self }
         ensures few { stake + L.before ≤ length self.journal }
     {
@@ -115,7 +115,7 @@ impl<L: Opening, S: Steps> Hall<L, S> {
     }
 
     /// One step, and its receipt.
-    pub fn stamp<A: Allocator + Copy>(
+    pub(crate) fn stamp<A: Allocator + Copy>(
         &mut self,
         receipts: &mut Vec<Receipt, A>,
         stake: &mut Stake<L>,

@@ -140,7 +140,7 @@ impl<L: Ledger, A: Allocator + Copy> Pass<L, A> {
     }
 
     /// The receipts without the desk, and how many of its lines they claim.
-    pub fn into_slip(self) -> (Slip<A>, Stake<L>)
+    pub(crate) fn into_slip(self) -> (Slip<A>, Stake<L>)
         ensures slip { result.0 ≡ self }
         ensures stake { result.1 ≡ length self.receipts }
     {

@@ -1,4 +1,4 @@
-use Rattle.std.proofs.Common.{rules, arith, ℕ, ◌<◌, List, below_more, get_or}
+use Rattle.std.proofs.Common.{arith, ℕ, List, below_more, get_or}
 use Rattle.path_workers.specs.declared.answer.Receipt.{Receipt}
 use Rattle.path_workers.specs.Attempts.{Held}
 use Rattle.path_run.specs.declared.outcome.End.{End}
