@@ -70,6 +70,16 @@ fn tell_ends<E: Write>(text: &[u8], ends: &[End], err: &mut E) -> Status {
     }
 }
 
+/// Runs the processes of a script under a system.
+fn ran<D: Device + Send, R: Threads + Wait + Sync>(
+    rt: &R,
+    alloc: Global,
+    system: System<D>,
+    script: &Script,
+) -> Result<Outcome<System<D>>, RunFault<System<D>>> {
+    run(rt, alloc, system, script, &AlwaysOpen)
+}
+
 /// Runs the processes of a script under a declaration and its devices, one thread for each process, and writes the journal of the
 /// run as a text of version 2, and on `err` a line for each process: its name, `: `, and how it ended. The journal has room for so
 /// many lines, 1 to [`MOST_LINES`](path_model::MOST_LINES).
@@ -98,7 +108,7 @@ pub fn run_to<D: Device + Send, R: Threads + Wait + Sync, O: Write, E: Write>(
         Ok(system) => system,
         Err((fault, _devices)) => return tell(err, Fault::Open(fault)),
     };
-    match run(rt, alloc, system, &script, &AlwaysOpen) {
+    match ran(rt, alloc, system, &script) {
         Ok(outcome) => tell_outcome(alloc, room, &script, &outcome, out, err),
         Err(RunFault::OutOfMemory(_system)) => tell(err, Fault::OutOfMemory),
         Err(RunFault::Unsettled(_fault, _system)) => tell(err, Fault::Unsettled),
