@@ -1,8 +1,10 @@
 //! What the processes of a run share, under one lock.
 
-ghost use Rattle.std.specs.Prelude.{◌≡◌, [], ◌++◌, List, MatchResult};
+ghost use Rattle.std.specs.Prelude.{◌≡◌, ◌≢◌, ◌+◌, ◌-◌, min, [], ◌++◌, List, true, false, IsOk, MatchResult};
+ghost use Rattle.path_workers.specs.Attempts.{finishes_open};
 ghost use Rattle.path_workers.specs.declared.answer.Receipt.{Receipt as Note};
 ghost use Rattle.path_run.specs.Parts.{Gains};
+ghost use Rattle.path_run.specs.Waiting.{IsMarked};
 
 use path_model::{Attempt, OutOfMemory, Reply};
 use path_workers::{Hall, Opening, Pass, Steps};
@@ -23,7 +25,11 @@ pub struct Shift<L: Opening, S: Steps> {
 }
 
 impl<L: Opening, S: Steps> Shift<L, S> {
-    pub fn new(hall: Hall<L, S>, processes: u64) -> Shift<L, S> {
+    /// A shift of so many processes, none of which waits.
+    fn new(hall: Hall<L, S>, processes: u64) -> Shift<L, S>
+        ensures hall { result.hall ≡ hall }
+        ensures left { (result.left ≡ processes) × (result.waiting ≡ 0) × (result.stalled ≡ false) }
+    {
         Shift {
             hall,
             finishes: 0,
@@ -34,32 +40,50 @@ impl<L: Opening, S: Steps> Shift<L, S> {
     }
 
     /// One process more waits for a finish.
-    pub fn wait_one(&mut self) {
+    pub fn wait_one(&mut self)
+        ensures same { (self.new.hall ≡ self.old.hall) × (self.new.finishes ≡ self.old.finishes) × (self.new.left ≡ self.old.left) }
+        ensures waiting { self.new.waiting ≡ min 18446744073709551615 (self.old.waiting + 1) }
+        ensures stalled { IsMarked self.old.stalled self.new.waiting self.new.left self.new.stalled }
+    {
         self.waiting = self.waiting.saturating_add(1);
         self.mark();
     }
 
     /// One process more has ended.
-    fn end_one(&mut self) {
+    fn end_one(&mut self)
+        ensures same { (self.new.hall ≡ self.old.hall) × (self.new.finishes ≡ self.old.finishes) × (self.new.waiting ≡ self.old.waiting) }
+        ensures left { self.new.left ≡ self.old.left - 1 }
+        ensures stalled { IsMarked self.old.stalled self.new.waiting self.new.left self.new.stalled }
+    {
         self.left = self.left.saturating_sub(1);
         self.mark();
     }
 
     /// A finish was admitted, so nobody waits for one any more.
-    pub fn finish_one(&mut self) {
+    pub fn finish_one(&mut self)
+        ensures same { (self.new.hall ≡ self.old.hall) × (self.new.left ≡ self.old.left) × (self.new.stalled ≡ self.old.stalled) }
+        ensures finishes { self.new.finishes ≢ self.old.finishes }
+        ensures waiting { self.new.waiting ≡ 0 }
+    {
         self.finishes = self.finishes.wrapping_add(1);
         self.waiting = 0;
     }
 
     /// Marks the desk as stalled where somebody hasn't ended and each that hasn't waits.
-    fn mark(&mut self) {
+    fn mark(&mut self)
+        ensures same { (self.new.hall ≡ self.old.hall) × (self.new.finishes ≡ self.old.finishes) × (self.new.waiting ≡ self.old.waiting)
+            × (self.new.left ≡ self.old.left) }
+        ensures stalled { IsMarked self.old.stalled self.old.waiting self.old.left self.new.stalled }
+    {
         if self.left > 0 && self.waiting >= self.left {
             self.stalled = true;
         }
     }
 
     /// The hall, once all processes have ended.
-    pub fn into_hall(self) -> Hall<L, S> {
+    pub fn into_hall(self) -> Hall<L, S>
+        ensures { result ≡ self.hall }
+    {
         let Shift {
             hall,
             finishes: _,
@@ -108,6 +132,7 @@ pub fn told<L: Opening, S: Steps>(
     ensures worker { pass.new.worker ≡ pass.old.worker }
     ensures run { (gained : List Note) × (pass.new.receipts ≡ pass.old.receipts ++ gained)
         × MatchResult result (λ reply. Gains attempt reply gained) (λ _. gained ≡ []) }
+    ensures finish { finishes_open attempt pass.old.receipts ≡ true → IsOk result }
 {
     let answer = pass.make(hall, attempt)?;
     Ok(answer.reply)

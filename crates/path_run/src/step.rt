@@ -1,6 +1,7 @@
 //! One step of a process.
 
-ghost use Rattle.std.specs.Prelude.{◌≡◌, [], ◌∷◌, ◌++◌, List, length, MatchResult, OnOk, OnErr};
+ghost use Rattle.std.specs.Prelude.{◌≡◌, [], ◌∷◌, ◌++◌, List, length, true, IsOk, MatchResult, OnOk, OnErr};
+ghost use Rattle.path_workers.specs.Attempts.{finishes_open};
 ghost use Rattle.path_model.specs.declared.ids.ActId.{ActId as Act};
 ghost use Rattle.path_script.specs.declared.script.Step.TheVariants as steps;
 ghost use Rattle.path_script.specs.Scripts.{MayStep, entered_after};
@@ -26,6 +27,7 @@ pub fn attempt<L: Opening, S: Steps, R: Wait>(
     ensures worker { pass.new.worker ≡ pass.old.worker }
     ensures run { (gained : List Note) × (pass.new.receipts ≡ pass.old.receipts ++ gained)
         × MatchResult result (λ reply. Gains attempt reply gained) (λ _. gained ≡ []) }
+    ensures finish { finishes_open attempt pass.old.receipts ≡ true → IsOk result }
 {
     let mut shift = floor.shift.lock(rt);
     let reply = told(pass, &mut shift.hall, attempt)?;

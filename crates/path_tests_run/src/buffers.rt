@@ -2,7 +2,7 @@
 
 use crate::own::{Case, ROOM, SLOT, end_so, ran, started, unblocked};
 use path_model::{OutOfMemory, Reply};
-use path_run::{AlwaysOpen, End};
+use path_run::End;
 use path_shelf::Cell;
 
 /// Adds a process to the text that takes the steps in each of so many rounds.
@@ -26,7 +26,7 @@ fn run_slot(rt: HostRuntime) -> Result<(), OutOfMemory> {
         room: ROOM,
         script: text.as_slice(),
     };
-    let outcome = ran(&rt, alloc, case, Cell::new(0), &AlwaysOpen);
+    let outcome = ran(&rt, alloc, case, Cell::new(0));
     assert!(&rt; end_so(outcome.ends.as_slice(), &[End::Done, End::Done]));
     assert_eq!(&rt; started(outcome.system.journal()), 200);
     assert_eq!(&rt; unblocked(outcome.system.journal()), 600);

@@ -2,7 +2,7 @@
 
 use crate::own::{Case, ROOM, SLOT, end_so, ran, started, unblocked};
 use path_model::{OpId, Reply};
-use path_run::{AlwaysOpen, End};
+use path_run::End;
 use path_shelf::{Cell, Queue};
 
 const KNOT: &[u8] = b"resource r cell operation a, b path a ; b end path b ; a end end";
@@ -18,7 +18,7 @@ fn run_knot(rt: HostRuntime) {
         room: ROOM,
         script: text,
     };
-    let outcome = ran(&rt, rt.alloc(), case, Cell::new(0), &AlwaysOpen);
+    let outcome = ran(&rt, rt.alloc(), case, Cell::new(0));
     assert!(&rt;
         end_so(
             outcome.ends.as_slice(),
@@ -37,7 +37,7 @@ fn run_gives_up_for_room(rt: HostRuntime) {
         room: 3,
         script: text,
     };
-    let outcome = ran(&rt, rt.alloc(), case, Cell::new(0), &AlwaysOpen);
+    let outcome = ran(&rt, rt.alloc(), case, Cell::new(0));
     assert!(&rt; end_so(outcome.ends.as_slice(), &[End::NoRoom]));
     let journal = outcome.system.journal();
     assert_eq!(&rt; journal.len(), 3);
@@ -57,7 +57,7 @@ fn run_gives_up_for_a_fault(rt: HostRuntime) {
         room: ROOM,
         script: text,
     };
-    let outcome = ran(&rt, alloc, case, queue, &AlwaysOpen);
+    let outcome = ran(&rt, alloc, case, queue);
     assert!(&rt; end_so(outcome.ends.as_slice(), &[End::Faulted(Reply::Empty)]));
     let journal = outcome.system.journal();
     assert_eq!(&rt; journal.len(), 3);
@@ -74,7 +74,7 @@ fn run_slot_again(rt: HostRuntime) {
             room: ROOM,
             script: text,
         };
-        let outcome = ran(&rt, rt.alloc(), case, Cell::new(0), &AlwaysOpen);
+        let outcome = ran(&rt, rt.alloc(), case, Cell::new(0));
         assert!(&rt; end_so(outcome.ends.as_slice(), &[End::Done, End::Done]));
         assert_eq!(&rt; unblocked(outcome.system.journal()), 4);
     }

@@ -2,10 +2,11 @@
 
 use path_model::{Line, Reply};
 use path_read::read;
-use path_run::{End, Outcome, RunFault, Turnstile, run};
+use path_run::{AlwaysOpen, End, Outcome, RunFault, Turnstile, run};
 use path_script::{Script, read_script};
-use path_shelf::Device;
+use path_shelf::{Cell, Device};
 use path_system::System;
+use path_workers::Steps;
 use std::alloc::Global;
 use std::process::Abort;
 use std::sync::Wait;
@@ -59,21 +60,38 @@ pub(crate) struct Case<'a> {
     pub(crate) script: &'a [u8],
 }
 
-/// The outcome of a run over this device.
-pub(crate) fn ran<D: Device + Send, T: Turnstile, R: Threads + Wait + Abort + Sync>(
-    rt: &R,
-    alloc: Global,
-    case: Case<'_>,
-    device: D,
-    turnstile: &T,
-) -> Outcome<System<D>> {
-    let system = system_of(rt, alloc, case.declaration, device, case.room);
-    let script = script_of(rt, alloc, &system, case.script);
-    match run::<System<D>, T, R>(rt, alloc, system, &script, turnstile) {
+fn outcome_of<S: Steps>(rt: &impl Abort, answer: Result<Outcome<S>, RunFault<S>>) -> Outcome<S> {
+    match answer {
         Ok(outcome) => outcome,
         Err(RunFault::OutOfMemory(_system)) => panic!(rt; "out of memory"),
         Err(RunFault::Unsettled(fault, _system)) => panic!(rt; "{fault:?}"),
     }
+}
+
+/// The outcome of a run over this device, with everyone let through.
+pub(crate) fn ran<D: Device + Send, R: Threads + Wait + Abort + Sync>(
+    rt: &R,
+    alloc: Global,
+    case: Case<'_>,
+    device: D,
+) -> Outcome<System<D>> {
+    let system = system_of(rt, alloc, case.declaration, device, case.room);
+    let script = script_of(rt, alloc, &system, case.script);
+    let answer = run::<System<D>, AlwaysOpen, R>(rt, alloc, system, &script, &AlwaysOpen);
+    outcome_of(rt, answer)
+}
+
+/// The outcome of a run over a cell, through a turnstile.
+pub(crate) fn ran_through<T: Turnstile, R: Threads + Wait + Abort + Sync>(
+    rt: &R,
+    alloc: Global,
+    case: Case<'_>,
+    turnstile: &T,
+) -> Outcome<System<Cell>> {
+    let system = system_of(rt, alloc, case.declaration, Cell::new(0), case.room);
+    let script = script_of(rt, alloc, &system, case.script);
+    let answer = run::<System<Cell>, T, R>(rt, alloc, system, &script, turnstile);
+    outcome_of(rt, answer)
 }
 
 /// How many lines aren't blocked starts.

@@ -1,9 +1,8 @@
 //! A turnstile that stops the first process before a step.
 
-use crate::own::{Case, ROOM, SLOT, end_so, ran};
+use crate::own::{Case, ROOM, SLOT, end_so, ran_through};
 use path_model::{OpId, Reply};
 use path_run::{End, Turnstile};
-use path_shelf::Cell;
 use std::sync::atomic::{AtomicU64, Ordering};
 
 const ROUNDS: &[u8] = b"process p
@@ -79,7 +78,7 @@ fn run_stops_before_each_step(rt: HostRuntime) {
             room: ROOM,
             script: ROUNDS,
         };
-        let outcome = ran(&rt, rt.alloc(), case, Cell::new(0), &turnstile);
+        let outcome = ran_through(&rt, rt.alloc(), case, &turnstile);
         assert!(&rt; end_so(outcome.ends.as_slice(), &[End::Stopped, other]));
         assert!(&rt; asked_below(&turnstile.first, stop as usize + 1));
         assert!(&rt; asked_below(&turnstile.second, asked));

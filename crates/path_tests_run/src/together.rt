@@ -1,9 +1,8 @@
 //! Processes that must run at once, and two that hold what the other wants.
 
-use crate::own::{Case, ROOM, end_so, ran, started};
+use crate::own::{Case, ROOM, end_so, ran_through, started};
 use path_model::OpId;
 use path_run::{End, Turnstile};
-use path_shelf::Cell;
 use std::sync::atomic::{AtomicU64, Ordering};
 use std::thread;
 
@@ -52,7 +51,7 @@ fn run_readers_together(rt: HostRuntime) {
         room: ROOM,
         script: text,
     };
-    let outcome = ran(&rt, rt.alloc(), case, Cell::new(0), &Meeting::new());
+    let outcome = ran_through(&rt, rt.alloc(), case, &Meeting::new());
     assert!(&rt; end_so(outcome.ends.as_slice(), &[End::Done, End::Done]));
 }
 
@@ -65,7 +64,7 @@ fn run_deadlock(rt: HostRuntime) {
         room: ROOM,
         script: text,
     };
-    let outcome = ran(&rt, rt.alloc(), case, Cell::new(0), &Meeting::new());
+    let outcome = ran_through(&rt, rt.alloc(), case, &Meeting::new());
     assert!(&rt;
         end_so(
             outcome.ends.as_slice(),
