@@ -174,11 +174,7 @@ fn asked<R: Files + Input + AllocGlobal + Threads + Wait + Sync, O: Write, E: Wr
 
 /// Does what the words of the command line ask for. Where several causes stand, the first counts: words, files,
 /// declaration, attempts, journal or script, room.
-pub fn perform<
-    R: Env + Files + Input + AllocGlobal + Threads + Wait + Sync,
-    O: Write,
-    E: Write,
->(
+pub fn perform<R: Env + Files + Input + AllocGlobal + Threads + Wait + Sync, O: Write, E: Write>(
     rt: &R,
     out: &mut O,
     err: &mut E,
