@@ -16,6 +16,10 @@ use std::thread::Threads;
 pub(crate) const SLOT: &[u8] =
     b"resource slot cell operation deposit, remove path deposit ; remove end end";
 
+/// One resource, which many read at once and one writes alone.
+pub(crate) const BOOK: &[u8] =
+    b"resource book cell operation read, write path { read } , write end end";
+
 /// As many lines as the program has room for.
 pub(crate) const ROOM: u32 = 4096;
 

@@ -1,12 +1,10 @@
 //! Processes that must run at once, and two that hold what the other wants.
 
-use crate::own::{Case, ROOM, end_so, ran_through, started};
+use crate::own::{BOOK, Case, ROOM, end_so, ran_through, started};
 use path_model::OpId;
 use path_run::{End, Turnstile};
 use std::sync::atomic::{AtomicU64, Ordering};
 use std::thread;
-
-const BOOK: &[u8] = b"resource book cell operation read, write path { read } , write end end";
 
 const PAIR: &[u8] = b"resource r cell operation a, b path a end path b end end";
 
