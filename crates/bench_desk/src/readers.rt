@@ -1,6 +1,6 @@
 //! Readers of a book at one desk, in threads of their own.
 
-ghost use Rattle.std.specs.Prelude.{◌≡◌, length};
+ghost use Rattle.std.specs.Prelude.{◌≡◌};
 
 use anyhow::{Result, anyhow};
 use path_model::{Attempt, MOST_LINES, OpId, Reply};
@@ -65,7 +65,8 @@ fn all_read<L: Opening + Send + Sync, S: Steps + Send, R: Threads + Wait + Sync>
     thread::map_vec(rt, passes, &|pass| read_rounds(rt, desk, pass, rounds))
 }
 
-fn nanos_since(rt: &impl Clock, start: Instant) -> io::Result<u64> {
+/// How many nanoseconds have passed.
+pub fn nanos_since(rt: &impl Clock, start: Instant) -> io::Result<u64> {
     Ok(u64::try_from(start.elapsed(rt)?.as_nanos()).unwrap_or(u64::MAX))
 }
 
@@ -79,7 +80,7 @@ fn measured<L: Opening + Send + Sync, S: Steps + Send, R: Threads + Wait + Clock
 ) -> Result<Times>
     requires name { blank.name ≡ L.name }
     requires parts { (blank.parts ≡ L.parts) × (blank.parts ≡ 18446744073709551615) }
-    requires before { length (S.account system).journal ≡ L.before }
+    requires opened { S.account system ≡ L.opened }
 {
     let desk = Desk::<L, S>::open(system, blank);
     let passes = passes_of(alloc, &desk, threads)?;

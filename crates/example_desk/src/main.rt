@@ -1,7 +1,7 @@
 //! Two workers serve requests at one desk, each in a thread of its own. Then their receipts are settled against the journal.
 #![tactic(auto)]
 
-ghost use Rattle.std.specs.Prelude.{◌≡◌, length};
+ghost use Rattle.std.specs.Prelude.{◌≡◌};
 
 use anyhow::{Result, anyhow};
 use path_model::{Attempt, OpId, Reply, Verb};
@@ -41,7 +41,7 @@ fn served_by_two<L: Opening + Send + Sync, S: Steps + Send, R: Threads + Wait + 
 ) -> Result<S>
     requires name { blank.name ≡ L.name }
     requires parts { (blank.parts ≡ L.parts) × (blank.parts ≡ 18446744073709551615) }
-    requires before { length (S.account system).journal ≡ L.before }
+    requires opened { S.account system ≡ L.opened }
 {
     let desk = Desk::<L, S>::open(system, blank);
     let shared = &desk;

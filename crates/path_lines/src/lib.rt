@@ -6,5 +6,5 @@ mod lines;
 mod texts;
 
 pub use entry::{FirstLine, LineFault, declared, first_entry, read_verb};
-pub use lines::{push_line, push_reply, push_told, write_line};
+pub use lines::{push_line, push_operation, push_reply, push_told, write_line};
 pub use texts::{LIMIT, TextFault, fault_at, read_attempts};

@@ -23,8 +23,9 @@ fn push_verb<A: Allocator + Copy>(out: &mut String<A>, verb: Verb) -> Result<(),
     Ok(())
 }
 
-/// The name of a declared operation, `#` and the number of any other.
-fn push_operation<A: Allocator + Copy, B: Allocator + Copy>(
+/// Appends the name of an operation; of one that isn't declared, `#` and its number. If memory runs out, a front of that may have
+/// been appended. Grows the text only if its capacity is too small.
+pub fn push_operation<A: Allocator + Copy, B: Allocator + Copy>(
     out: &mut String<A>,
     decl: &Decl<B>,
     op: OpId,

@@ -1,26 +1,21 @@
 //! How each process of a run ended, in words.
 
-ghost use Rattle.std.specs.Prelude.{◌≡◌};
+ghost use Rattle.std.specs.Prelude.{◌≡◌, ◌++◌, ◌↔◌, length, OnOk, IfOk, IsTrue};
+ghost use Rattle.std.specs.String.{string_bytes};
+ghost use Rattle.path_processes.specs.Ends as ended;
 
-use path_decl::{Decl, op_name};
-use path_lines::push_reply;
-use path_model::{OpId, OutOfMemory};
+use path_decl::Decl;
+use path_lines::{push_operation, push_reply};
+use path_model::OutOfMemory;
 use path_run::End;
 use path_script::Process;
 use path_streams::Status;
 use std::alloc::Global;
 
-/// Appends the name of an operation; of one that isn't declared, `#` and its number.
-fn push_operation(text: &mut String, decl: &Decl, op: OpId) -> Result<(), OutOfMemory> {
-    match op_name(decl, op) {
-        Some(name) => text.push_str(name)?,
-        None => write!(text, "#{}", op.0)?,
-    }
-    Ok(())
-}
-
 /// Appends how a process ended.
-fn push_end(text: &mut String, decl: &Decl, end: End) -> Result<(), OutOfMemory> {
+fn push_end(text: &mut String, decl: &Decl, end: End) -> Result<(), OutOfMemory>
+    ensures { OnOk result (string_bytes text.new ≡ string_bytes text.old ++ ended.end_text decl.now.declaration end) }
+{
     match end {
         End::Done => text.push_str("done")?,
         End::Stalled(op) => {
@@ -39,31 +34,57 @@ fn push_end(text: &mut String, decl: &Decl, end: End) -> Result<(), OutOfMemory>
     Ok(())
 }
 
-/// A line for each process, in order: its name, `: ` and how it ended. The only error is want of memory.
+/// Appends the line of a process: its name, `: `, and how it ended.
+fn push_line_of(text: &mut String, decl: &Decl, name: &str, end: End) -> Result<(), OutOfMemory>
+    ensures { OnOk result (string_bytes text.new ≡ string_bytes text.old ++ ended.end_line decl.now.declaration name.now end) }
+{
+    text.push_str(name)?;
+    text.push_str(": ")?;
+    push_end(text, decl, end)?;
+    text.push_str("\n")?;
+    Ok(())
+}
+
+/// A line for each process, in order: its name, `: `, and how it ended. There is an end for each process. Fails only if allocation
+/// fails.
 pub fn ends_text(
     alloc: Global,
     decl: &Decl,
     processes: &[Process],
     ends: &[End],
-) -> Result<String, OutOfMemory> {
+) -> Result<String, OutOfMemory>
+    requires { length ends.now ≡ length processes.now }
+    ensures { IfOk result (λ text. string_bytes text ≡ ended.ends_text decl.now.declaration processes.now ends.now) }
+{
     let mut text = String::new(alloc);
-    for (process, end) in processes.iter().zip(ends) {
-        text.push_str(process.name())?;
-        text.push_str(": ")?;
-        push_end(&mut text, decl, *end)?;
-        text.push_str("\n")?;
+    for (number, process) in processes.iter().enumerate() {
+        push_line_of(&mut text, decl, process.name(), ends[number])?;
     }
     Ok(text)
 }
 
-/// The status of a run that ended so: `Done` where all processes are done, `NoMemory` where one of them wanted memory, and else
+fn are_done(ends: &[End]) -> bool
+    ensures { IsTrue result ↔ ended.AllDone ends.now }
+{
+    ends.iter().all(|end| matches!(end, End::Done))
+}
+
+fn had_memory(ends: &[End]) -> bool
+    ensures { IsTrue result ↔ ended.NoneLackedMemory ends.now }
+{
+    ends.iter().all(|end| !matches!(end, End::NoMemory))
+}
+
+/// The status of a run that ended so: `Done` if all processes are done, `NoMemory` if memory ran out for one of them, else
 /// `Unsound`.
-pub fn status_of_ends(ends: &[End]) -> Status {
-    if ends.iter().all(|end| matches!(end, End::Done)) {
+pub fn status_of_ends(ends: &[End]) -> Status
+    ensures { ended.IsStatusOf ends.now result }
+{
+    if are_done(ends) {
         Status::Done
-    } else if ends.iter().any(|end| matches!(end, End::NoMemory)) {
-        Status::NoMemory
-    } else {
+    } else if had_memory(ends) {
         Status::Unsound
+    } else {
+        Status::NoMemory
     }
 }

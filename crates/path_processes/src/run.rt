@@ -1,7 +1,17 @@
 //! Runs, from bytes to bytes.
 
-ghost use Rattle.std.specs.Prelude.{◌≡◌, ◌≤◌};
-ghost use Rattle.path_journal.specs.JournalTexts.{IsRoom};
+ghost use Rattle.std.specs.Prelude.{◌≡◌, ◌≢◌, ◌⊎◌, ◌++◌, Some, length, map, OnOk, IfOk, IfErr};
+ghost use Rattle.std.specs.String.{string_bytes};
+ghost use Rattle.std.specs.Io.KnownBytes.{Appends, Keeps};
+ghost use Rattle.path_journal.specs.JournalTexts.{IsRoom, lines_text};
+ghost use Rattle.path_journal.specs.JournalTexts as texts;
+ghost use Rattle.path_streams.specs.Refusals.{IsNoDeclaration};
+ghost use Rattle.path_streams.specs.Statuses.{status_of};
+ghost use Rattle.path_streams.specs.Writes.{AppendsSome, IsFrontOf};
+ghost use Rattle.path_system.specs.Faults.{IsBadRoom};
+ghost use Rattle.path_trace.specs.Traces.{IsUnopened};
+ghost use Rattle.path_processes.specs.Ends.{AllDone, AnyEnds, NotAllDone, IsStatusOf};
+ghost use Rattle.path_processes.specs.RunTexts.{IsBadScript, IsBadScriptUnder, IsRunOf, IsRunOfTexts, IsRunText, IsUnrun};
 
 use crate::ends::{ends_text, status_of_ends};
 use path_decl::Decl;
@@ -20,7 +30,18 @@ use std::io::Write;
 use std::sync::Wait;
 use std::thread::Threads;
 
-/// The text of a journal of this room, in version 2. The only error is want of memory.
+/// Appends lines of a journal, each with a line feed.
+fn push_lines(text: &mut String, decl: &Decl, lines: &[Line]) -> Result<(), OutOfMemory>
+    ensures { OnOk result (string_bytes text.new ≡ string_bytes text.old ++ lines_text decl.now.declaration lines.now) }
+{
+    for line in lines {
+        push_line(text, decl, line)?;
+        text.push_str("\n")?;
+    }
+    Ok(())
+}
+
+/// The text of a journal with room for that many lines, in version 2. Fails only if allocation fails.
 fn journal_text(
     alloc: Global,
     decl: &Decl,
@@ -28,14 +49,49 @@ fn journal_text(
     lines: &[Line],
 ) -> Result<String, OutOfMemory>
     requires { IsRoom room }
+    ensures { IfOk result (λ text. string_bytes text ≡ texts.journal_text decl.now.declaration (Some room) lines.now) }
 {
     let mut text = write_head(alloc, room)?;
     text.push_str("\n")?;
-    for line in lines {
-        push_line(&mut text, decl, line)?;
-        text.push_str("\n")?;
-    }
+    push_lines(&mut text, decl, lines)?;
     Ok(text)
+}
+
+/// Opens a system over the devices, and runs the processes of a script under it.
+fn ran<D: Device + Send, R: Threads + Wait + Sync>(
+    rt: &R,
+    alloc: Global,
+    decl: Decl,
+    devices: Vec<D>,
+    room: u32,
+    script: &Script,
+) -> Result<Outcome<System<D>>, Fault<'static>>
+    ensures room { OnOk result (IsRoom room) }
+    ensures declaration { IfOk result (λ o. o.system.declaration ≡ decl.declaration) }
+    ensures run { IfOk result (λ o. IsRunOf decl.declaration (map D.state devices.items) room script.now.processes
+        o.system.journal o.ends.items) }
+    ensures err { IfErr result (λ fault. IsUnrun decl.declaration (map D.state devices.items) room (status_of fault)) }
+{
+    let system = match System::open(alloc, decl, devices, room) {
+        Ok(system) => system,
+        Err((fault, _devices)) => return Err(Fault::Open(fault)),
+    };
+    match run(rt, alloc, system, script, &AlwaysOpen) {
+        Ok(outcome) => Ok(outcome),
+        Err(RunFault::OutOfMemory(_system)) => Err(Fault::OutOfMemory),
+        Err(RunFault::Unsettled(_fault, _system)) => Err(Fault::Unsettled),
+    }
+}
+
+/// Writes how each process ended, which is this text.
+fn tell_ends<E: Write>(text: &[u8], ends: &[End], err: &mut E) -> Status
+    ensures told { result ≢ Status.StreamFailed → Appends (E.contents err.old) (E.contents err.new) text.now }
+    ensures status { IsStatusOf ends.now result ⊎ (result ≡ Status.StreamFailed) }
+{
+    match err.write_all(text) {
+        Ok(()) => status_of_ends(ends),
+        Err(_) => Status::StreamFailed,
+    }
 }
 
 /// Writes the journal of a run on `out`, and how each process ended on `err`.
@@ -47,7 +103,15 @@ fn tell_outcome<D: Device, O: Write, E: Write>(
     out: &mut O,
     err: &mut E,
 ) -> Status
-    requires { IsRoom room }
+    requires room { IsRoom room }
+    requires ends { length outcome.now.ends.items ≡ length script.now.processes }
+    ensures done { result ≡ Status.Done → AllDone outcome.now.ends.items × Appends (O.contents out.old) (O.contents out.new)
+        (texts.journal_text outcome.now.system.declaration (Some room) outcome.now.system.journal) }
+    ensures unsound { result ≡ Status.Unsound → NotAllDone outcome.now.ends.items × Appends (O.contents out.old) (O.contents out.new)
+        (texts.journal_text outcome.now.system.declaration (Some room) outcome.now.system.journal) }
+    ensures memory { result ≡ Status.NoMemory → AppendsSome (O.contents out.old) (O.contents out.new)
+        (IsFrontOf (λ all. all ≡ texts.journal_text outcome.now.system.declaration (Some room) outcome.now.system.journal)) }
+    ensures statuses { (result ≡ Status.Done) ⊎ (result ≡ Status.Unsound) ⊎ (result ≡ Status.StreamFailed) ⊎ (result ≡ Status.NoMemory) }
 {
     let decl = outcome.system.decl();
     let Ok(journal) = journal_text(alloc, decl, room, outcome.system.journal()) else {
@@ -62,32 +126,15 @@ fn tell_outcome<D: Device, O: Write, E: Write>(
     }
 }
 
-/// Writes how each process ended.
-fn tell_ends<E: Write>(text: &[u8], ends: &[End], err: &mut E) -> Status {
-    match err.write_all(text) {
-        Ok(()) => status_of_ends(ends),
-        Err(_) => Status::StreamFailed,
-    }
-}
-
-/// Runs the processes of a script under a system.
-fn ran<D: Device + Send, R: Threads + Wait + Sync>(
-    rt: &R,
-    alloc: Global,
-    system: System<D>,
-    script: &Script,
-) -> Result<Outcome<System<D>>, RunFault<System<D>>> {
-    run(rt, alloc, system, script, &AlwaysOpen)
-}
-
-/// Runs the processes of a script under a declaration and its devices, one thread for each process, and writes the journal of the
-/// run as a text of version 2, and on `err` a line for each process: its name, `: `, and how it ended. The journal has room for so
-/// many lines, 1 to [`MOST_LINES`](path_model::MOST_LINES).
+/// Runs the processes of a script under a declaration and its devices, a thread for each process. Writes the journal of the run on
+/// `out`, as a text of version 2, and on `err` a line for each process: its name, `: `, and how it ended. The journal has room for
+/// `room` lines, 1 to [`MOST_LINES`](path_model::MOST_LINES).
 ///
-/// `Done`: all processes are done. `Unsound`: some aren't. `TextRefused`: the script is refused; `CommandRefused`: the room or the
-/// devices are, as [`System::open`](path_system::System::open) says. At these two no process ran and nothing was written.
-/// `StreamFailed`: a writer failed. `NoMemory`: memory was wanting for the run, for a process of it or for the text; then a front of
-/// the text was written. A fault is one line on `err`.
+/// `Done`: all processes are done. `Unsound`: some aren't; or the journal didn't match what the processes did, which no process
+/// causes, and nothing was written. `TextRefused`: the script is refused. `CommandRefused`: the room or the devices are, as
+/// [`System::open`](path_system::System::open) says. In these two cases no process ran and nothing was written. `StreamFailed`: a
+/// writer failed. `NoMemory`: memory ran out for the run, for one of its processes or for the text, and a front of the text was
+/// written. A fault is one line on `err`.
 ///
 /// It waits for the processes, which wait for one another; nothing says that they end.
 pub fn run_to<D: Device + Send, R: Threads + Wait + Sync, O: Write, E: Write>(
@@ -99,19 +146,32 @@ pub fn run_to<D: Device + Send, R: Threads + Wait + Sync, O: Write, E: Write>(
     script: &[u8],
     out: &mut O,
     err: &mut E,
-) -> Status {
+) -> Status
+    // All processes are done, and the journal of their run was written.
+    ensures done { result ≡ Status.Done → AppendsSome (O.contents out.old) (O.contents out.new)
+        (IsRunText decl.declaration (map D.state devices.items) room script.now AllDone) }
+    // Nothing was written, or the journal of a run after which some process isn't done.
+    ensures unsound { result ≡ Status.Unsound → Keeps (O.contents out.old) (O.contents out.new)
+        ⊎ AppendsSome (O.contents out.old) (O.contents out.new)
+        (IsRunText decl.declaration (map D.state devices.items) room script.now NotAllDone) }
+    // The script is too long or isn't one, and nothing was written.
+    ensures refused { result ≡ Status.TextRefused
+        → Keeps (O.contents out.old) (O.contents out.new) × IsBadScript decl.declaration script.now }
+    // No system is opened so, and nothing was written.
+    ensures unopened { result ≡ Status.CommandRefused
+        → Keeps (O.contents out.old) (O.contents out.new) × IsUnopened decl.declaration (map D.state devices.items) room }
+    // Only a front of the journal of a run was written.
+    ensures memory { result ≡ Status.NoMemory → AppendsSome (O.contents out.old) (O.contents out.new)
+        (IsFrontOf (IsRunText decl.declaration (map D.state devices.items) room script.now AnyEnds)) }
+    ensures statuses { result ≢ Status.DeclarationRefused }
+{
     let script = match read_script(alloc, &decl, script) {
         Ok(script) => script,
         Err(fault) => return tell(err, Fault::Script(fault)),
     };
-    let system = match System::open(alloc, decl, devices, room) {
-        Ok(system) => system,
-        Err((fault, _devices)) => return tell(err, Fault::Open(fault)),
-    };
-    match ran(rt, alloc, system, &script) {
+    match ran(rt, alloc, decl, devices, room, &script) {
         Ok(outcome) => tell_outcome(alloc, room, &script, &outcome, out, err),
-        Err(RunFault::OutOfMemory(_system)) => tell(err, Fault::OutOfMemory),
-        Err(RunFault::Unsettled(_fault, _system)) => tell(err, Fault::Unsettled),
+        Err(fault) => tell(err, fault),
     }
 }
 
@@ -128,7 +188,25 @@ pub fn run_bytes<R: Threads + Wait + Sync, O: Write, E: Write>(
     script: &[u8],
     out: &mut O,
     err: &mut E,
-) -> Status {
+) -> Status
+    // All processes are done, and the journal of their run was written.
+    ensures done { result ≡ Status.Done → AppendsSome (O.contents out.old) (O.contents out.new)
+        (IsRunOfTexts declaration.now room script.now AllDone) }
+    // Nothing was written, or the journal of a run after which some process isn't done.
+    ensures unsound { result ≡ Status.Unsound → Keeps (O.contents out.old) (O.contents out.new)
+        ⊎ AppendsSome (O.contents out.old) (O.contents out.new) (IsRunOfTexts declaration.now room script.now NotAllDone) }
+    // The text is no declaration, and nothing was written.
+    ensures undeclared { result ≡ Status.DeclarationRefused
+        → Keeps (O.contents out.old) (O.contents out.new) × IsNoDeclaration declaration.now }
+    // The script is too long or isn't one, and nothing was written.
+    ensures refused { result ≡ Status.TextRefused
+        → Keeps (O.contents out.old) (O.contents out.new) × IsBadScriptUnder declaration.now script.now }
+    // No system has the room, and nothing was written.
+    ensures bad_room { result ≡ Status.CommandRefused → Keeps (O.contents out.old) (O.contents out.new) × IsBadRoom room }
+    // Only a front of the journal of a run was written.
+    ensures memory { result ≡ Status.NoMemory → AppendsSome (O.contents out.old) (O.contents out.new)
+        (IsFrontOf (IsRunOfTexts declaration.now room script.now AnyEnds)) }
+{
     let decl = match read(alloc, declaration) {
         Ok(decl) => decl,
         Err(fault) => return tell(err, Fault::Declaration(fault)),

@@ -1,12 +1,13 @@
 //! Runs.
 
-ghost use Rattle.std.specs.Prelude.{◌≡◌, ℕ, ◌<◌, ◌≤◌, length, vec_len, vec_capacity, slice_index_or, IfOk, IfErr};
+ghost use Rattle.std.specs.Prelude.{◌≡◌, ◌≢◌, ℕ, ◌<◌, ◌≤◌, length, vec_len, vec_capacity, slice_index_or, IfOk, IfErr};
 ghost use Rattle.path_model.specs.Declarations.{paths_of};
 ghost use Rattle.path_model.specs.Honest.{IsHonest};
 ghost use Rattle.path_model.specs.Legal.{Every};
 ghost use Rattle.path_model.specs.Trees.{WellFormed};
 ghost use Rattle.path_script.specs.Scripts.{LawfulScript};
 ghost use Rattle.path_workers.specs.declared.settle.SettleFault.{SettleFault as Fault};
+ghost use Rattle.path_workers.specs.Later.{IsLater};
 ghost use Rattle.path_workers.specs.Settled.{IsSettled};
 ghost use Rattle.path_run.specs.declared.outcome.RunFault.TheVariants as faults;
 ghost use Rattle.path_run.specs.Runs.{EachRuns};
@@ -59,16 +60,19 @@ fn outcome<L: Opening, S: Steps>(
     slips: Vec<Slip>,
     ends: Vec<End>,
 ) -> Result<Outcome<S>, RunFault<S>>
-    requires before { before ≡ L.before }
+    requires before { before ≡ length L.opened.journal }
     requires places { (vec_len slips ≡ 0) × (vec_len passes ≤ vec_capacity slips) }
     requires ends { vec_len ends ≡ vec_len passes }
     ensures ends { IfOk result (λ o. (o.ends.items ≡ ends.items) × (vec_len o.ends ≡ vec_len ends)) }
+    ensures later { IfOk result (λ o. IsLater L.opened (S.account o.system)) }
     ensures passes { IfOk result (λ o. (o.passes.items ≡ passes.items) × (vec_len o.passes ≡ vec_len passes)) }
     ensures settled { IfOk result (λ o. IsSettled before (S.account o.system).journal o.passes.items) }
     ensures orderly { IfOk result (λ o. EachIsOrderly (S.account o.system).journal o.passes.items o.ends.items) }
     ensures honest { IfOk result (λ o. IsHonest (S.account o.system).declaration (S.account o.system).room (S.account o.system).openings
         (S.account o.system).journal) }
     ensures well_formed { IfOk result (λ o. Every WellFormed (paths_of (S.account o.system).declaration)) }
+    ensures memory { IfErr result (λ e. (left : _) → e ≢ faults.OutOfMemory left) }
+    ensures left { IfErr result (λ e. (fault : Fault) (left : _) → e ≡ faults.Unsettled fault left → IsLater L.opened (S.account left)) }
     ensures unsettled { IfErr result (λ e. (fault : Fault) (left : _) → e ≡ faults.Unsettled fault left
         → IsUnsettled before (S.account left).journal passes.items ends.items fault) }
 {
@@ -99,13 +103,19 @@ fn run_at<L: Opening + Send + Sync, S: Steps + Send, T: Turnstile, R: Threads + 
 ) -> Result<Outcome<S>, RunFault<S>>
     requires name { blank.name ≡ L.name }
     requires parts { (blank.parts ≡ L.parts) × (blank.parts ≡ 18446744073709551615) }
-    requires before { length (S.account system).journal ≡ L.before }
+    requires opened { S.account system ≡ L.opened }
     requires lawful { LawfulScript processes.now }
     ensures len { IfOk result (λ o. (vec_len o.passes ≡ length processes.now) × (vec_len o.ends ≡ length processes.now)) }
     ensures settled { IfOk result (λ o. IsSettled (length (S.account system).journal) (S.account o.system).journal o.passes.items) }
     ensures runs { IfOk result (λ o. EachRuns processes.now o.passes.items o.ends.items) }
     ensures orderly { IfOk result (λ o. EachIsOrderly (S.account o.system).journal o.passes.items o.ends.items) }
     ensures blocked { IfOk result (λ o. EachIsBlockedNow (S.account o.system).declaration (S.account o.system).journal o.ends.items) }
+    ensures honest { IfOk result (λ o. IsHonest (S.account o.system).declaration (S.account o.system).room (S.account o.system).openings
+        (S.account o.system).journal) }
+    ensures later { IfOk result (λ o. IsLater (S.account system) (S.account o.system)) }
+    ensures memory { IfErr result (λ e. (left : _) → e ≡ faults.OutOfMemory left → IsLater (S.account system) (S.account left)) }
+    ensures left { IfErr result (λ e. (fault : Fault) (left : _) → e ≡ faults.Unsettled fault left
+        → IsLater (S.account system) (S.account left)) }
     ensures unsettled { IfErr result (λ e. (fault : Fault) (left : _) → e ≡ faults.Unsettled fault left
         → IsUnsettledRun processes.now (length (S.account system).journal) (S.account left).journal fault) }
 {
@@ -144,9 +154,10 @@ fn run_at<L: Opening + Send + Sync, S: Steps + Send, T: Turnstile, R: Threads + 
 /// The outcome has one pass and one end for each process, in order. Each line that was written is one receipt of one pass; the
 /// receipts of a pass are those of its script, up to its end; and what a process stalled at is blocked in the system that is left.
 ///
-/// `OutOfMemory` where a growth of memory was refused before any process began; the system comes back. `Unsettled` where the journal
-/// isn't what the processes were told, which no process of a run causes: at the first place where the desk isn't settled, or where
-/// the receipts of a process don't rise, are blocked again with no finish between, or where one stalled before a later finish.
+/// `OutOfMemory`: memory ran out before any process began, and the system comes back. `Unsettled`: the journal doesn't
+/// match what the processes were answered, which no process of a run causes. It names the first place where the desk isn't settled,
+/// where the receipts of a process don't rise or are blocked again with no finish between, or where one stalled before a later
+/// finish.
 ///
 /// It waits for all processes. Beside their steps it takes a walk through the lines for each process, and a settlement.
 pub fn run<S: Steps + Send, T: Turnstile, R: Threads + Wait + Sync>(
@@ -162,6 +173,13 @@ pub fn run<S: Steps + Send, T: Turnstile, R: Threads + Wait + Sync>(
     ensures runs { IfOk result (λ o. EachRuns script.now.processes o.passes.items o.ends.items) }
     ensures orderly { IfOk result (λ o. EachIsOrderly (S.account o.system).journal o.passes.items o.ends.items) }
     ensures blocked { IfOk result (λ o. EachIsBlockedNow (S.account o.system).declaration (S.account o.system).journal o.ends.items) }
+    ensures honest { IfOk result (λ o. IsHonest (S.account o.system).declaration (S.account o.system).room (S.account o.system).openings
+        (S.account o.system).journal) }
+    // The system that comes back is the one that was handed in, with the lines of the run behind those that it had.
+    ensures later { IfOk result (λ o. IsLater (S.account system) (S.account o.system)) }
+    ensures memory { IfErr result (λ e. (left : _) → e ≡ faults.OutOfMemory left → IsLater (S.account system) (S.account left)) }
+    ensures left { IfErr result (λ e. (fault : Fault) (left : _) → e ≡ faults.Unsettled fault left
+        → IsLater (S.account system) (S.account left)) }
     ensures unsettled { IfErr result (λ e. (fault : Fault) (left : _) → e ≡ faults.Unsettled fault left
         → IsUnsettledRun script.now.processes (length (S.account system).journal) (S.account left).journal fault) }
 {

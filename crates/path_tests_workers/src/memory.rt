@@ -1,6 +1,6 @@
 //! Each request for memory refused in turn.
 
-ghost use Rattle.std.specs.Prelude.{◌≡◌, length};
+ghost use Rattle.std.specs.Prelude.{◌≡◌};
 
 use crate::own::{FIRST, ROOM, SECOND, SLOT, system_of};
 use path_model::{ActId, Attempt, OutOfMemory, Reply, Verb};
@@ -72,7 +72,7 @@ fn lines<L: Opening, A: Allocator + Copy, R: Wait + Abort>(
 ) -> Result<usize, OutOfMemory>
     requires name { blank.name ≡ L.name }
     requires parts { (blank.parts ≡ L.parts) × (blank.parts ≡ 18446744073709551615) }
-    requires before { length system.journal ≡ L.before }
+    requires opened { system ≡ L.opened }
 {
     let mut passes = Vec::with_capacity(alloc, 1)?;
     let desk = Desk::<L, System<Cell>>::open(system, blank);

@@ -1,6 +1,6 @@
 //! Desks that are settled, and those that aren't.
 
-ghost use Rattle.std.specs.Prelude.{◌≡◌, length};
+ghost use Rattle.std.specs.Prelude.{◌≡◌};
 
 use crate::own::{FIRST, ROOM, Row, SECOND, SLOT, makes, makes_all, system_of};
 use path_model::{ActId, Attempt, OutOfMemory, PathId, Reply, Verb};
@@ -103,7 +103,7 @@ fn exchanged<L: Opening, R: Wait + Abort>(
 ) -> Result<Outcome, OutOfMemory>
     requires name { blank.name ≡ L.name }
     requires parts { (blank.parts ≡ L.parts) × (blank.parts ≡ 18446744073709551615) }
-    requires before { length system.journal ≡ L.before }
+    requires opened { system ≡ L.opened }
 {
     let desk = Desk::<L, System<Cell>>::open(system, blank);
     let mut one = desk.pass(alloc, 1);
@@ -160,7 +160,7 @@ fn crossed<L: Opening, M: Opening, R: Wait + Abort>(
     requires name { (blank_here.name ≡ L.name) × (blank_there.name ≡ M.name) }
     requires parts { (blank_here.parts ≡ L.parts) × (blank_here.parts ≡ 18446744073709551615) }
     requires parts_there { (blank_there.parts ≡ M.parts) × (blank_there.parts ≡ 18446744073709551615) }
-    requires before { (length here.journal ≡ L.before) × (length there.journal ≡ M.before) }
+    requires opened { (here ≡ L.opened) × (there ≡ M.opened) }
 {
     let desk = Desk::<L, System<Cell>>::open(here, blank_here);
     let other = Desk::<M, System<Cell>>::open(there, blank_there);
@@ -207,7 +207,7 @@ fn alone<L: Opening, R: Wait + Abort>(
 ) -> Result<Outcome, OutOfMemory>
     requires name { blank.name ≡ L.name }
     requires parts { (blank.parts ≡ L.parts) × (blank.parts ≡ 18446744073709551615) }
-    requires before { length system.journal ≡ L.before }
+    requires opened { system ≡ L.opened }
 {
     let desk = Desk::<L, System<Cell>>::open(system, blank);
     let mut pass = desk.pass(alloc, 1);

@@ -1,6 +1,6 @@
 //! Threads at one desk.
 
-ghost use Rattle.std.specs.Prelude.{◌≡◌, length};
+ghost use Rattle.std.specs.Prelude.{◌≡◌};
 
 use crate::own::{FIRST, ROOM, SECOND, system_of};
 use path_model::{Attempt, OpId, OutOfMemory, Reply, Verb};
@@ -98,7 +98,7 @@ fn settled<L: Opening + Send + Sync, S: Steps + Send, R: Threads + Wait + Abort 
 ) -> Result<S, OutOfMemory>
     requires name { blank.name ≡ L.name }
     requires parts { (blank.parts ≡ L.parts) × (blank.parts ≡ 18446744073709551615) }
-    requires before { length (S.account system).journal ≡ L.before }
+    requires opened { S.account system ≡ L.opened }
 {
     let desk = Desk::<L, S>::open(system, blank);
     let passes = passes_of(alloc, &desk, plan.workers)?;

@@ -3,3 +3,4 @@ pub mod TraceLemmas
 pub mod FailLemmas
 pub mod OwnLemmas
 pub mod ReportLemmas
+pub mod CallerLemmas

@@ -7,8 +7,10 @@ use Rattle.path_model.specs.declared.journal.Attempt.TheVariants.{Start}
 use Rattle.path_model.specs.declared.journal.Reply.{Reply}
 use Rattle.path_model.specs.declared.journal.Reply.TheVariants.{Started}
 use Rattle.path_model.specs.declared.journal.Line.{Line}
+use Rattle.path_system.specs.Accounts.{Account}
 use Rattle.path_workers.specs.declared.answer.Receipt.{Receipt}
 use Rattle.path_workers.specs.Attempts.{Held, starts, finishes, has_finish}
+use Rattle.path_workers.specs.Later.{IsLater}
 use Rattle.path_workers.specs.Settled.{copies}
 
 -- a number of something that may not be there yet
@@ -22,6 +24,11 @@ pub record IsCounted (b : ℕ) (journal : List Line) (count total parts amount :
   pub booked : total ≡ count
   pub parted : parts + count ≡ 18446744073709551615
   pub unclaimed : amount ≡ 0
+
+-- what lies under the lock of a desk that was opened so
+pub record IsHallOf (opened account : Account) (count total parts amount : ℕ) : Type 0 where
+  pub later : IsLater opened account
+  pub counted : IsCounted (length opened.journal) account.journal count total parts amount
 
 -- starts that have no later finish
 abbrev pub opens : Reply → List Receipt → ℕ

@@ -1,4 +1,5 @@
 pub mod Attempts
+pub mod Later
 pub mod Settled
 pub mod Faults
 pub mod Holdings

@@ -1,6 +1,7 @@
 //! The settlement of a desk by the passes that were made at it.
 
-ghost use Rattle.std.specs.Prelude.{◌≡◌, ◌≤◌, vec_len, vec_capacity, IfOk, IfErr};
+ghost use Rattle.std.specs.Prelude.{◌≡◌, ◌≤◌, length, vec_len, vec_capacity, IfOk, IfErr, MatchResult};
+ghost use Rattle.path_workers.specs.Later.{IsLater};
 ghost use Rattle.path_workers.specs.Settled.{receipts_of, IsSettled};
 ghost use Rattle.path_workers.specs.Faults.{IsFault, FewReceipts};
 
@@ -42,9 +43,10 @@ pub fn settle_own<L: Opening, S: Steps, A: Allocator + Copy>(
     mut passes: Vec<Pass<L, A>, A>,
     slips: Vec<Slip<A>, A>,
 ) -> Result<(S, Vec<Slip<A>, A>), (SettleFault, S)>
-    requires before { before ≡ L.before }
+    requires before { before ≡ length L.opened.journal }
     requires places { (vec_len slips ≡ 0) × (vec_len passes ≤ vec_capacity slips) }
     ensures slips { IfOk result (λ s. (s.1.items ≡ passes.items) × (vec_len s.1 ≡ vec_len passes)) }
+    ensures system { MatchResult result (λ s. IsLater L.opened (S.account s.0)) (λ e. IsLater L.opened (S.account e.1)) }
     ensures settled { IfOk result (λ s. IsSettled before (S.account s.0).journal passes.items) }
     ensures fault { IfErr result (λ e. IsFault before (S.account e.1).journal passes.items e.0) }
     ensures few { IfErr result (λ e. FewReceipts e.0) }

@@ -1,8 +1,9 @@
 //! One system for several threads, under one lock.
 
-ghost use Rattle.std.specs.Prelude.{◌≡◌, ◌↔◌, ◌≤◌, [], true, None, length, IsOk, IfOk, IfErr, IfSome, OnErr};
+ghost use Rattle.std.specs.Prelude.{◌≡◌, ◌↔◌, ◌≤◌, [], true, None, length, IsOk, IfOk, IfErr, IfSome, OnErr, MatchResult};
 ghost use Rattle.path_model.specs.declared.journal.Reply.TheVariants as replies;
 ghost use Rattle.path_workers.specs.Attempts.{receipts_then, finishes_open};
+ghost use Rattle.path_workers.specs.Later.{IsLater};
 ghost use Rattle.path_workers.specs.Settled.{IsSettled};
 ghost use Rattle.path_workers.specs.Faults.{IsFault};
 
@@ -30,13 +31,13 @@ pub struct Desk<L: Opening, S: Steps> {
 }
 
 impl<L: Opening, S: Steps> Model for Desk<L, S> {
-    ghost use Rattle.std.specs.Prelude.{◌≡◌, ℕ};
+    ghost use Rattle.std.specs.Prelude.{◌≡◌, ℕ, length};
 
     ghost Value = { ℕ };
 
     ghost view = { λ d. d.before };
 
-    ghost invariant = { λ d. d.before ≡ L.before };
+    ghost invariant = { λ d. d.before ≡ length L.opened.journal };
 }
 
 impl<L: Opening, S: Steps> Desk<L, S> {
@@ -46,7 +47,7 @@ impl<L: Opening, S: Steps> Desk<L, S> {
     pub fn open(system: S, blank: Blank) -> Desk<L, S>
         requires name { blank.name ≡ L.name }
         requires parts { (blank.parts ≡ L.parts) × (blank.parts ≡ 18446744073709551615) }
-        requires before { length (S.account system).journal ≡ L.before }
+        requires opened { S.account system ≡ L.opened }
         ensures { result ≡ length (S.account system).journal }
     {
         let before = system.journal().len() as u64;
@@ -104,6 +105,7 @@ impl<L: Opening, S: Steps> Desk<L, S> {
         passes: Vec<Pass<M, A>, A>,
     ) -> Result<Settled<M, S, A>, (SettleFault, S)>
         ensures passes { IfOk result (λ s. s.passes.items ≡ passes.items) }
+        ensures system { MatchResult result (λ s. IsLater L.opened (S.account s.system)) (λ e. IsLater L.opened (S.account e.1)) }
         ensures settled { IfOk result (λ s. IsSettled self (S.account s.system).journal passes.items) }
         ensures fault { IfErr result (λ e. IsFault self (S.account e.1).journal passes.items e.0) }
     {

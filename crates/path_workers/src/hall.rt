@@ -4,6 +4,7 @@ ghost use Rattle.std.specs.Prelude.{◌≡◌, ◌+◌, ◌<◌, ◌≤◌, ◌^
 ghost use Rattle.path_model.specs.Journals.{with_line};
 ghost use Rattle.path_model.specs.Owed.{Owed};
 ghost use Rattle.path_workers.specs.Attempts.{lines_of, place_of, receipts_then};
+ghost use Rattle.path_workers.specs.Later.{IsLater};
 
 use crate::answer::{Answer, Receipt};
 use crate::opening::Opening;
@@ -27,7 +28,7 @@ impl<L: Opening, S: Steps> Model for Hall<L, S> {
     ghost use Rattle.std.specs.Coded.{codes};
     ghost use Rattle.path_decl.specs.Stored.{declaration_code};
     ghost use Rattle.path_system.specs.Accounts.{Account};
-    ghost use Rattle.path_workers.specs.Holdings.{IsCounted};
+    ghost use Rattle.path_workers.specs.Holdings.{IsHallOf};
 
     ghost Value = { Account };
 
@@ -35,7 +36,7 @@ impl<L: Opening, S: Steps> Model for Hall<L, S> {
 
     ghost view = { λ h. S.account h.system };
 
-    ghost invariant = { λ h. IsCounted L.before (S.account h.system).journal h.count h.book.total h.rest.parts h.rest.amount };
+    ghost invariant = { λ h. IsHallOf L.opened (S.account h.system) h.count h.book.total h.rest.parts h.rest.amount };
 }
 
 impl<L: Opening, S: Steps> Hall<L, S> {
@@ -43,7 +44,7 @@ impl<L: Opening, S: Steps> Hall<L, S> {
     pub fn open(system: S, blank: Blank) -> Hall<L, S>
         requires name { blank.name ≡ L.name }
         requires parts { (blank.parts ≡ L.parts) × (blank.parts ≡ 18446744073709551615) }
-        requires before { length (S.account system).journal ≡ L.before }
+        requires opened { S.account system ≡ L.opened }
         ensures { result ≡ S.account system }
     {
         let (book, rest) = blank.open::<L>();
@@ -57,7 +58,8 @@ impl<L: Opening, S: Steps> Hall<L, S> {
 
     /// The system.
     pub fn close(self) -> S
-        ensures { S.account result ≡ self }
+        ensures system { S.account result ≡ self }
+        ensures later { IsLater L.opened self }
     {
         let Hall {
             system,
@@ -78,7 +80,8 @@ impl<L: Opening, S: Steps> Hall<L, S> {
     /// The system. Passes of this desk have no more receipts than it has lines since the desk was opened.
     pub(crate) fn close_with(self, stake: Stake<L>) -> S
         ensures system { S.account result ≡ self }
-        ensures few { stake + L.before ≤ length self.journal }
+        ensures later { IsLater L.opened self }
+        ensures few { stake + length L.opened.journal ≤ length self.journal }
     {
         let Hall {
             system,
@@ -99,7 +102,7 @@ impl<L: Opening, S: Steps> Hall<L, S> {
         } }
         ensures place { result.place ≡ place_of (length self.old.journal) result.reply }
         ensures stake { stake.new ≡ stake.old + lines_of result.reply }
-        ensures here { IfSome result.place (λ p. (L.before ≤ p) × (p < 2 ^ 63)) }
+        ensures here { IfSome result.place (λ p. (length L.opened.journal ≤ p) × (p < 2 ^ 63)) }
     {
         let place = self.system.journal().len() as u64;
         let reply = self.system.step(worker, attempt);
@@ -133,7 +136,7 @@ impl<L: Opening, S: Steps> Hall<L, S> {
         ensures capacity { vec_capacity receipts.new ≡ vec_capacity receipts.old }
         ensures len { vec_len receipts.new ≡ vec_len receipts.old + lines_of result.reply }
         ensures stake { stake.new ≡ stake.old + lines_of result.reply }
-        ensures here { IfSome result.place (λ p. (L.before ≤ p) × (p < 2 ^ 63)) }
+        ensures here { IfSome result.place (λ p. (length L.opened.journal ≤ p) × (p < 2 ^ 63)) }
     {
         let answer = self.step(stake, worker, attempt);
         if let Some(place) = answer.place {

@@ -168,7 +168,7 @@ impl<L: Opening, A: Allocator + Copy> Pass<L, A> {
         ensures worker { self.new.worker ≡ self.old.worker }
         ensures gained { IfOk result (λ a. self.new.receipts ≡ receipts_then self.old.receipts attempt a.place a.reply) }
         ensures no_room { IfOk result (λ a. (a.place ≡ None) ↔ (a.reply ≡ replies.NoRoom)) }
-        ensures here { IfOk result (λ a. IfSome a.place (λ p. L.before ≤ p)) }
+        ensures here { IfOk result (λ a. IfSome a.place (λ p. length L.opened.journal ≤ p)) }
         ensures kept { OnErr result (self.new ≡ self.old) }
         ensures finish { finishes_open attempt self.old.receipts ≡ true → IsOk result }
     {
@@ -185,7 +185,7 @@ impl<L: Opening, A: Allocator + Copy> Pass<L, A> {
         ensures worker { self.new.worker ≡ self.old.worker }
         ensures gained { IfOk result (λ a. self.new.receipts ≡ receipts_then self.old.receipts attempt a.place a.reply) }
         ensures no_room { IfOk result (λ a. (a.place ≡ None) ↔ (a.reply ≡ replies.NoRoom)) }
-        ensures here { IfOk result (λ a. IfSome a.place (λ p. L.before ≤ p)) }
+        ensures here { IfOk result (λ a. IfSome a.place (λ p. length L.opened.journal ≤ p)) }
         ensures kept { OnErr result (self.new ≡ self.old) }
         ensures finish { finishes_open attempt self.old.receipts ≡ true → IsOk result }
     {

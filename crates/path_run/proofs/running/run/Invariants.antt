@@ -1,9 +1,8 @@
--- The desk is a new one, over a system with these lines.
-use Rattle.std.proofs.Common.{length}
+-- The desk is a new one, over this system.
 use Rattle.path_run.proofs.running.run.Given as goal
 
 abbrev pub ghosts-run_at-L-Ledger : goal.ghosts-run_at-L-Ledger
 ghosts-run_at-L-Ledger g a = record { name = a.blank.name; parts = a.blank.parts }
 
 abbrev pub ghosts-run_at-L-Opening : goal.ghosts-run_at-L-Opening
-ghosts-run_at-L-Opening g a = record { before = length (g.S.Steps.account a.system).journal }
+ghosts-run_at-L-Opening g a = record { opened = g.S.Steps.account a.system }

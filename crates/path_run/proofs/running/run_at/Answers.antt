@@ -1,6 +1,8 @@
 -- What the processes handed back is what the outcome tells.
 use Rattle.std.proofs.Common.{rules, arith, ◌≡◌, ℕ, List, sym, ap, ◌∙◌, subst, get_or, length}
+use Rattle.path_system.specs.Accounts.{Account}
 use Rattle.path_workers.specs.Attempts.{Held}
+use Rattle.path_workers.specs.Later.{IsLater}
 use Rattle.path_run.specs.declared.begun.Worked.{Worked}
 use Rattle.path_run.specs.declared.outcome.End.{End}
 use Rattle.path_run.specs.Runs.{EachRuns}
@@ -39,3 +41,6 @@ returns-in-Err-clause-unsettled g c = λ fault left is.
     subst (λ (x : Held). Out (i, (get_or c.args.processes.now i p).steps) x (get_or es i e)) (sym each.0)
     (subst (λ (x : End). Out (i, (get_or c.args.processes.now i p).steps) (get_or c.in-Ok-worked.worked.items i w).pass x) (sym each.1) (j.0, j.1))) in
     (hs, es, search rules, search rules, runs, subst (λ (b : ℕ). IsUnsettled b (g.S.Steps.account left).journal hs es fault) (ap length c.journal.ensures.value) (c.in-Err.ensures.unsettled fault left is))
+
+pub returns-in-Err-clause-left : goal.returns-in-Err-clause-left
+returns-in-Err-clause-left g c = λ fault left is. subst (λ (a : Account). IsLater a (g.S.Steps.account left)) (sym c.requires.opened) (c.in-Err.ensures.left fault left is)

@@ -1,0 +1,37 @@
+-- A run from the opening of its system on.
+use Rattle.std.proofs.Common.{◌≡◌, ℕ, List, length, ap, ◌∙◌, subst}
+use Rattle.path_model.specs.Declarations.{Declaration}
+use Rattle.path_model.specs.Honest.{IsHonest}
+use Rattle.path_shelf.specs.States.{State}
+use Rattle.path_system.specs.Accounts.{Account, account_of, contents_of}
+use Rattle.path_workers.specs.Attempts.{Held}
+use Rattle.path_workers.specs.Later.{IsLater}
+use Rattle.path_workers.specs.Settled.{IsSettled}
+use Rattle.path_script.specs.Scripts.{Plan}
+use Rattle.path_run.specs.declared.outcome.End.{End}
+use Rattle.path_run.specs.Runs.{EachRuns}
+use Rattle.path_run.specs.Lines.{EachIsOrderly, EachIsBlockedNow}
+use Rattle.path_processes.specs.RunTexts.{IsRunOf}
+
+-- what a run leaves over a system that was just opened
+module _ (d : Declaration) (states : List State) (room : ℕ) (opened last : Account) (new : opened ≡ account_of d room states) (later : IsLater opened last) where
+  pub declared : last.declaration ≡ d
+  declared = later.declaration ∙ ap (λ (a : Account). a.declaration) new
+
+  pub ran_so : (plans : List Plan) (passes : List Held) (es : List End) → length passes ≡ length plans → length es ≡ length plans
+      → IsHonest last.declaration last.room last.openings last.journal → IsSettled (length opened.journal) last.journal passes → EachRuns plans passes es
+      → EachIsOrderly last.journal passes es → EachIsBlockedNow last.declaration last.journal es → IsRunOf d states room plans last.journal es
+  ran_so plans passes es count ends honest settled runs orderly blocked =
+      let rooms : last.room ≡ room = later.room ∙ ap (λ (a : Account). a.room) new in
+      let openings : last.openings ≡ contents_of states = later.openings ∙ ap (λ (a : Account). a.openings) new in
+      record {
+        passes = passes;
+        as_many = (count, ends);
+        honest = subst (λ (x : Declaration). IsHonest x room (contents_of states) last.journal) declared
+            (subst (λ (n : ℕ). IsHonest last.declaration n (contents_of states) last.journal) rooms
+            (subst (λ (xs : List (List ℕ)). IsHonest last.declaration last.room xs last.journal) openings honest));
+        settled = subst (λ (n : ℕ). IsSettled n last.journal passes) (ap (λ (a : Account). length a.journal) new) settled;
+        runs = runs;
+        orderly = orderly;
+        blocked = subst (λ (x : Declaration). EachIsBlockedNow x last.journal es) declared blocked;
+      }

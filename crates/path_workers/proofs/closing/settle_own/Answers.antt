@@ -1,0 +1,26 @@
+-- Passes of the desk have no more receipts than it has lines.
+use Rattle.std.proofs.Common.{◌≡◌, ℕ, ◌+◌, ◌≤◌, List, ◌++◌, length, take, drop, arith, rules, sym, ap, ◌∙◌}
+use Rattle.std.proofs.Math.Seq.{take-append_seam}
+use Rattle.path_model.specs.declared.journal.Line.{Line}
+use Rattle.path_workers.specs.declared.settle.SettleFault.{SettleFault}
+use Rattle.path_workers.specs.declared.settle.SettleFault.TheVariants.{MissingPass, Mismatch}
+use Rattle.path_workers.specs.Attempts.{Held}
+use Rattle.path_workers.specs.Settled.{receipts_of}
+use Rattle.path_workers.specs.Faults.{IsFault, FewReceipts}
+use Rattle.path_workers.proofs.closing.settle_own.Goals as goal
+
+few : (b : ℕ) (lines : List Line) (hs : List Held) (fault : SettleFault) → IsFault b lines hs fault → receipts_of hs + b ≤ length lines → FewReceipts fault
+few b lines hs (MissingPass n m) is le = omega (arith, is.0, is.1, le)
+few b lines hs (Mismatch p) is le = tt
+
+pub returns-in-Err-clause-few : goal.returns-in-Err-clause-few
+returns-in-Err-clause-few g c =
+    let slips = c.to_slips-slips in
+    let held : List Held = c.check-verdict.new.passes in
+    let here : held ≡ c.args.passes.items = c.in-Err.ensures.same ∙ c.as_mut_slice.ensures.value in
+    let count : c.args.passes.len ≡ length held = sym c.as_mut_slice.ensures.len ∙ ap length (sym c.in-Err.ensures.same) in
+    let after : List Held = drop (length held) c.args.passes.items in
+    let same : slips.result.0.items ≡ c.args.passes.items = slips.ensures.items ∙ ap (λ (n : ℕ). take n (held ++ after)) count ∙ take-append_seam held after ∙ here in
+    let total : slips.result.1 ≡ receipts_of c.args.passes.items = slips.ensures.stake ∙ ap receipts_of (sym slips.ensures.items ∙ same) in
+    let most = c.close_with-system.ensures.few in
+    few c.args.before c.args.hall.journal c.args.passes.items c.in-Err.fault (search rules) (omega (arith, total, most, c.requires.before))

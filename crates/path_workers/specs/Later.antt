@@ -1,0 +1,13 @@
+-- What stays of a system while threads share it.
+use Rattle.std.specs.Prelude.{◌≡◌, ℕ, List, ◌++◌}
+use Rattle.path_model.specs.declared.journal.Line.{Line}
+use Rattle.path_model.specs.Declarations.{Declaration}
+use Rattle.path_system.specs.Accounts.{Account}
+
+-- it is the same system with more lines, or with none: they follow those that it had
+pub record IsLater (old new : Account) : Type 0 where
+  pub declaration : new.declaration ≡ old.declaration
+  pub room : new.room ≡ old.room
+  pub openings : new.openings ≡ old.openings
+  pub more : List Line
+  pub journal : new.journal ≡ old.journal ++ more
