@@ -6,7 +6,7 @@ use Rattle.path_model.specs.Flat.{Sited, sited, HasBound, bound_number}
 use Rattle.path_model.specs.Trimmed.{stands_in, KeepsSemaphore, KeepsCounter}
 use Rattle.path_gate.specs.Levels.{Levels}
 
--- those whose trees no earlier path has, with the numbers of the file; seen are the earlier trees
+-- the paths whose tree no earlier path has, with the numbers of the file; seen are the earlier trees
 abbrev pub unlike : List Tree → List (ℕ × Sited) → List (ℕ × Sited)
 unlike seen [] = []
 unlike seen (x ∷ xs) = if stands_in x.1.tree seen then unlike seen xs else (x ∷ unlike (x.1.tree ∷ seen) xs)
