@@ -1,4 +1,4 @@
--- What refuses an audit over the program's own devices, and how a verdict is told.
+-- What refuses an audit over the program's own devices, and how a verdict is written.
 use Rattle.std.proofs.Common.{◌≡◌, ℕ, ◌<◌, List, [], length, get_or, Option, Some, None, ◌⊎◌, inl, inr, refl, sym, ap, ◌∙◌, subst, arith}
 use Rattle.std.specs.Option.{unwrap_or}
 use Rattle.std.specs.Io.KnownBytes.{Appends}

@@ -1,4 +1,4 @@
--- What is noted beside operations.
+-- Which paths are in the lists of operations.
 use Rattle.std.proofs.Common.{◌≡◌, ℕ, zero, suc, ◌+◌, ◌<◌, ◌≤◌, Bool, true, false, Option, Some, None, List, [], ◌∷◌, ◌++◌, length, get_or, map, filter, refl, sym, ap, ◌∙◌, append_assoc, arith, slice_get, option_map, replicate, Vec, set, take, ◌||◌, eq-eqb, ne_eqb, ◌⊎◌, inl, inr}
 use Rattle.std.proofs.lemmas.List.{append-nil, map_push, map-append, replicate-append-replicate, length-map, take_more}
 use Rattle.std.proofs.lemmas.List.Elements.{filter-append}

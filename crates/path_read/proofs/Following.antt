@@ -1,4 +1,4 @@
--- What follows parts that were taken.
+-- What follows after parts were taken.
 use Rattle.std.proofs.Common.{◌≡◌, List, ◌++◌, sym, ap, ◌∙◌, subst, Result, Ok, Err, IfOk, IfErr, ◌⊎◌, inl, inr}
 use Rattle.std.specs.Result.{IsErrAnd, IsErrOf}
 use Rattle.path_lex.specs.declared.fault.DeclFault.{DeclFault}

@@ -1,4 +1,4 @@
--- With which status a fault is told, and how a write ends.
+-- The status with which a fault is reported, and how a write ends.
 use Rattle.std.proofs.Common.{◌≡◌, ◌≢◌, ℕ, List, ◌⊎◌, inl, inr, sym, ap, ◌∙◌, subst}
 use Rattle.path_lex.specs.declared.fault.DeclFault.{DeclFault}
 use Rattle.path_lex.specs.declared.fault.DeclFault.TheVariants as declarations
