@@ -1,4 +1,4 @@
--- Each reply has one text, which is a line, and a text that is none is refused.
+-- Each reply has one text, which is a line, and any other text is refused.
 use Rattle.std.proofs.Common.{◌≡◌, ◌≢◌, ℕ, ◌<◌, ◌^◌, Bool, true, false, cond, if◌then◌else◌, List, ◌∷◌, ◌++◌, Option, Some, None, codes, decimal, rules, refl, sym, ap, ◌∙◌, subst, arith}
 use Rattle.std.specs.Str.{bytes_eq}
 use Rattle.std.proofs.lemmas.Slice.Eq.{bytes_eq-Decides}

@@ -1,4 +1,4 @@
--- Lines of attempts are lines, how far a text of attempts was read, and that a faulty text is the text of none.
+-- Lines of attempts are lines, how far a text of attempts was read, and that a faulty text isn't one of attempts.
 use Rattle.std.proofs.Common.{◌≡◌, ◌≢◌, ◌↔◌, ℕ, ◌+◌, ◌<◌, ◌^◌, List, [], ◌∷◌, ◌++◌, length, drop, ◌⊎◌, inl, inr, false, rules, refl, sym, ap, ◌∙◌, subst, arith, decimal, codes, All, Contains}
 use Rattle.std.proofs.lemmas.List.Elements.{All-contains}
 use Rattle.std.proofs.lemmas.Bool.{cases_lt}

@@ -1,4 +1,4 @@
--- Texts of lines, whatever a line tells: how far one was read, that a faulty line refutes it, and that it has one reading.
+-- Texts of lines of any kind: how far one was read, that a faulty line refutes it, and that it has one reading.
 use Rattle.std.proofs.Common.{◌≡◌, ◌≢◌, ℕ, ◌+◌, ◌-◌, ◌<◌, ◌≤◌, List, [], ◌∷◌, ◌++◌, length, drop, ◌⊎◌, inl, inr, refl, sym, ap, ◌∙◌, subst, append_assoc, arith, length-append, length-drop, All}
 use Rattle.std.specs.List.{flat_map}
 use Rattle.std.proofs.Math.Seq.{drop-append_seam}

@@ -1,4 +1,4 @@
--- A text with a fault is the text of no script, and a text is that of one script.
+-- A text with a fault isn't a script, and a text has one script.
 use Rattle.std.proofs.Common.{◌≡◌, ◌≢◌, ℕ, List, [], ◌∷◌, ◌++◌, length, ap, Result, Ok, Err, IfErr, All, map, refl, sym, ◌∙◌, subst, arith}
 use Rattle.std.proofs.lemmas.List.Elements.{All-head, All-tail, All-nil, All-cons, All-append}
 use Rattle.path_model.specs.Declarations.{Declaration}

@@ -1,4 +1,4 @@
--- The lines of a script as turns of a machine: where it stands behind some lines is one place, so what follows them keeps every rule.
+-- The lines of a script as turns of a machine: after some lines it is at one place, so what follows them keeps every rule.
 use Rattle.std.proofs.Common.{◌≡◌, ℕ, ◌+◌, ◌-◌, ◌<◌, ◌≤◌, List, [], ◌∷◌, ◌++◌, length, All, Contains, map, refl, sym, ap, ◌∙◌, subst, arith}
 use Rattle.std.proofs.lemmas.List.Elements.{All-head, All-tail}
 use Rattle.std.proofs.lemmas.List.Sums.{sum_by-cons}

@@ -1,4 +1,4 @@
--- What one line tells: a step, or why it can't follow.
+-- What one line is: a step, or why it can't follow.
 use Rattle.std.proofs.Common.{◌≡◌, ℕ, Some, None, length, List, inl, inr, sym, ap, ◌∙◌, refl, subst, arith, All}
 use Rattle.std.specs.Prelude.{slice_get}
 use Rattle.std.proofs.lemmas.List.{length-map}
