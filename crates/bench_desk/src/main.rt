@@ -1,5 +1,5 @@
-//! Times what a desk takes: `bench_desk THREADS ROUNDS`. Each thread starts and finishes a read in each round; then the desk is
-//! settled. Standard output tells how many receipts there are, standard error the times.
+//! Measures a desk: `bench_desk THREADS ROUNDS`. Each thread starts and finishes a read in each round; then the desk is
+//! settled. Standard output has the number of receipts, standard error the times.
 #![tactic(auto)]
 
 mod readers;

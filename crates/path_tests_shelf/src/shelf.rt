@@ -84,7 +84,7 @@ fn opened<D: Device>(rt: &impl Abort, devices: Vec<D>, decl: &Decl) -> Shelf<D>
     }
 }
 
-// The devices show these numbers, in order.
+// Checks that the devices contain these numbers, in order.
 fn show<D: Device>(rt: &impl Abort, devices: &[D], numbers: &[Option<u64>]) {
     assert!(rt; devices.len() == numbers.len());
     for (device, number) in devices.iter().zip(numbers) {
@@ -92,7 +92,7 @@ fn show<D: Device>(rt: &impl Abort, devices: &[D], numbers: &[Option<u64>]) {
     }
 }
 
-// They were refused so, and came back in order.
+// Checks that the devices were refused for this and came back in order.
 fn come_back<D: Device>(
     rt: &impl Abort,
     answer: &Result<Shelf<D>, (ShelfFault, Vec<D>)>,
@@ -108,7 +108,7 @@ fn come_back<D: Device>(
     }
 }
 
-// The devices are refused so, and come back in order: each shows its number.
+// Checks that the devices are refused for this and come back in order, each with its number.
 fn refused<D: Device>(
     rt: &impl Abort,
     devices: Vec<D>,
@@ -121,7 +121,7 @@ fn refused<D: Device>(
     drop(answer);
 }
 
-// Cells that contain 0, 1 and so on, so many of them.
+// `count` cells that contain 0, 1 and so on.
 fn cells(rt: &impl Abort, heap: Global, count: u64) -> Vec<AnyDevice> {
     let mut cells = Vec::new(heap);
     for number in 0..count {
@@ -162,7 +162,7 @@ fn first_of_another_law(rt: HostRuntime) {
     drop(decl);
 }
 
-// The answers to one use of each device, what they then show, and the answers to two more uses of the second.
+// The answers to one use of each device, what they then contain, and the answers to two more uses of the second.
 fn answers<D: Device>(
     shelf: &mut Shelf<D>,
 ) -> (
@@ -185,7 +185,7 @@ fn answers<D: Device>(
     (first, shown, later)
 }
 
-// A device acts, and the other stays.
+// Checks that a device acts and the other stays as it was.
 fn acts<D: Device>(rt: &impl Abort, devices: Vec<D>, decl: &Decl) {
     let mut shelf = opened(rt, devices, decl);
     let answers = answers(&mut shelf);
@@ -207,7 +207,7 @@ fn one_acts_and_the_other_stays(rt: HostRuntime) {
     drop(decl);
 }
 
-// A device of this law wasn't taken.
+// Checks that a device of this law came back.
 fn is_back<D: Device>(rt: &impl Abort, answer: &Result<(), D>, law: Law) {
     match answer {
         Ok(()) => panic!(rt; "it was taken"),
@@ -215,7 +215,7 @@ fn is_back<D: Device>(rt: &impl Abort, answer: &Result<(), D>, law: Law) {
     }
 }
 
-// Another cell takes the first place, and a tally doesn't.
+// Checks that another cell takes the first place, and that a tally doesn't.
 fn replaces<D: Device>(rt: &impl Abort, shelf: &mut Shelf<D>, cell: D, tally: D)
     requires { length shelf.old ≡ 2 }
 {
@@ -228,7 +228,7 @@ fn replaces<D: Device>(rt: &impl Abort, shelf: &mut Shelf<D>, cell: D, tally: D)
     assert_eq!(rt; (is_replaced, after), (true, [Some(1), Some(9), Some(2)]));
 }
 
-// What a shelf of these counts when a device is replaced.
+// Checks what a shelf of these counts when a device is replaced.
 fn counts_drops<D: Device>(
     rt: &impl Abort,
     devices: Vec<D>,

@@ -26,7 +26,7 @@ fn fill<D: Device>(rt: &impl Abort, device: &mut D, numbers: &[u64]) {
     }
 }
 
-/// A queue of so many places, which contains these numbers.
+/// A queue of this capacity, which contains these numbers.
 pub(crate) fn queue(rt: &impl Abort, alloc: Global, places: u32, numbers: &[u64]) -> AnyDevice {
     assert!(rt; 1 <= places && places <= 1024);
     let mut queue = Queue::new(alloc, places).expect(rt, "memory is ample");
@@ -34,7 +34,7 @@ pub(crate) fn queue(rt: &impl Abort, alloc: Global, places: u32, numbers: &[u64]
     Box::new(alloc, queue).expect(rt, "memory is ample")
 }
 
-/// A tally that fails at the use of this number, after so many failures.
+/// A tally that fails at the use of this number, and has failed this often before.
 pub(crate) fn failing_tally(
     rt: &impl Abort,
     alloc: Global,
@@ -62,7 +62,7 @@ pub(crate) fn counted(
     Box::new(alloc, Counted { number, drops }).expect(rt, "memory is ample")
 }
 
-/// A counter that stands at 0.
+/// A counter at 0.
 pub(crate) fn counter(rt: &impl Abort, alloc: Global) -> Arc<AtomicU32> {
     Arc::new(alloc, AtomicU32::new(0)).expect(rt, "memory is ample")
 }
