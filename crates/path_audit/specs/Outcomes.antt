@@ -9,8 +9,8 @@ abbrev pub IsAnswer : Outcome → Result ℕ Reply → Type 0
 IsAnswer (serves x rest) result = result ≡ Ok x
 IsAnswer (refuses r) result = result ≡ Err r
 
--- a resource gives this reply for the outcome of its law, and its contents go from `before` to `left`; the device may fail if the
--- law would serve
+-- a resource gives this reply for the outcome of its law, and its contents go from `before` to `left`; the device may fail although
+-- the law would serve
 abbrev pub Acts : Outcome → Bool → Reply → List ℕ → List ℕ → Type 0
 Acts (serves x rest) false reply before left = (reply ≡ Used x) × (left ≡ rest)
 Acts (serves x rest) true reply before left = (reply ≡ DeviceFailed) × (left ≡ before)

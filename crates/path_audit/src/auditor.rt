@@ -32,7 +32,7 @@ pub enum AuditFault {
     /// The number of openings isn't the number of resources.
     #[error("wrong count")]
     WrongCount,
-    /// The opening of this resource doesn't fit its law. It is the first such resource.
+    /// This resource is the first whose opening doesn't fit its law.
     #[error("bad opening {}", .0.0)]
     BadOpening(ResId),
     /// An allocation failed.

@@ -18,7 +18,7 @@ fn has_digit(text: &[u8], at: usize) -> bool
 }
 
 /// The number that the text begins with, and what follows its last digit. The number is decimal, below 2 to the 64th and
-/// without leading zeros; `None` if the text begins with no such number. One pass over the digits.
+/// without leading zeros; `None` if the text doesn't begin with one. One pass over the digits.
 pub fn number(text: &[u8]) -> Option<(u64, &[u8])>
     ensures some { IfSome result (λ p. text.now ≡ decimal p.0 ++ p.1.now) }
     ensures end { IfSome result (λ p. HasNoDigitNext p.1.now) }

@@ -14,7 +14,7 @@ unlike seen (x ∷ xs) = if stands_in x.1.tree seen then unlike seen xs else (x 
 abbrev pub kept_paths : List (ℕ × Tree) → List (ℕ × Sited)
 kept_paths xs = unlike [] (sited 0 0 xs)
 
--- at the path's numbers the table holds what is kept of its values: semaphores, counters and bounds
+-- at the path's numbers the table has what is kept of its values: semaphores, counters and bounds
 pub record Shows (v : Levels) (w : Values) (x : Sited) : Type 0 where
   pub semaphores : (q : ℕ) → q ≤ semicolons x.tree → KeepsSemaphore x.tree q → slice_index v.semaphores (x.own + q) ≡ w.semaphore q
   pub counters : (c : ℕ) → c < braces x.tree → KeepsCounter x.tree c → slice_index v.counters (x.first + c) ≡ w.counter c

@@ -162,7 +162,7 @@ pub fn first_entry<A: Allocator + Copy>(decl: &Decl<A>, text: &[u8]) -> Result<F
     ensures fits { IfOk result (λ f. EntryFits (f.worker, f.attempt)) }
     ensures length { IfOk result (λ f. f.length ≡ length (line_text decl.now.declaration f.worker f.attempt)) }
     ensures err { IfErr result (λ fault. IsFirstFault decl.now.declaration text.now fault) }
-    // No attempts before such a text make it a text of attempts.
+    // No attempts before this text make it a text of attempts.
     ensures none { OnErr result (text.now ≢ [] → IsNoRest decl.now.declaration text.now) }
 {
     let Some((worker, rest)) = number(text) else {

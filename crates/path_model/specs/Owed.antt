@@ -73,7 +73,7 @@ pub data OwedToUse (d : Declaration) (room : ℕ) (openings : List (List ℕ)) (
   served :
       (a : Activation) (x : ℕ) (rest : List ℕ) → taken ls + 1 ≤ room → IsOwn ls w n a → outcome_for d openings ls verb a ≡ serves x rest
       → OwedToUse d room openings ls w n verb (Used x)
-  -- a device may fail where its law would serve
+  -- a device may fail although its law would serve
   failed :
       (a : Activation) (x : ℕ) (rest : List ℕ) → taken ls + 1 ≤ room → IsOwn ls w n a → outcome_for d openings ls verb a ≡ serves x rest
       → OwedToUse d room openings ls w n verb DeviceFailed

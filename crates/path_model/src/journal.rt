@@ -49,7 +49,7 @@ pub enum Reply {
     Full,
     /// The total would pass `u64::MAX`.
     Overflow,
-    /// The device failed where its law would have served.
+    /// The device failed although its law would have served.
     DeviceFailed,
     /// The activation is over.
     Finished,

@@ -93,7 +93,7 @@ pub fn substitution_reads_upwards()
     ensures { SubstitutionReadsUpwards }
 {}
 
-/// One table, with numbers that count through the paths, holds the values of each path.
+/// One table, with numbers that count through the paths, has the values of each path.
 pub fn one_table_shows_all()
     ensures { OneTableShowsAll }
 {}
@@ -168,7 +168,7 @@ pub fn each_attempt_is_owed_a_reply()
     ensures { EachAttemptIsOwedAReply }
 {}
 
-/// At most one reply is owed to an attempt, except that a device may also fail where its law would serve.
+/// At most one reply is owed to an attempt, except that a device may fail although its law would serve.
 pub fn one_reply_is_owed()
     ensures { OneReplyIsOwed }
 {}

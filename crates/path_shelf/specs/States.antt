@@ -23,7 +23,7 @@ WouldServe (refuses r) = ⊥
 abbrev pub IsCounted : ℕ → ℕ → Type 0
 IsCounted before after = (after ≡ before + 1) ⊎ (after + 1 ≡ 2 ^ 64)
 
--- the fault is the law's refusal; or the device failed where its law would serve, and that was counted
+-- the fault is the law's refusal; or the device failed although its law would serve, and that was counted
 abbrev pub IsOwedFault : Outcome → ActFault → ℕ → ℕ → Type 0
 IsOwedFault outcome NotOffered before after = outcome ≡ refuses replies.NotOffered
 IsOwedFault outcome Empty before after = outcome ≡ refuses replies.Empty

@@ -17,7 +17,7 @@ pub enum ActFault {
     Full,
     /// The total would pass `u64::MAX`.
     Overflow,
-    /// The device failed where its law would have served.
+    /// The device failed although its law would have served.
     Failed,
 }
 

@@ -18,7 +18,7 @@ use std::marker::Model;
 pub enum ShelfFault {
     /// The number of devices isn't the number of resources.
     WrongCount,
-    /// The device of this resource doesn't have the resource's law. It is the first such resource.
+    /// This resource is the first whose device has another law.
     WrongDevice(ResId),
 }
 

@@ -37,7 +37,7 @@ pub enum Fault<'a> {
     Text(TextFault),
     /// The text of a script is refused.
     Script(ScriptFault),
-    /// The journal of a run isn't what its processes were told.
+    /// The receipts of a run's processes don't agree with its journal.
     Unsettled,
     /// An allocation failed.
     OutOfMemory,

@@ -17,7 +17,7 @@ pub enum OpenFault {
     /// The number of devices isn't the number of resources.
     #[error("wrong count")]
     WrongCount,
-    /// The device of this resource doesn't have the resource's law. It is the first such resource.
+    /// This resource is the first whose device has another law.
     #[error("wrong device {number}", number = .0.0)]
     WrongDevice(ResId),
     /// An allocation failed.

@@ -87,7 +87,7 @@ const JUDGED: [Result<Verdict, AuditFault>; 3] = [
 // Checks that the last start needs room for all lines, and that nothing finishes twice.
 fn are_judged(rt: &impl Abort, heap: Global, decl: &Decl, last_first: bool) {
     let openings = opened(rt, heap, &[0]);
-    let mut lines = overlapping(heap, 300, last_first).expect(rt, "there is memory");
+    let mut lines = overlapping(heap, 300, last_first).expect(rt, "enough memory");
     let judged = judged(rt, heap, decl, &openings, &mut lines);
     drop(lines);
     drop(openings);

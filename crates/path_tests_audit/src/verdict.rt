@@ -42,7 +42,7 @@ pub(crate) fn opening<A: Allocator + Copy>(
 
 /// The same, when there is enough memory.
 pub(crate) fn opened(rt: &impl Abort, heap: Global, numbers: &[u64]) -> Vec<Vec<u64>> {
-    opening(heap, numbers).expect(rt, "there is memory")
+    opening(heap, numbers).expect(rt, "enough memory")
 }
 
 /// The verdict on a text of a journal, in the room that it names, or else in this one.

@@ -95,7 +95,7 @@ fn listed_with(rt: &impl Abort, heap: Global, decl: &Decl, names: &Decl) -> Stri
     let lean = trimmed(rt, heap, decl);
     let text = lean_listing(heap, names, &lean);
     drop(lean);
-    text.expect(rt, "memory is ample")
+    text.expect(rt, "enough memory")
 }
 
 // The listing of what trimming leaves of the code of a text.

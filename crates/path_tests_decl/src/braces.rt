@@ -120,7 +120,7 @@ const CLOSING: &str = ")))))))))))))))))))))))))))))))))";
 
 // The first `count` signs of a text.
 fn signs<'t>(rt: &impl Abort, text: &'t str, count: usize) -> &'t str {
-    text.get(..count).expect(rt, "the text has so many signs")
+    text.get(..count).expect(rt, "the text is long enough")
 }
 
 // Checks that a path of parentheses, braces and parentheses again around an a has this fault, or none.

@@ -40,12 +40,12 @@ pub(crate) fn expect_faults(rt: &impl Abort, heap: Global, rows: &[(&str, DeclFa
 
 // Appends the piece to the text.
 pub(crate) fn put(rt: &impl Abort, text: &mut String, piece: &str) {
-    assert!(rt; text.push_str(piece).is_ok(), "memory is ample");
+    assert!(rt; text.push_str(piece).is_ok(), "enough memory");
 }
 
 // Appends the number to the text.
 pub(crate) fn put_number(rt: &impl Abort, text: &mut String, number: u32) {
-    assert!(rt; write!(text, "{number}").is_ok(), "memory is ample");
+    assert!(rt; write!(text, "{number}").is_ok(), "enough memory");
 }
 
 // Appends the tree in signs, operators first, to the text.

@@ -111,7 +111,7 @@ const TOLD: &[(DeclFault, &str)] = &[
 
 // The message of a fault.
 fn told(rt: &impl Abort, heap: Global, fault: DeclFault) -> String {
-    format!(in heap; "{fault}").expect(rt, "memory is ample")
+    format!(in heap; "{fault}").expect(rt, "enough memory")
 }
 
 fn expect_told(rt: &impl Abort, heap: Global, rows: &[(DeclFault, &str)]) {

@@ -36,7 +36,7 @@ fn is_answered(heap: Global, text: &[u8]) -> bool {
 
 // The text with the byte at this offset changed to another.
 fn changed(rt: &impl Abort, heap: Global, text: &[u8], place: usize, byte: u8) -> Vec<u8> {
-    let mut copy = text.to_vec(heap).expect(rt, "memory is ample");
+    let mut copy = text.to_vec(heap).expect(rt, "enough memory");
     match copy.get_mut(place) {
         Some(old) => *old = byte,
         None => panic!(rt; "the text has no byte {place}"),

@@ -81,7 +81,7 @@ fn tally_at_the_end(rt: HostRuntime) {
 // Checks that an empty queue of this capacity answers row by row.
 fn queue_follows(rt: &impl Abort, heap: Global, capacity: u32, rows: &[Row<'_>]) {
     assert!(rt; 1 <= capacity && capacity <= 1024);
-    let mut queue = Queue::new(heap, capacity).expect(rt, "memory is ample");
+    let mut queue = Queue::new(heap, capacity).expect(rt, "enough memory");
     follows(rt, &mut queue, Law::Queue(capacity), 0, rows);
     drop(queue);
 }
@@ -137,7 +137,7 @@ fn wants_memory(rt: &impl Abort, heap: Global, capacity: u32) {
 fn wants_it_once(rt: &impl Abort, heap: Global, capacity: u32) {
     assert!(rt; 1 <= capacity && capacity <= 1024);
     let refusing = Refusing::new(heap, 2);
-    let mut queue = Queue::new(&refusing, capacity).expect(rt, "memory is ample");
+    let mut queue = Queue::new(&refusing, capacity).expect(rt, "enough memory");
     is_filled(rt, &mut queue, u64::from(capacity));
     drop(queue);
     assert!(rt; !refusing.has_refused());
@@ -208,7 +208,7 @@ const REMEMBERED: &[Row<'static>] = &[
 
 #[test]
 fn remembering(rt: HostRuntime) {
-    let mut device = Remembering::new(rt.alloc(), 1, 2).expect(&rt, "memory is ample");
+    let mut device = Remembering::new(rt.alloc(), 1, 2).expect(&rt, "enough memory");
     answers_so(&rt, &mut device, REMEMBERED);
     let remembered = (device.failures(), device.history());
     assert_eq!(rt; remembered, (1, [1, 2].as_slice()));

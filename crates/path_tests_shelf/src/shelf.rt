@@ -32,21 +32,21 @@ fn two(rt: &impl Abort, alloc: Global) -> Decl {
 }
 
 fn cell(rt: &impl Abort, alloc: Global, number: u64) -> AnyDevice {
-    Box::new(alloc, Cell::new(number)).expect(rt, "memory is ample")
+    Box::new(alloc, Cell::new(number)).expect(rt, "enough memory")
 }
 
 fn tally(rt: &impl Abort, alloc: Global, total: u64) -> AnyDevice {
-    Box::new(alloc, Tally::new(total)).expect(rt, "memory is ample")
+    Box::new(alloc, Tally::new(total)).expect(rt, "enough memory")
 }
 
 fn queue(rt: &impl Abort, alloc: Global) -> AnyDevice {
-    let queue = Queue::new(alloc, 1).expect(rt, "memory is ample");
-    Box::new(alloc, queue).expect(rt, "memory is ample")
+    let queue = Queue::new(alloc, 1).expect(rt, "enough memory");
+    Box::new(alloc, queue).expect(rt, "enough memory")
 }
 
 fn remembering(rt: &impl Abort, alloc: Global, number: u64) -> AnyDevice {
-    let cell = Remembering::new(alloc, number, 1).expect(rt, "memory is ample");
-    Box::new(alloc, cell).expect(rt, "memory is ample")
+    let cell = Remembering::new(alloc, number, 1).expect(rt, "enough memory");
+    Box::new(alloc, cell).expect(rt, "enough memory")
 }
 
 fn failing_tally(rt: &impl Abort, alloc: Global) -> AnyDevice {
@@ -56,13 +56,13 @@ fn failing_tally(rt: &impl Abort, alloc: Global) -> AnyDevice {
         fails_at: 0,
         failures: 0,
     };
-    Box::new(alloc, tally).expect(rt, "memory is ample")
+    Box::new(alloc, tally).expect(rt, "enough memory")
 }
 
 // A cell that counts its drops.
 fn counted(rt: &impl Abort, alloc: Global, number: u64, drops: &Arc<AtomicU32>) -> AnyDevice {
     let drops = drops.clone().expect(rt, "clones are few");
-    Box::new(alloc, Counted { number, drops }).expect(rt, "memory is ample")
+    Box::new(alloc, Counted { number, drops }).expect(rt, "enough memory")
 }
 
 // Two devices, in order.

@@ -108,7 +108,7 @@ fn all_happen(
     admitted: u32,
     in_progress: u32,
 ) {
-    let mut gate = opened(rt, heap, text).expect(rt, "memory is ample");
+    let mut gate = opened(rt, heap, text).expect(rt, "enough memory");
     all_happen_at(rt, &mut gate, events);
     assert_eq!(rt;
         [gate.admitted(), gate.in_progress(A)],

@@ -73,7 +73,7 @@ fn found<A: Allocator + Copy>(ledger: &Ledger<A>, act: ActId) -> Option<u32> {
 
 // A ledger with one activation each of workers 10, 11 and 12.
 fn three_live(rt: &impl Abort, heap: Global) -> Ledger {
-    let mut ledger = Ledger::with_room(heap, 3).expect(rt, "memory is ample");
+    let mut ledger = Ledger::with_room(heap, 3).expect(rt, "enough memory");
     let _ = ledger.begin(10, OpId(5));
     let _ = ledger.begin(11, OpId(6));
     let _ = ledger.begin(12, OpId(7));

@@ -58,7 +58,7 @@ fn refused<D: Device>(
     want: OpenFault,
     contents: &[&[u64]],
 ) {
-    let decl = declared(rt, heap, text).expect(rt, "memory is ample");
+    let decl = declared(rt, heap, text).expect(rt, "enough memory");
     let answer = tried(heap, decl, devices, room);
     come_back(rt, &answer, want, contents);
     drop(answer);
@@ -174,7 +174,7 @@ fn opens_but<D: Device>(
 ) -> bool {
     let ample = Refusing::new(heap, 0);
     let refusing = Refusing::new(heap, number);
-    let decl = declared(rt, &ample, THREE).expect(rt, "memory is ample");
+    let decl = declared(rt, &ample, THREE).expect(rt, "enough memory");
     let devices = row_of(rt, &ample, devices);
     let is_open = opens(rt, &refusing, decl, devices, contents);
     assert_eq!(rt; is_open, !refusing.has_refused());

@@ -46,7 +46,7 @@ pub(crate) fn row_of<D: Device, A: Allocator + Copy, const N: usize>(
     alloc: A,
     devices: [D; N],
 ) -> Vec<D, A> {
-    Vec::from_array(alloc, devices).expect(rt, "memory is ample")
+    Vec::from_array(alloc, devices).expect(rt, "enough memory")
 }
 
 /// This device alone.
@@ -76,7 +76,7 @@ pub(crate) fn opened<D: Device, A: Allocator + Copy>(
     text: &[u8],
     devices: Vec<D, A>,
 ) -> System<D, A> {
-    let decl = declared(rt, alloc, text).expect(rt, "memory is ample");
+    let decl = declared(rt, alloc, text).expect(rt, "enough memory");
     match tried(alloc, decl, devices, ROOM) {
         Ok(system) => system,
         Err(_) => panic!(rt; "it was refused"),

@@ -158,7 +158,7 @@ fn rooms_are_taken_up_to_the_limit(rt: HostRuntime) {
 }
 
 fn tells<F: Display + Drop>(rt: &impl Abort, heap: Global, fault: F, want: &str) {
-    let text = format!(in heap; "{fault}").expect(rt, "memory is ample");
+    let text = format!(in heap; "{fault}").expect(rt, "enough memory");
     assert_eq!(rt; text.as_str(), want);
 }
 

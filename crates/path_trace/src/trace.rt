@@ -146,7 +146,7 @@ fn open_fault<D: Device, A: Allocator + Copy>(
 }
 
 /// Why a text can't be traced by a system of this room over these devices, as far as that shows before the system is opened: the
-/// text is too long, or no such system can be opened. If both the text and the opening are at fault, the text's fault counts.
+/// text is too long, or the system can't be opened. If both the text and the opening are at fault, the text's fault counts.
 fn refusal<D: Device, A: Allocator + Copy>(
     alloc: A,
     decl: &Decl<A>,
@@ -224,7 +224,7 @@ pub fn trace_to<D: Device, A: Allocator + Copy, O: Write, E: Write>(
     // Done means that a system can have the room and that the devices have the declared laws.
     ensures room { IsBadRoom room → result ≢ Status.Done }
     ensures laws { result ≡ Status.Done → laws_of (map D.state devices.items) ≡ declared_laws decl.declaration }
-    // No such system can be opened, and nothing was written.
+    // The system can't be opened, and nothing was written.
     ensures unopened { result ≡ Status.CommandRefused
         → Keeps (O.contents out.old) (O.contents out.new) × IsUnopened decl.declaration (map D.state devices.items) room }
     // The text is too long or isn't a list of attempts, and nothing was written.

@@ -52,7 +52,7 @@ abbrev pub row_lines : Declaration → LeanRow → List ℕ
 row_lines d r =
     lines_text (map semaphore_line r.semaphores) ++ (lines_text (map counter_line r.counters) ++ flat_map (op_line d) r.ops)
 
--- the first words of a path's lines: with its resource, or with `#` and the path's number if the declaration has no such path
+-- the first words of a path's lines: with its resource, or with `#` and the path's number if the declaration doesn't have the path
 abbrev pub header_of : Declaration → ℕ → Option Path → List ℕ
 header_of d n (Some p) = header_line d n p.resource
 header_of d n None = codes "path " ++ (decimal n ++ (codes " of #" ++ decimal n))

@@ -23,7 +23,7 @@ pub enum SettleFault {
         /// How many receipts all passes have; `u64::MAX` if there are more.
         receipts: u64,
     },
-    /// There are as many lines as receipts, but the line at this place isn't equal to exactly one receipt. It is the first such line.
+    /// There are as many lines as receipts, but the line at this place is the first that isn't equal to exactly one receipt.
     #[error("line {place} is not one receipt")]
     Mismatch {
         /// The place in the journal, counted from 0.
