@@ -30,7 +30,7 @@ once_at b a e = let t = eq-eqb a b e in rw t refl
 never_at : (b a : ℕ) → (a ≡ b → ⊥) → times (op (record { 0 = b })) (record { 0 = a }) ≡ 0
 never_at b a ne = let t = ne_eqb a b ne in rw t refl
 
--- the list with so many more at its end
+-- the list with this many more at its end
 abbrev pub more : ℕ → PathId → List PathId → List PathId
 more n p ps = ps ++ replicate n p
 

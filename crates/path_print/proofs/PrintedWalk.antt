@@ -55,7 +55,7 @@ pub stops_at : {X Y : Type 0} (r : X → ℕ) (v : X → Y) (k : ℕ) (xs : List
 stops_at r v k [] e = record { shown = refl; left = refl }
 stops_at r v k (x ∷ xs) e = let t = by_none (r x == k) (v x) (here r v k xs) (after r k xs) (x ∷ xs) e in record { shown = t.0; left = t.1 }
 
--- what a look at a place tells
+-- what a look at an index says
 test_true : {Y : Type 0} (b : Bool) (z : Y) (ys : List Y) → b ≡ true → Some z ≡ slice_get (if b then z ∷ ys else []) 0
 test_true true z ys e = refl
 test_true false z ys e = absurd (cc)

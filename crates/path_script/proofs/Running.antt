@@ -12,7 +12,7 @@ use Rattle.path_script.specs.ScriptLines.{ScriptLine, begins, enters, uses, leav
 use Rattle.path_script.specs.ScriptTexts.{step_line, StepFits, opening_lines, plan_lines, script_lines, PlanFits, IsScript}
 use Rattle.path_script.specs.ScriptFaults.{Standing, between, within, Beginning, whole, part, beginning_lines, standing_of, IsBeginning}
 
--- so many processes have ended, with so many steps in all; inside a process, so many operations are entered
+-- how many processes have ended, with how many steps in all; inside a process, how many operations are entered
 pub data State : Type 0 where
   outside : ℕ → ℕ → State
   inside : ℕ → ℕ → ℕ → State

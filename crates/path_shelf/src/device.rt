@@ -22,7 +22,7 @@ pub enum ActFault {
 }
 
 /// A device behind a resource. It has a law, contents, which are numbers, and a count of its failures: contracts see
-/// these three as its `state`. No call allocates.
+/// these three as its `state`. No call may allocate.
 pub trait Device: Drop {
     ghost state: { Self → State };
 

@@ -83,7 +83,7 @@ module _ (old : PartsValue) (room : ℕ) (openings : List (List ℕ)) (journal :
         let l = length-append journal (line_of w attempt reply ∷ []) in
         omega (arith, k, l)
 
--- the parts before any attempt are what the empty journal tells
+-- the parts before any attempt agree with the empty journal
 pub true_opened : (parts : PartsValue) (d : Declaration) (room : ℕ) (states : List State) → AreOpened parts d room states → AreTrueTo parts room (contents_of states) []
 true_opened parts d room states o =
     let same : length parts.asked ≡ length d.resources = ap length o.fresh.unasked ∙ length-replicate (length d.resources) false in
