@@ -55,7 +55,7 @@ fn report<'a>(alloc: Global) -> Arg<'a> {
         .long("report")
         .action(ArgAction::SetTrue)
         .help(
-            "then writes what can start, what is blocked, what is live, and whether all is stuck",
+            "then writes what can start, what is blocked and what is live, and whether all is stuck",
         )
 }
 
@@ -70,9 +70,7 @@ fn check<'a>(alloc: Global) -> Result<Command<'a>, AllocError> {
 /// The command that compiles a declaration.
 fn compile<'a>(alloc: Global) -> Result<Command<'a>, AllocError> {
     Command::new(alloc, "compile")
-        .about(
-            "Prints the semaphores that a declaration is compiled to, before and after trimming",
-        )
+        .about("Prints the semaphores of a declaration's paths, before and after trimming")
         .after_help("See docs/translation.md for how to read them.")
         .arg(file(alloc, "DECL", "the file of the declaration"))
 }
