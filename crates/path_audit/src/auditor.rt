@@ -17,7 +17,7 @@ use thiserror::Error;
 /// The verdict of an audit.
 #[derive(Clone, Copy, Debug, PartialEq, Eq)]
 pub enum Verdict {
-    /// Each reply was owed by the lines before it.
+    /// Each reply was owed by the lines before it, and none is `NoRoom`.
     Sound,
     /// This line, counted from 0, is the first with which the journal isn't honest.
     WrongLine(u32),

@@ -79,8 +79,8 @@ fn tell_verdict<A: Allocator + Copy, O: Write, E: Write>(
 }
 
 /// Reads the text of a journal, replays it, and writes `sound` or `wrong line N`, where N, counted from 0, is the first line whose
-/// reply wasn't owed by the lines before it. The devices are the program's own: each cell and tally contains 0 at first, each queue
-/// is empty. If the text names the journal's room (version 2), that counts instead of `room`, which is 1 to
+/// reply wasn't owed by the lines before it or is `no room`. The devices are the program's own: each cell and tally contains 0 at
+/// first, each queue is empty. If the text names the journal's room (version 2), that counts instead of `room`, which is 1 to
 /// [`MOST_LINES`](path_model::MOST_LINES). Writes nothing before the whole text has been read.
 ///
 /// `Unsound`: a line is wrong. `TextRefused`: the text isn't a journal, or is too long. `CommandRefused`: the text names no room, and

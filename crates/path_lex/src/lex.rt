@@ -126,7 +126,7 @@ fn word_token(at: u32, text: &[u8]) -> Token<'_>
     Token::Name(at, name)
 }
 
-/// The tokens of a text, however long they are.
+/// The tokens of a text, with words and numbers of any length.
 fn cut<A: Allocator + Copy>(alloc: A, text: &[u8]) -> Result<Vec<Token<'_>, A>, DeclFault>
     requires { length text.now ≤ 65536 }
     ensures ok { IfOk result (λ v. Spells 0 text.now (views v.items)) }

@@ -98,9 +98,9 @@ fn unattempted<A: Allocator + Copy>(
 }
 
 impl<D: Device, A: Allocator + Copy> Parts<D, A> {
-    /// The parts before any attempt: the gate is at the empty history, nothing is live, no device has been asked. Allocates all
-    /// that will ever be needed. Fails with `WrongCount` or `WrongDevice` as a shelf does, or with `OutOfMemory` if allocation
-    /// fails; the devices then come back.
+    /// The parts before any attempt: the gate is at the empty history, nothing is live, no device has been asked. All
+    /// memory of the parts is allocated now. Fails with `WrongCount` or `WrongDevice` as a shelf does, or with `OutOfMemory` if
+    /// allocation fails; the devices then come back.
     pub fn open(
         alloc: A,
         decl: Decl<A>,

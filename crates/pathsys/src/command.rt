@@ -94,9 +94,7 @@ fn trace<'a>(alloc: Global) -> Result<Command<'a>, AllocError> {
 /// The command that audits a journal.
 fn audit<'a>(alloc: Global) -> Result<Command<'a>, AllocError> {
     Command::new(alloc, "audit")
-        .about(
-            "Says whether each reply of a journal was owed, or names the first line that was not",
-        )
+        .about("Says whether a journal is sound, or names its first wrong line")
         .after_help(
             "See docs/language.md for declarations, docs/journals.md for journals and audits.",
         )
