@@ -1,4 +1,4 @@
-//! From attempts, replies and lines of a journal to their texts.
+//! From attempts, replies and lines of a journal to their texts. The functions fail only if allocation fails.
 
 ghost use Rattle.std.specs.Prelude.{◌≡◌, ◌++◌, ◌∷◌, [], codes, decimal, IfOk, OnOk};
 ghost use Rattle.std.specs.String.{string_bytes};
@@ -10,7 +10,7 @@ use path_decl::{Decl, op_name};
 use path_model::{ActId, Attempt, Line, OpId, OutOfMemory, Reply, Verb};
 use std::alloc::Allocator;
 
-/// Appends a verb, with its number if it has one. Like all functions of this module, fails only if allocation fails.
+/// Appends a verb, with its number if it has one.
 fn push_verb<A: Allocator + Copy>(out: &mut String<A>, verb: Verb) -> Result<(), OutOfMemory>
     ensures { OnOk result (string_bytes out.new ≡ string_bytes out.old ++ verb_text verb) }
 {

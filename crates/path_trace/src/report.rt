@@ -1,4 +1,4 @@
-//! The text of a report.
+//! The text of a report. The functions fail only if allocation fails.
 
 ghost use Rattle.std.specs.Prelude.{◌≡◌, ◌++◌, ◌∷◌, [], codes, decimal, flat_map, OnOk};
 ghost use Rattle.path_trace.specs.ReportTexts.{operation_word, startable_line, blocked_line, live_line, frozen_line, report_text};
@@ -9,7 +9,7 @@ use path_model::{Activation, OpId, OutOfMemory, PathId};
 use path_system::Report;
 use std::alloc::Allocator;
 
-/// Appends a number in decimal. Like all functions of this module, fails only if allocation fails.
+/// Appends a number in decimal.
 fn push_number<A: Allocator + Copy>(text: &mut Vec<u8, A>, number: u64) -> Result<(), OutOfMemory>
     ensures { OnOk result (text.new.items ≡ text.old.items ++ decimal number) }
 {
