@@ -67,7 +67,7 @@ fn a_fault_that_cannot_be_told(rt: HostRuntime) {
     cannot_tell(&rt, rt.alloc(), &UNDECLARED);
 }
 
-// Whether request `number` was made and refused. If so, checks that the status says so and that nothing was written.
+// Whether request `number` was made and refused. Checks that the command then ends with NoMemory and writes nothing, else as its row says.
 fn is_refused_at(rt: &impl Abort, heap: Global, row: &Row, number: u64) -> bool {
     let refusing = Refusing::new(heap, number);
     let mut out = Vec::new(heap);

@@ -41,7 +41,7 @@ fn replaced<D: Device>(
     system.replace(ONLY, device)
 }
 
-// Why a device was refused, if it was, and the number in it.
+// Why a device was refused, if it was, and the number in it; else no refusal and `number`.
 fn refusal<D: Device>(
     answer: &Result<(), (ReplaceFault, D)>,
     number: Option<u64>,
