@@ -18,7 +18,7 @@ use std::{io, thread};
 
 const BOOK: &[u8] = b"resource book cell operation read, write path { read } , write end end";
 
-/// How many receipts there are, and the nanoseconds that all attempts and the settling took.
+/// The number of receipts, and the nanoseconds that all attempts and the settling took.
 #[derive(Clone, Copy)]
 pub struct Times {
     pub receipts: u64,
@@ -55,7 +55,7 @@ fn passes_of<L: Opening, S: Steps>(
     Ok(passes)
 }
 
-// Each pass in a thread of its own.
+// Reads with each pass in a thread of its own.
 fn all_read<L: Opening + Send + Sync, S: Steps + Send, R: Threads + Wait + Sync>(
     rt: &R,
     desk: &Desk<L, S>,
@@ -110,7 +110,7 @@ fn book(alloc: Global) -> Result<System<Cell>> {
     }
 }
 
-/// Times so many threads that read in so many rounds.
+/// Measures `threads` threads that read in `rounds` rounds.
 pub fn timed<R: Threads + Wait + Clock + Sync>(
     rt: &R,
     alloc: Global,

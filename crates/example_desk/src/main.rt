@@ -16,10 +16,10 @@ use std::sync::ledger::Blank;
 use std::thread;
 use std::thread::Threads;
 
-/// The bytes that were served. Any number of requests overlap.
+/// A tally of the bytes served. Any number of requests may overlap.
 const BYTES: &[u8] = b"resource bytes tally operation serve path { serve } end end";
 
-/// Starts a request, adds ten bytes and finishes it, a hundred times. A start that isn't admitted is left out.
+/// Starts a request, adds ten bytes and finishes it, a hundred times. A start that isn't admitted is skipped.
 fn serve<L: Opening, S: Steps, R: Wait>(rt: &R, desk: &Desk<L, S>, mut pass: Pass<L>) -> Pass<L> {
     for _ in 0..100 {
         if let Ok(answer) = desk.attempt(rt, &mut pass, Attempt::Start(OpId(0))) {
@@ -32,7 +32,7 @@ fn serve<L: Opening, S: Steps, R: Wait>(rt: &R, desk: &Desk<L, S>, mut pass: Pas
     pass
 }
 
-/// The system, once two workers have served and each line is the receipt of one of them.
+/// Lets two workers serve, and returns the system if each line is the receipt of one of them.
 fn served_by_two<L: Opening + Send + Sync, S: Steps + Send, R: Threads + Wait + Sync>(
     rt: &R,
     alloc: Global,
@@ -61,7 +61,7 @@ fn served_by_two<L: Opening + Send + Sync, S: Steps + Send, R: Threads + Wait + 
     }
 }
 
-/// A system over a tally that stands at 0, with room for a thousand lines.
+/// A system over a tally that contains 0, with room for a thousand lines.
 fn opened(alloc: Global) -> Result<System<Tally>> {
     let decl = read(alloc, BYTES)?;
     let mut devices = Vec::new(alloc);

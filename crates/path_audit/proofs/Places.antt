@@ -1,4 +1,4 @@
--- The live activations stand at the places of their numbers.
+-- The live activations are at the indices of their numbers.
 use Rattle.std.proofs.Common.{◌≡◌, ℕ, ◌+◌, ◌<◌, ◌≤◌, suc, zero, List, [], ◌∷◌, ◌++◌, length, get_or, arith, refl, ap, sym, ◌∙◌, Option, Some, None, ne_eqb, eq-eqb, inl, inr}
 use Rattle.std.proofs.Math.ListN.{set}
 use Rattle.std.specs.Prelude.{◌==◌, true, false, is_some}

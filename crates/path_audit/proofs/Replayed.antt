@@ -48,7 +48,7 @@ opened_is d replay room openings counted o = record {
   contents = λ r within. ap (λ c. get_or c r []) (sym o.contents);
 }
 
--- a reply that is told where another is owed
+-- the owed reply and that of a line are equal if they agree on whether the device failed
 told_apart : (owed told : Reply) → IsLike (says_failed told) owed → AreSame owed told → owed ≡ told
 told_apart owed told like (inl same) = same
 told_apart owed told like (inr (inl (x, used, failed))) = absurd (let no = like.used x used in let yes = ap says_failed failed in cc)
@@ -145,7 +145,7 @@ module _ (d : Declaration) (room : ℕ) (openings : List (List ℕ)) (lines : Li
   wrong_exactly Sound honest n = (λ e. absurd (cc), λ w. absurd (w.wrong (honest_take (n + 1) honest)))
   wrong_exactly (WrongLine m) v n = (λ e. (let same : m ≡ n = cc in subst (IsFirstWrong d room openings lines) same v), λ w. ap WrongLine (one_first m n v w))
 
--- where memory is wanting, that is the fault
+-- if allocation fails, that is the fault
 pub wanting_fault : (r : Result Verdict AuditFault) (P : AuditFault → Type 0) → IsErr r × IsErrAnd r (λ fault. fault ≡ OutOfMemory) → P OutOfMemory → IfErr r P
 wanting_fault (Ok v) P is wanting = tt
 wanting_fault (Err f) P is wanting = subst P (sym is.1) wanting

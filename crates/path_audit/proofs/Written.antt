@@ -1,4 +1,4 @@
--- With one more line the replay is what the journal tells.
+-- With one more line the replay agrees with the journal.
 use Rattle.std.proofs.Common.{◌≡◌, ◌≢◌, ℕ, ◌<◌, Bool, true, false, cond, List, [], ◌∷◌, ◌++◌, All, length, get_or, arith, refl, ap, sym, subst, ◌∙◌, Option, Some, None, inl, inr, eq-eqb, ne_eqb}
 use Rattle.std.specs.Prelude.{◌==◌, not}
 use Rattle.std.proofs.Math.ListN.{set}
@@ -128,7 +128,7 @@ module _ (d : Declaration) (lawful : Lawful d) (old : ReplayValue) (room : ℕ) 
         contents = λ r within. contents_more d openings journal line r ∙ s.contents r within ∙ ap (λ c. get_or c r []) (sym m.contents);
       }
 
-  -- a use changes the contents of one resource, as the line tells
+  -- a use changes the contents of one resource, as the line says
   now_used : (w : ℕ) (n : ActId) (verb : Verb) (reply : Reply) (r : ℕ) (left : List ℕ) → r < length d.resources
       → line_applied d r journal (Apply n verb) reply (contents_after d openings journal r) ≡ left
       → ((q : ℕ) → q ≢ r → line_applied d q journal (Apply n verb) reply (contents_after d openings journal q) ≡ contents_after d openings journal q)
@@ -261,7 +261,7 @@ module _ (d : Declaration) (lawful : Lawful d) (old : ReplayValue) (room : ℕ) 
           (honest_more d room openings journal (line_of w attempt reply) s.honest (owed_is d lawful old room openings journal s w attempt fails reply new answers) some)
       go false is = absurd (some ((answers.outside is).0))
 
--- the replay says that the device failed exactly where the line does
+-- the replay says that the device failed exactly when the line does
 pub record IsLike (fails : Bool) (reply : Reply) : Type 0 where
   pub used : (x : ℕ) → reply ≡ Used x → fails ≡ false
   pub failed : reply ≡ DeviceFailed → fails ≡ true

@@ -1,4 +1,4 @@
--- What a law answers, and what a verb leaves.
+-- What a law answers to a verb, and what the verb leaves.
 use Rattle.std.specs.Prelude.{◌≡◌, ℕ, List, Bool, true, false, Result, Ok, Err}
 use Rattle.path_model.specs.declared.journal.Reply.{Reply}
 use Rattle.path_model.specs.declared.journal.Reply.TheVariants.{Used, DeviceFailed}
@@ -9,7 +9,7 @@ abbrev pub IsAnswer : Outcome → Result ℕ Reply → Type 0
 IsAnswer (serves x rest) result = result ≡ Ok x
 IsAnswer (refuses r) result = result ≡ Err r
 
--- a resource answers with this reply to the outcome of its law, and its contents go from `before` to `left`; a device may fail where
+-- a resource gives this reply for the outcome of its law, and its contents go from `before` to `left`; the device may fail although
 -- the law would serve
 abbrev pub Acts : Outcome → Bool → Reply → List ℕ → List ℕ → Type 0
 Acts (serves x rest) false reply before left = (reply ≡ Used x) × (left ≡ rest)

@@ -1,4 +1,4 @@
--- The replay of a journal: what one line does to it, and when it is what a journal tells.
+-- The replay of a journal: what one line does to it, and when it agrees with a journal.
 use Rattle.std.specs.Prelude.{◌≡◌, ◌≢◌, ◌==◌, ◌||◌, ◌+◌, ◌<◌, ◌≤◌, nat_le, ℕ, Bool, true, false, List, [], ◌∷◌, ◌++◌}
 use Rattle.std.specs.Prelude.{All, length, slice_index_or, slice_index, slice_set, Option, Some, None}
 use Rattle.path_model.specs.declared.ids.OpId.{OpId}
@@ -34,7 +34,7 @@ pub record ReplayValue : Type 0 where
 abbrev pub held_at : ReplayValue → ℕ → List ℕ
 held_at replay r = slice_index_or replay.contents r []
 
--- the start of a is admitted with the number n
+-- the start of a is admitted and gets the number n
 pub record IsStarted (d : Declaration) (old : ReplayValue) (w : ℕ) (a : OpId) (n : ActId) (new : ReplayValue) : Type 0 where
   pub declared : a.0 < length d.operations
   pub admits :
@@ -52,7 +52,7 @@ pub record IsBlocked (d : Declaration) (old : ReplayValue) (a : OpId) (p : PathI
       (h : List Event) → legal.Legal old.standing.paths h → IsAt old.standing h
       → legal.First (legal.Forbids h a) old.standing.paths p.0
 
--- a start of a leads from one replay to another with this reply
+-- a start of a takes one replay to another with this reply
 abbrev pub MovesStart : Declaration → ReplayValue → ℕ → OpId → Reply → ReplayValue → Type 0
 MovesStart d old w a (Started n) new = IsStarted d old w a n new
 MovesStart d old w a (Blocked p) new = IsBlocked d old a p × (new ≡ old)
@@ -68,7 +68,7 @@ pub record IsUse (d : Declaration) (old : ReplayValue) (a : Activation) (verb : 
       (held_at old (resource_of d a.op.0)) left
   pub others : new ≡ record old { contents = slice_set old.contents (resource_of d a.op.0) left }
 
--- a use of the activation, if it is live, leads from one replay to another with this reply
+-- a use of the activation, if it is live, takes one replay to another with this reply
 abbrev pub MovesUse : Declaration → ReplayValue → ℕ → Verb → Bool → Option Activation → Reply → ReplayValue → Type 0
 MovesUse d old w verb fails None reply new = (reply ≡ Stale) × (new ≡ old)
 MovesUse d old w verb fails (Some a) reply new =
@@ -81,18 +81,18 @@ pub record IsOver (old : ReplayValue) (n : ActId) (a : Activation) (reply : Repl
   pub register : new.register ≡ record old.register { live = without n old.register.live }
   pub contents : new.contents ≡ old.contents
 
--- a finish of the activation of the number n, if it is live, leads from one replay to another with this reply
+-- a finish of the activation numbered n, if it is live, takes one replay to another with this reply
 abbrev pub MovesFinish : ReplayValue → ℕ → ActId → Option Activation → Reply → ReplayValue → Type 0
 MovesFinish old w n None reply new = (reply ≡ Stale) × (new ≡ old)
 MovesFinish old w n (Some a) reply new = (a.worker ≢ w → (reply ≡ NotYours) × (new ≡ old)) × (a.worker ≡ w → IsOver old n a reply new)
 
--- one attempt for which there is room leads from one replay to another with this reply
+-- one attempt for which there is room takes one replay to another with this reply
 abbrev pub Moves : Declaration → ReplayValue → ℕ → Attempt → Bool → Reply → ReplayValue → Type 0
 Moves d old w (Start a) fails reply new = MovesStart d old w a reply new
 Moves d old w (Apply n verb) fails reply new = MovesUse d old w verb fails (activation_of n old.register.live) reply new
 Moves d old w (Finish n) fails reply new = MovesFinish old w n (activation_of n old.register.live) reply new
 
--- the places that the attempt wants: its own, and for a start that of its finish
+-- the places that the attempt needs: its own, and for a start also that of its finish
 abbrev pub wanted_places : Attempt → ℕ
 wanted_places (Start a) = 2
 wanted_places (Apply n verb) = 1
@@ -103,17 +103,17 @@ abbrev pub is_own_of : ℕ → Option Activation → Bool
 is_own_of w None = false
 is_own_of w (Some a) = a.worker == w
 
--- a finish of the worker's own live activation, which has its place since its start
+-- whether the attempt finishes the worker's own live activation, whose place is kept since its start
 abbrev pub has_place : List Activation → ℕ → Attempt → Bool
 has_place activations w (Finish n) = is_own_of w (activation_of n activations)
 has_place activations w attempt = false
 
--- whether the attempt finds room after so many lines
+-- whether there is room for the attempt after this number of lines
 abbrev pub has_room : ℕ → ℕ → List Activation → ℕ → Attempt → Bool
 has_room room lines activations w attempt =
     nat_le (lines + length activations + wanted_places attempt) room || has_place activations w attempt
 
--- the replay moves where there is room, and else stays; the device fails where that is told
+-- the replay moves if there is room, and stays as it was if not; the device fails if `fails` says so
 pub record Answers (d : Declaration) (old : ReplayValue) (room lines w : ℕ) (attempt : Attempt) (fails : Bool) (reply : Reply)
     (new : ReplayValue) : Type 0 where
   pub inside : has_room room lines old.register.live w attempt ≡ true → Moves d old w attempt fails reply new
@@ -124,7 +124,7 @@ abbrev pub says_failed : Reply → Bool
 says_failed DeviceFailed = true
 says_failed reply = false
 
--- the replay fits the declaration: what is live was declared, and is in progress where paths name it
+-- the replay fits the declaration: what is live was declared, and is in progress if a path names it
 pub record AreReady (d : Declaration) (replay : ReplayValue) : Type 0 where
   pub contents : length replay.contents ≡ length d.resources
   pub declared : (n : ActId) (a : Activation) → activation_of n replay.register.live ≡ Some a → a.op.0 < length d.operations
@@ -132,7 +132,7 @@ pub record AreReady (d : Declaration) (replay : ReplayValue) : Type 0 where
       (n : ActId) (a : Activation) → activation_of n replay.register.live ≡ Some a → IsNamed replay.standing.paths a.op
       → 0 < slice_index replay.standing.in_progress a.op.0
 
--- the replay is what an honest journal tells
+-- the replay agrees with an honest journal
 pub record IsReplayOf (replay : ReplayValue) (d : Declaration) (room : ℕ) (openings : List (List ℕ)) (journal : List Line) : Type 0 where
   pub honest : IsHonest d room openings journal
   pub paths : replay.standing.paths ≡ paths_of d

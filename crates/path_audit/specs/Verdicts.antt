@@ -1,4 +1,4 @@
--- What an audit answers.
+-- What an audit finds.
 use Rattle.std.specs.Prelude.{◌≡◌, ◌≢◌, ◌⊎◌, ◌+◌, ◌<◌, ◌≤◌, ℕ, List, [], length, take, slice_index_or}
 use Rattle.path_model.specs.declared.journal.TheConstants.{MOST_LINES}
 use Rattle.path_model.specs.declared.journal.Line.{Line}
@@ -16,16 +16,16 @@ pub record IsFirstWrong (d : Declaration) (room : ℕ) (openings : List (List �
   pub honest : IsHonest d room openings (take n lines)
   pub wrong : IsHonest d room openings (take (n + 1) lines) → ⊥
 
--- the lines are an honest journal, or this is the first that makes them none
+-- the lines are an honest journal, or this is the first line with which they aren't
 abbrev pub IsVerdict : Declaration → ℕ → List (List ℕ) → List Line → Verdict → Type 0
 IsVerdict d room openings lines Sound = IsHonest d room openings lines
 IsVerdict d room openings lines (WrongLine n) = IsFirstWrong d room openings lines n
 
--- a journal may have so much room
+-- a journal may have this room
 abbrev pub IsRoom : ℕ → Type 0
 IsRoom room = (1 ≤ room) × (room ≤ MOST_LINES)
 
--- what is listed for the resource r fits its law
+-- the list for resource r fits its law
 abbrev pub FitsAt : Declaration → List (List ℕ) → ℕ → Type 0
 FitsAt d openings r = Fits (law_of d r) (slice_index_or openings r [])
 
@@ -39,14 +39,14 @@ pub record IsFirstMisfit (d : Declaration) (openings : List (List ℕ)) (r : ℕ
 abbrev pub AllFit : Declaration → List (List ℕ) → Type 0
 AllFit d openings = (r : ℕ) → r < length d.resources → FitsAt d openings r
 
--- a journal of this room that opened so can be audited
+-- a journal of this room and with these openings can be audited
 pub record IsAuditable (d : Declaration) (room : ℕ) (openings : List (List ℕ)) : Type 0 where
   pub in_range : IsRoom room
   pub counted : length openings ≡ length d.resources
   pub fit : AllFit d openings
 
--- the room is another; or there isn't one opening for each resource; or one doesn't fit; the first that applies. Only for want of memory
--- a journal isn't audited that could be.
+-- the first that applies: the room is out of range; the number of openings is wrong; an opening doesn't fit. OutOfMemory comes only
+-- if none of these does
 abbrev pub IsAuditFault : Declaration → ℕ → List (List ℕ) → AuditFault → Type 0
 IsAuditFault d room openings BadRoom = (room ≡ 0) ⊎ (MOST_LINES < room)
 IsAuditFault d room openings WrongCount = IsRoom room × (length openings ≢ length d.resources)

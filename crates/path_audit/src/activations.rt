@@ -8,17 +8,17 @@ use path_model::{ActId, Activation, OpId, OutOfMemory};
 use std::alloc::{Allocator, Global};
 use std::marker::Model;
 
-/// Who started what.
+/// The worker and the operation of an activation.
 #[derive(Clone, Copy)]
 struct Owner {
     worker: u32,
     op: OpId,
 }
 
-/// The activations that were begun. Contracts see those that are live, in order of start, and how many were begun.
+/// The activations that were begun. Contracts see the live ones, in the order of their starts, and how many were begun.
 #[derive(Drop)]
 pub struct Activations<A: Allocator + Copy = Global> {
-    /// Each activation at the place of its number; `None` where it is over.
+    /// Each activation at the index that is its number; `None` if it is over.
     begun: Vec<Option<Owner>, A>,
     /// How many are live.
     live: usize,
@@ -47,14 +47,14 @@ impl<A: Allocator + Copy> Activations<A> {
         }
     }
 
-    /// How many are live. Takes the same time however many.
+    /// How many are live. Takes constant time.
     pub fn live(&self) -> usize
         ensures { result ≡ length self.now.live }
     {
         self.live
     }
 
-    /// The live activation of this number, if there is one. A look-up by number.
+    /// The live activation of this number, if there is one. Looks it up by number.
     pub fn find(&self, act: ActId) -> Option<Activation>
         ensures { result ≡ activation_of act self.now.live }
     {
@@ -70,8 +70,8 @@ impl<A: Allocator + Copy> Activations<A> {
         })
     }
 
-    /// Appends an activation of this worker and operation. Its number, which is answered, is how many were begun before it. The only
-    /// error is want of memory.
+    /// Appends an activation of this worker and operation, and returns its number: how many were begun before it. Fails only if
+    /// allocation fails.
     pub fn begin(&mut self, worker: u32, op: OpId) -> Result<ActId, OutOfMemory>
         ensures number { IfOk result (λ n. n.0 ≡ self.old.begun) }
         ensures appended { IfOk result (λ n. self.new ≡ registered self.old (record { act = n; worker = worker; op = op })) }
@@ -82,7 +82,7 @@ impl<A: Allocator + Copy> Activations<A> {
         Ok(act)
     }
 
-    /// Ends the live activation of this number, if there is one. A look-up by number: none of the others moves.
+    /// Ends the live activation of this number, if there is one. Looks it up by number: no other activation moves.
     pub fn end(&mut self, act: ActId)
         ensures { self.new ≡ record self.old { live = without act self.old.live } }
     {

@@ -14,12 +14,12 @@ use path_model::{Law, Line, MOST_LINES, OutOfMemory, Reply, ResId};
 use std::alloc::Allocator;
 use thiserror::Error;
 
-/// What an audit finds.
+/// The verdict of an audit.
 #[derive(Clone, Copy, Debug, PartialEq, Eq)]
 pub enum Verdict {
-    /// Each reply was owed by the lines before it.
+    /// Each reply was owed by the lines before it, and none is `NoRoom`.
     Sound,
-    /// This line, counted from 0, is the first that makes the journal wrong.
+    /// This line, counted from 0, is the first with which the journal isn't honest.
     WrongLine(u32),
 }
 
@@ -29,13 +29,13 @@ pub enum AuditFault {
     /// The room is 0 or above 1,048,576 lines.
     #[error("bad room")]
     BadRoom,
-    /// There isn't one opening for each resource.
+    /// The number of openings isn't the number of resources.
     #[error("wrong count")]
     WrongCount,
     /// This resource is the first whose opening doesn't fit its law.
     #[error("bad opening {}", .0.0)]
     BadOpening(ResId),
-    /// A growth of memory was refused.
+    /// An allocation failed.
     #[error("out of memory")]
     OutOfMemory,
 }
@@ -58,7 +58,7 @@ fn fits<A: Allocator + Copy>(law: Law, numbers: &Vec<u64, A>) -> bool
     }
 }
 
-/// The first resource whose opening doesn't fit its law, if there is one.
+/// The first resource whose opening doesn't fit its law, if there is one. There is one opening for each resource.
 fn first_misfit<A: Allocator + Copy>(decl: &Decl<A>, openings: &[Vec<u64, A>]) -> Option<ResId>
     requires { length openings.now ≡ length decl.now.declaration.resources }
     ensures { MatchOption result (AllFit decl.now.declaration (map (λ opening. opening.items) openings.now))
@@ -73,14 +73,14 @@ fn first_misfit<A: Allocator + Copy>(decl: &Decl<A>, openings: &[Vec<u64, A>]) -
     None
 }
 
-/// Whether the reply that is owed is the one that a line tells. No line tells of want of room.
+/// Whether a line has the reply that is owed. `NoRoom` never counts as right in a line.
 fn is_told(owed: Reply, told: Reply) -> bool
     ensures { IsTrue result ↔ ((owed ≡ told) × (told ≢ replies.NoRoom)) }
 {
     owed == told && !matches!(told, Reply::NoRoom)
 }
 
-/// Replays the lines, as far as they are honest.
+/// Replays the lines as far as they are honest. Fails only if allocation fails.
 fn replayed<A: Allocator + Copy>(
     alloc: A,
     decl: &Decl<A>,
@@ -102,17 +102,17 @@ fn replayed<A: Allocator + Copy>(
     Ok(Verdict::Sound)
 }
 
-/// Whether these lines are an honest journal of a system with so much room, 1 to [`MOST_LINES`], whose resources opened with these
-/// contents, one list for each resource. They are `Sound` exactly where each reply was owed by the lines before it; `WrongLine(n)`
-/// exactly where line n, counted from 0, is the first that wasn't. A line that tells of want of room is always wrong; a device may be
-/// said to have failed wherever its law would have served, and then has served nothing.
+/// Whether these lines are an honest journal of a system with this room, 1 to [`MOST_LINES`], whose resources opened with these
+/// contents, one list for each resource. `Sound` if and only if each reply was owed by the lines before it and none is `NoRoom`;
+/// `WrongLine(n)` if and only if line n, counted from 0, is the first with which they aren't honest. `DeviceFailed` is right in a line
+/// wherever the device's law would have served, and then nothing was served.
 ///
-/// It is `BadRoom` where the room is another, else `WrongCount` where there isn't one opening for each resource, else
-/// `BadOpening(r)` where r is the first resource whose opening doesn't fit its law: one number for a cell or a tally, at most as many as
-/// its capacity for a queue. The last error is want of memory.
+/// Fails with `BadRoom` if the room is outside that range, else with `WrongCount` if there isn't one opening for each resource, else
+/// with `BadOpening(r)` if r is the first resource whose opening doesn't fit its law: one number for a cell or a tally, at most as many
+/// as its capacity for a queue. Else fails only if allocation fails.
 ///
-/// No system and no device is asked. The lines are read once, and each costs what it cost the system: the look at the paths of its
-/// operation for a start or a finish, and a look-up by number for a use.
+/// Asks no system and no device. Reads the lines once, and each costs what it cost the system: a look at the paths of its operation
+/// for a start or a finish, and a look-up by number for a use.
 pub fn audit<A: Allocator + Copy>(
     alloc: A,
     decl: &Decl<A>,

@@ -1,4 +1,4 @@
-//! What a resource contains, and what its law does with it.
+//! What a resource contains, and how its law changes that.
 
 ghost use Rattle.std.specs.Prelude.{◌≡◌, [], ◌∷◌, IfOk, OnOk, slice_index};
 ghost use Rattle.path_model.specs.declared.resource.Law.TheVariants as laws;
@@ -12,14 +12,14 @@ use std::collections::VecDeque;
 /// The numbers that a resource contains, in order.
 pub type Contents<A> = VecDeque<u64, A>;
 
-/// The first number; 0 where there is none.
+/// The first number; 0 if there is none.
 fn first<A: Allocator + Copy>(held: &Contents<A>) -> u64
     ensures { result ≡ slice_index held.now.items 0 }
 {
     held.front().copied().unwrap_or(0)
 }
 
-/// What a cell answers.
+/// A cell's answer.
 fn cell_answer<A: Allocator + Copy>(verb: Verb, held: &Contents<A>) -> Result<u64, Reply>
     ensures { IsAnswer (outcome_of laws.Cell verb held.now.items) result }
 {
@@ -29,7 +29,7 @@ fn cell_answer<A: Allocator + Copy>(verb: Verb, held: &Contents<A>) -> Result<u6
     }
 }
 
-/// What a tally answers.
+/// A tally's answer.
 fn tally_answer<A: Allocator + Copy>(verb: Verb, held: &Contents<A>) -> Result<u64, Reply>
     ensures { IsAnswer (outcome_of laws.Tally verb held.now.items) result }
 {
@@ -40,7 +40,7 @@ fn tally_answer<A: Allocator + Copy>(verb: Verb, held: &Contents<A>) -> Result<u
     }
 }
 
-/// What a queue of this capacity answers.
+/// The answer of a queue of this capacity.
 fn queue_answer<A: Allocator + Copy>(
     capacity: u32,
     verb: Verb,
@@ -60,7 +60,7 @@ fn queue_answer<A: Allocator + Copy>(
     }
 }
 
-/// The number with which a law serves a verb, or its refusal.
+/// The number with which the law serves the verb, or its refusal.
 fn answer<A: Allocator + Copy>(law: Law, verb: Verb, held: &Contents<A>) -> Result<u64, Reply>
     ensures { IsAnswer (outcome_of law verb held.now.items) result }
 {
@@ -71,7 +71,7 @@ fn answer<A: Allocator + Copy>(law: Law, verb: Verb, held: &Contents<A>) -> Resu
     }
 }
 
-/// Puts a number in the place of all that is contained.
+/// Replaces all contents by this number.
 fn put_alone<A: Allocator + Copy>(number: u64, held: &mut Contents<A>) -> Result<(), OutOfMemory>
     ensures { OnOk result (held.new.items ≡ number ∷ []) }
 {
@@ -102,7 +102,7 @@ fn change_queue<A: Allocator + Copy>(
     Ok(())
 }
 
-/// Changes contents as a law says. A verb that it refuses changes nothing.
+/// Changes the contents as the law says. A refused verb changes nothing.
 fn change<A: Allocator + Copy>(
     law: Law,
     verb: Verb,
@@ -121,8 +121,8 @@ fn change<A: Allocator + Copy>(
     }
 }
 
-/// The reply of a resource of this law to a verb, which changes its contents. A device that fails where its law would serve says so,
-/// and leaves them.
+/// The reply of a resource of this law to a verb; changes its contents. If `fails` is set and the law would serve, the reply is
+/// `DeviceFailed` and the contents stay. Fails only if allocation fails.
 pub fn act_on<A: Allocator + Copy>(
     law: Law,
     verb: Verb,

@@ -1,6 +1,6 @@
-//! The audit of a journal: whether each of its replies was owed by the lines before it.
+//! The audit of a journal: whether each of its replies was owed by the lines before it, and none is `NoRoom`.
 //!
-//! The journal is replayed line by line, with semaphores, activations and contents of the audit's own. No system is asked, and no
+//! The audit replays the journal line by line, with semaphores, activations and contents of its own. It asks no system and no
 //! device.
 #![tactic(auto)]
 

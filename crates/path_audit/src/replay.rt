@@ -1,4 +1,4 @@
-//! The replay of a journal: what its lines so far have led to.
+//! The replay of a journal: the state after the lines so far.
 
 ghost use Rattle.std.specs.Prelude.{◌≡◌, ◌+◌, ◌<◌, ◌≤◌, length, IfOk, map};
 ghost use Rattle.path_model.specs.Declarations as declarations;
@@ -37,7 +37,7 @@ impl<A: Allocator + Copy> Model for Replay<A> {
     ghost view = { λ r. record { standing = r.gate; register = r.activations; contents = map (λ held. held.items) r.contents.items } };
 }
 
-/// The semaphores of a declaration, without those that are useless.
+/// The semaphores of a declaration, without the useless ones. Fails only if allocation fails.
 fn trimmed<A: Allocator + Copy>(alloc: A, decl: &Decl<A>) -> Result<Lean<A>, OutOfMemory>
     ensures { IfOk result (λ lean. lean.trees ≡ declarations.trees decl.now.declaration) }
 {
@@ -48,7 +48,7 @@ fn trimmed<A: Allocator + Copy>(alloc: A, decl: &Decl<A>) -> Result<Lean<A>, Out
     }
 }
 
-/// The contents that each opening lists.
+/// A copy of the contents that each opening lists. Fails only if allocation fails.
 fn opened<A: Allocator + Copy>(
     alloc: A,
     openings: &[Vec<u64, A>],
@@ -79,7 +79,7 @@ pub fn law_at<A: Allocator + Copy>(decl: &Decl<A>, resource: ResId) -> Law
 }
 
 impl<A: Allocator + Copy> Replay<A> {
-    /// The replay of no lines, in which the resources contain what the openings list. The only error is want of memory.
+    /// The replay of no lines, in which the resources contain what the openings list. Fails only if allocation fails.
     pub fn open(
         alloc: A,
         decl: &Decl<A>,
@@ -96,7 +96,7 @@ impl<A: Allocator + Copy> Replay<A> {
         })
     }
 
-    /// A start, which there is room for.
+    /// Replays a start. The caller has checked that there is room.
     fn start(&mut self, decl: &Decl<A>, worker: u32, op: OpId) -> Result<Reply, OutOfMemory>
         requires { self.old.standing.admitted < 4294967295 }
         ensures { IfOk result (λ reply. MovesStart decl.now.declaration self.old worker op reply self.new) }
@@ -110,7 +110,7 @@ impl<A: Allocator + Copy> Replay<A> {
         }
     }
 
-    /// A use, which there is room for.
+    /// Replays a use. The caller has checked that there is room.
     fn apply(
         &mut self,
         decl: &Decl<A>,
@@ -138,7 +138,7 @@ impl<A: Allocator + Copy> Replay<A> {
         }
     }
 
-    /// A finish, which there is room for or which needs none.
+    /// Replays a finish. The caller has checked that there is room, or that none is needed.
     fn finish(&mut self, decl: &Decl<A>, worker: u32, act: ActId) -> Reply
         requires { AreReady decl.now.declaration self.old }
         ensures { MovesFinish self.old worker act (activation_of act self.old.register.live) result self.new }
@@ -156,10 +156,10 @@ impl<A: Allocator + Copy> Replay<A> {
         }
     }
 
-    /// Replays the attempt of a line after so many lines, in a journal of this room, and answers the reply that is owed to it. A
-    /// device fails exactly where the line says so and its law would serve.
+    /// Replays the attempt of a line after `lines` lines, in a journal of this room, and returns the reply that is owed to it. The
+    /// device fails exactly when the line says so and its law would serve.
     ///
-    /// The only error is want of memory. The cost is that of the gate for a start or a finish, and of a look-up for a use.
+    /// Fails only if allocation fails. The cost is that of the gate for a start or a finish, and of a look-up for a use.
     pub fn answer(
         &mut self,
         decl: &Decl<A>,

@@ -1,4 +1,4 @@
--- The text of paths, as that of their codes.
+-- The text of paths is the text of their codes.
 use Rattle.std.proofs.Common.{◌≡◌, ◌+◌, ℕ, List, [], ◌∷◌, ◌++◌, refl, ap, ◌∙◌}
 use Rattle.path_model.specs.Flat.{Sited}
 use Rattle.path_model.specs.Declarations.{Declaration, Path}

@@ -1,4 +1,4 @@
--- What a Code shows, and what it keeps beside that.
+-- What contracts see of a Code, and what it keeps besides.
 use Rattle.std.specs.Prelude.{◌≡◌}
 use Rattle.path_code.specs.declared.code.Code.TheInside.{Inside}
 use Rattle.path_code.specs.Known.{KnownCode}

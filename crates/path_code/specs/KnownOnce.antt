@@ -1,4 +1,4 @@
--- That paths are lawful is shown in one way at most.
+-- There is at most one proof that paths are lawful.
 use Rattle.std.specs.Coded.{×_prop, Π_prop, Unit-prop, le_prop}
 use Rattle.std.specs.Prelude.{ℕ, List, [], ◌∷◌}
 use mathlib.Core.HLevel.{⊥_prop, ¬_prop}

@@ -9,12 +9,12 @@ use Rattle.path_code.specs.declared.terms.Epilogue.TheVariants.{V, VV, VVN}
 use Rattle.path_code.specs.declared.terms.OpCode.{OpCode}
 use Rattle.path_code.specs.PathCodes.{semaphores_of, braces_of, ops_of, sites}
 
--- a name, or `#` and a number where there is none
+-- a name, or `#` and a number if there is none
 abbrev pub name_or_number : Option (List ℕ) → ℕ → List ℕ
 name_or_number (Some name) n = name
 name_or_number None n = 35 ∷ decimal n
 
--- an operation and a resource, by their names where the declaration has them
+-- an operation, and a resource, by the name if the declaration has it
 abbrev pub operation_text : Declaration → ℕ → List ℕ
 operation_text d n = name_or_number (slice_get (map (λ o. o.name) d.operations) n) n
 
@@ -32,7 +32,7 @@ signal_text q = codes "V(s" ++ (decimal q ++ codes ")")
 abbrev pub pair_text : ℕ → List ℕ
 pair_text c = codes "c" ++ (decimal c ++ (codes ",m" ++ (decimal c ++ codes ",")))
 
--- what stands before an operation, and what stands after it
+-- the prologue and the epilogue of an operation
 abbrev pub prologue_text : Prologue → List ℕ
 prologue_text (P q) = wait_text q
 prologue_text (PP c q) = codes "PP(" ++ (pair_text c ++ (wait_text q ++ codes ")"))
@@ -59,7 +59,7 @@ mutex_line m = codes "m" ++ (decimal m ++ codes " = 1")
 abbrev pub op_line : Declaration → OpCode → List ℕ
 op_line d o = operation_text d o.op.0 ++ (codes ": " ++ (prologue_text o.prologue ++ (codes " | " ++ epilogue_text o.epilogue)))
 
--- lines, each with a line feed at its end
+-- lines, each ended by a line feed
 abbrev pub lines_text : List (List ℕ) → List ℕ
 lines_text [] = []
 lines_text (l ∷ ls) = l ++ (10 ∷ lines_text ls)
@@ -73,7 +73,7 @@ parts_text d n r semaphores braces ops =
 abbrev pub path_text : Declaration → ℕ → Path → Sited → List ℕ
 path_text d n p x = parts_text d n p.resource (semaphores_of x) (braces_of x) (ops_of x)
 
--- the text of paths from the number n on
+-- the text of the paths from number n on
 abbrev pub paths_text : Declaration → ℕ → List Path → List (ℕ × Sited) → List ℕ
 paths_text d n [] xs = []
 paths_text d n (p ∷ ps) [] = []

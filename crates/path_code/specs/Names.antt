@@ -1,4 +1,4 @@
--- The names of a tree, in the order of their places.
+-- The names of a tree, from left to right.
 use Rattle.std.specs.Prelude.{List, [], ◌∷◌, ◌++◌}
 use Rattle.path_model.specs.declared.ids.OpId.{OpId}
 use Rattle.path_model.specs.Trees.{Tree, op, seq, alt, burst}

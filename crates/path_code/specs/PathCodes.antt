@@ -1,4 +1,4 @@
--- What a path is compiled to: its semaphores, its braces, and what stands before and after each of its operations.
+-- The code of a path: its semaphores, its braces, and the prologue and epilogue of each of its operations.
 use Rattle.std.specs.Prelude.{◌≡◌, ◌+◌, ℕ, zero, suc, List, [], ◌∷◌, ◌++◌, map, replicate}
 use Rattle.path_model.specs.declared.ids.OpId.{OpId}
 use Rattle.path_model.specs.Trees.{any, most, Tree, op, seq, alt, burst, shape}
@@ -11,7 +11,7 @@ use Rattle.path_code.specs.declared.code.PathCode.{PathCode}
 use Rattle.path_code.specs.Names.{names_in}
 use Rattle.path_code.specs.Terms.{prologue_at, epilogue_at}
 
--- the bounds of a tree's braces, by the place of their opening brace
+-- the bounds of a tree's braces, in the order of their opening braces
 abbrev pub bounds_in : Tree → List ℕ
 bounds_in (op a) = []
 bounds_in (seq s t) = bounds_in s ++ bounds_in t
@@ -19,7 +19,7 @@ bounds_in (alt s t) = bounds_in s ++ bounds_in t
 bounds_in (burst any s) = bounds_in s
 bounds_in (burst (most n) s) = n ∷ bounds_in s
 
--- these values, each with its number, from n on
+-- these values, each with its number; the first number is n
 abbrev pub numbered_values : ℕ → List ℕ → List (ℕ × ℕ)
 numbered_values n [] = []
 numbered_values n (v ∷ vs) = (n, v) ∷ numbered_values (n + 1) vs
@@ -29,7 +29,7 @@ abbrev pub numbers_from : ℕ → ℕ → List ℕ
 numbers_from n zero = []
 numbers_from n (suc k) = n ∷ numbers_from (n + 1) k
 
--- the values at which a path's semaphores open: its own, one for each semicolon, one for each bound
+-- the opening values of a path's semaphores: its own, one for each semicolon, one for each bound
 abbrev pub opening_values : Tree → List ℕ
 opening_values s = 1 ∷ (replicate (semicolons s) 0 ++ bounds_in s)
 
@@ -41,7 +41,7 @@ semaphores_of x = numbered_values x.own (opening_values x.tree)
 abbrev pub braces_of : Sited → List ℕ
 braces_of x = numbers_from x.first (braces x.tree)
 
--- what the path makes of one operation: the terms of the semaphore machine, with the numbers of the file
+-- the code of one operation of the path: its terms in the semaphore machine, with the numbers of the file
 abbrev pub op_of_path : Sited → OpId → OpCode
 op_of_path x a = record {
   op = a;
@@ -49,7 +49,7 @@ op_of_path x a = record {
   epilogue = epilogue_at (in_table x (epilogue x.tree a));
 }
 
--- what it makes of all its operations, in the order of their places
+-- the code of all its operations, in the order of their names
 abbrev pub ops_of : Sited → List OpCode
 ops_of x = map (op_of_path x) (names_in x.tree)
 
@@ -60,7 +60,7 @@ pub record IsPathCode {Y : Type 0} (x : Sited) (p : PathCode Y) : Type 0 where
   pub braces : p.braces.items ≡ braces_of x
   pub ops : p.ops.items ≡ ops_of x
 
--- the same of several paths, one by one
+-- the same for several paths, one by one
 abbrev pub ArePathCodes : {Y : Type 0} → List (ℕ × Sited) → List (PathCode Y) → Type 0
 ArePathCodes [] [] = Unit {0}
 ArePathCodes [] (p ∷ ps) = ⊥

@@ -5,13 +5,13 @@ use Rattle.path_code.specs.declared.terms.Epilogue.{Epilogue}
 use Rattle.path_code.specs.declared.terms.Epilogue.TheVariants.{V, VV, VVN}
 use Rattle.path_model.specs.Flat.{TableTerm, PlainAt, BracedAt, CountedAt}
 
--- the prologue that does a term at a start
+-- the prologue that is this term
 abbrev pub prologue_at : TableTerm → Prologue
 prologue_at (PlainAt q) = P q
 prologue_at (BracedAt c q) = PP c q
 prologue_at (CountedAt c q u) = PPN c q u
 
--- the epilogue that does a term at a finish
+-- the epilogue that is this term
 abbrev pub epilogue_at : TableTerm → Epilogue
 epilogue_at (PlainAt q) = V q
 epilogue_at (BracedAt c q) = VV c q

@@ -1,4 +1,4 @@
--- How a tree is walked as it is compiled: the numbers that its parts get, and what each walk writes.
+-- How compiling walks over a tree: the numbers that its parts get, and what each walk writes.
 use Rattle.std.specs.Prelude.{◌≡◌, ◌<◌, ◌≤◌, ◌+◌, ◌^◌, ℕ, List, [], ◌∷◌, ◌++◌, slice_set, slice_index_or, Option, Some, None}
 use Rattle.path_model.specs.Trees.{any, most, Tree, op, seq, alt, burst}
 use Rattle.path_model.specs.Machine.{semicolons, braces}
@@ -15,42 +15,42 @@ use Rattle.path_code.specs.declared.substitution.Numbers.{Numbers}
 abbrev pub parts : Tree → ℕ
 parts s = names_count s + semicolons s + braces s + counted_braces s
 
--- the numbers of its parts, and those after them, have 16 bits, where these come first
+-- if the parts are numbered from n on, their numbers and those after them have 16 bits
 pub record FitsFrom (s : Tree) (n : Numbers) : Type 0 where
   pub place : names_count s + n.place < 2 ^ 16
   pub semicolon : semicolons s + n.semicolon < 2 ^ 16
   pub brace : braces s + n.brace < 2 ^ 16
   pub bound : counted_braces s + n.bound < 2 ^ 16
 
--- m are the numbers after those of its parts, where n come first
+-- if the parts are numbered from n on, m are the numbers after them
 pub record NumbersAfter (s : Tree) (n m : Numbers) : Type 0 where
   pub place : m.place ≡ n.place + names_count s
   pub semicolon : m.semicolon ≡ n.semicolon + semicolons s
   pub brace : m.brace ≡ n.brace + braces s
   pub bound : m.bound ≡ n.bound + counted_braces s
 
--- so many parts have numbers below these
+-- there are this many numbers below n for its parts
 pub record FitsBelow (s : Tree) (n : Numbers) : Type 0 where
   pub place : names_count s ≤ n.place
   pub semicolon : semicolons s ≤ n.semicolon
   pub brace : braces s ≤ n.brace
   pub bound : counted_braces s ≤ n.bound
 
--- PP round a P, with a bound's semaphore where there is one
+-- PP around a P, with a bound's semaphore if there is one
 abbrev pub start_within : ℕ → Option ℕ → Prologue → Prologue
 start_within c None (P q) = PP c q
 start_within c (Some u) (P q) = PPN c q u
 start_within c b (PP d q) = PP d q
 start_within c b (PPN d q u) = PPN d q u
 
--- VV round a V
+-- VV around a V
 abbrev pub end_within : ℕ → Option ℕ → Epilogue → Epilogue
 end_within c None (V q) = VV c q
 end_within c (Some u) (V q) = VVN c q u
 end_within c b (VV d q) = VV d q
 end_within c b (VVN d q u) = VVN d q u
 
--- the names of a tree with what stands before each; n, m and u are the numbers of its first semicolon, its first braces and the
+-- the names of a tree with their prologues; n, m and u are the numbers of its first semicolon, its first braces and the
 -- semaphore of its first bound
 abbrev pub starts_in : Tree → ℕ → ℕ → ℕ → Prologue → List OpCode
 starts_in (op a) n m u L = record { op = a; prologue = L; epilogue = V 0 } ∷ []
@@ -68,7 +68,7 @@ bounds_from (alt s t) u = bounds_from s u ++ bounds_from t (u + counted_braces s
 bounds_from (burst any s) u = bounds_from s u
 bounds_from (burst (most k) s) u = (u, k) ∷ bounds_from s (u + 1)
 
--- no braces stand inside braces
+-- no braces are inside braces
 abbrev pub IsFlat : Tree → Type 0
 IsFlat (op a) = Unit {0}
 IsFlat (seq s t) = IsFlat s × IsFlat t
@@ -78,11 +78,11 @@ IsFlat (burst bd s) = IsFlat s × (braces s ≡ 0) × (counted_braces s ≡ 0)
 abbrev pub unnamed : OpCode
 unnamed = record { op = record { 0 = 0 }; prologue = P 0; epilogue = V 0 }
 
--- what stands after the name at place p becomes R
+-- the epilogue of the name at place p becomes R
 abbrev pub ended_at : ℕ → Epilogue → List OpCode → List OpCode
 ended_at p R xs = slice_set xs p (record (slice_index_or xs p unnamed) { epilogue = R })
 
--- what stands after each name of a tree is set, from the last one, where the first one has the place p
+-- the epilogue of each name of a tree is set, from the last name on; the first name has the place p
 abbrev pub ended : Tree → ℕ → ℕ → ℕ → ℕ → Epilogue → List OpCode → List OpCode
 ended (op a) p n m u R xs = ended_at p R xs
 ended (seq s t) p n m u R xs =

@@ -1,4 +1,4 @@
-//! What the paths of a declaration are compiled to.
+//! Compiled paths.
 
 ghost use Rattle.path_code.specs.PathCodes.{paths_shown};
 ghost use Rattle.path_code.specs.Known.{LawfulPaths, LawfulPaths-prop};
@@ -9,24 +9,24 @@ use path_model::{Expr, ResId};
 use std::alloc::{Allocator, Global};
 use std::marker::Model;
 
-/// What one path is compiled to. The numbers of semaphores and of pairs of braces count from 0 through the file, path after path.
+/// The code of one path. Semaphores and pairs of braces are numbered from 0 through the file, path after path.
 #[derive(Drop)]
 pub struct PathCode<'d, A: Allocator + Copy = Global> {
-    /// The resource that has the path.
+    /// The resource that the path belongs to.
     pub resource: ResId,
-    /// The tree of the path, which is the declaration's.
+    /// The tree of the path, which the declaration owns.
     pub tree: &'d Expr<A>,
-    /// The numbers of the semaphores, ascending, each with the value at which it opens: the path's own (1), one for each `;` from
-    /// left to right (0), and one for each bound by the place of its `{` (the bound).
+    /// The numbers of the semaphores, ascending, each with its opening value: the path's own (1), one for each `;` from
+    /// left to right (0), and one for each bound in the order of the `{` (the bound).
     pub semaphores: Vec<(u16, u16), A>,
-    /// The numbers of the pairs of braces, ascending, by the place of their `{`. The counter of each opens at 0 and its mutex at 1.
+    /// The numbers of the pairs of braces, ascending, in the order of their `{`. The counter of each opens at 0 and its mutex at 1.
     pub braces: Vec<u16, A>,
-    /// What stands before and after each operation, in the order of their places in the path.
+    /// The prologue and epilogue of each operation, in the order of the names in the path.
     pub ops: Vec<OpCode, A>,
 }
 
-/// What all paths of a declaration are compiled to. Contracts see the resources and trees of the paths as its `paths`, and beside
-/// them what always holds of them, `lawful`: all else follows from these.
+/// The code of all paths of a declaration. Contracts see the resources and trees of the paths as its `paths`, and what always holds of
+/// them as `lawful`: all else follows from these.
 #[derive(Drop)]
 pub struct Code<'d, A: Allocator + Copy = Global> {
     pub(crate) decl: &'d Decl<A>,
@@ -59,7 +59,7 @@ impl<'d, A: Allocator + Copy> Code<'d, A> {
         self.decl
     }
 
-    /// What each path is compiled to, in the order of the file. Takes the same time however many there are.
+    /// The code of each path, in the order of the file. Takes constant time.
     pub fn paths(&self) -> &[PathCode<'d, A>]
         ensures shown { paths_shown result.now ≡ self.now.paths }
         ensures table { ArePathCodes (sites self.now.paths) result.now }

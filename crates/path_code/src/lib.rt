@@ -1,8 +1,8 @@
 //! Compiles paths: from the trees of a declaration to the semaphores of its paths, and to what each operation does to them.
 //!
 //! [`translate`] substitutes from the root of each tree downwards (Campbell and Habermann, 1974); [`listing`] shows the result.
-//! What a path is compiled to is defined in `specs/PathCodes.antt`, the text that shows it in `specs/Listing.antt`. [`lister`] has
-//! the parts of that text for other listings.
+//! `specs/PathCodes.antt` defines the code of a path, `specs/Listing.antt` the text that shows it. [`lister`] has the parts of that
+//! text for other listings.
 #![tactic(auto)]
 
 mod code;

@@ -1,4 +1,4 @@
-//! Shows what paths are compiled to.
+//! The text that shows compiled paths.
 
 ghost use Rattle.std.specs.Prelude.{◌≡◌, ◌++◌, ◌∷◌, [], map, option_map, codes, IfOk, OnOk};
 ghost use Rattle.std.specs.String.{string_bytes};
@@ -11,7 +11,7 @@ use path_decl::{Decl, op_name, resource_name};
 use path_model::{OpId, OutOfMemory, ResId};
 use std::alloc::{AllocError, Allocator};
 
-/// Appends a name; `#` and the number where there is none.
+/// Appends the name, or `#` and the number if there is none.
 fn push_name<B: Allocator + Copy>(
     out: &mut String<B>,
     name: Option<&str>,
@@ -26,7 +26,7 @@ fn push_name<B: Allocator + Copy>(
     Ok(())
 }
 
-/// Appends the name of an operation; `#` and its number where the declaration doesn't have it. Refused only for want of memory; a
+/// Appends the name of an operation, or `#` and its number if the declaration doesn't have it. Fails only if allocation fails; a
 /// front of the text may have been appended then.
 pub fn push_operation<A: Allocator + Copy, B: Allocator + Copy>(
     out: &mut String<B>,
@@ -38,7 +38,7 @@ pub fn push_operation<A: Allocator + Copy, B: Allocator + Copy>(
     push_name(out, op_name(decl, op), op.0)
 }
 
-/// Appends the name of a resource; `#` and its number where the declaration doesn't have it. Refused only for want of memory; a
+/// Appends the name of a resource, or `#` and its number if the declaration doesn't have it. Fails only if allocation fails; a
 /// front of the text may have been appended then.
 pub fn push_resource<A: Allocator + Copy, B: Allocator + Copy>(
     out: &mut String<B>,
@@ -50,7 +50,7 @@ pub fn push_resource<A: Allocator + Copy, B: Allocator + Copy>(
     push_name(out, resource_name(decl, resource), resource.0)
 }
 
-/// Appends what stands before an operation, between `: ` and ` | `.
+/// Appends the prologue of an operation, between `: ` and ` | `.
 fn push_prologue<B: Allocator + Copy>(
     out: &mut String<B>,
     prologue: Prologue,
@@ -66,7 +66,7 @@ fn push_prologue<B: Allocator + Copy>(
     }
 }
 
-/// Appends what stands after an operation, and ends the line.
+/// Appends the epilogue of an operation, and ends the line.
 fn push_epilogue<B: Allocator + Copy>(
     out: &mut String<B>,
     epilogue: Epilogue,
@@ -82,8 +82,8 @@ fn push_epilogue<B: Allocator + Copy>(
     }
 }
 
-/// Appends `path N of RESOURCE` without a line feed; `#` and its number stand for a resource that the declaration doesn't have.
-/// Refused only for want of memory; a front of the text may have been appended then.
+/// Appends `path N of RESOURCE` without a line feed, with `#` and the number for a resource that the declaration doesn't have.
+/// Fails only if allocation fails; a front of the text may have been appended then.
 pub fn push_header<A: Allocator + Copy, B: Allocator + Copy>(
     out: &mut String<B>,
     decl: &Decl<A>,
@@ -97,8 +97,8 @@ pub fn push_header<A: Allocator + Copy, B: Allocator + Copy>(
     push_resource(out, decl, resource)
 }
 
-/// Appends a line `sK = V` for each of these semaphores and the value at which it opens, in order. Refused only for want of memory;
-/// a front of the text may have been appended then. The cost is that of the text.
+/// Appends a line `sK = V` for each of these semaphores and its opening value, in order. Fails only if allocation fails; a front of
+/// the text may have been appended then. The cost is that of the text.
 pub fn push_semaphores<B: Allocator + Copy>(
     out: &mut String<B>,
     semaphores: &[(u16, u16)],
@@ -111,7 +111,7 @@ pub fn push_semaphores<B: Allocator + Copy>(
     Ok(())
 }
 
-/// Appends a line `cK = 0` for each of these counters, in order. Refused only for want of memory; a front of the text may have been
+/// Appends a line `cK = 0` for each of these counters, in order. Fails only if allocation fails; a front of the text may have been
 /// appended then. The cost is that of the text.
 pub fn push_counters<B: Allocator + Copy>(
     out: &mut String<B>,
@@ -183,12 +183,11 @@ fn push_path<A: Allocator + Copy, B: Allocator + Copy, C: Allocator + Copy>(
     push_ops(out, decl, &path.ops)
 }
 
-/// The text of compiled paths: for each path the line `path N of RESOURCE`; a line `sK = V` for each semaphore, `cK = 0` for each
-/// counter and `mK = 1` for each mutex, ascending; and a line `NAME: PROLOGUE | EPILOGUE` for each operation, in the order of their
-/// places. Each line ends with a line feed. Of a number that the declaration doesn't have, `#` and the number stand in the place of
-/// the name.
+/// The text of compiled paths. For each path: the line `path N of RESOURCE`; a line `sK = V` for each semaphore, `cK = 0` for each
+/// counter and `mK = 1` for each mutex, ascending; and a line `NAME: PROLOGUE | EPILOGUE` for each operation, in the order of the
+/// names in the path. Each line ends with a line feed. A name that the declaration doesn't have is written as `#` and its number.
 ///
-/// The only error is want of memory. The cost is that of the text.
+/// Fails only if allocation fails. The cost is that of the text.
 pub fn listing<A: Allocator + Copy, B: Allocator + Copy, C: Allocator + Copy>(
     alloc: C,
     decl: &Decl<A>,

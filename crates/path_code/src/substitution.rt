@@ -1,5 +1,5 @@
-//! The substitution into one tree, from its root downwards: from left to right what stands before each name, and back what stands
-//! after it.
+//! The substitution into one tree, from its root downwards: from left to right the prologue of each name, and on the way back the
+//! epilogues.
 
 ghost use Rattle.std.specs.Prelude.{◌≡◌, ◌≤◌, ◌++◌, length, OnOk};
 ghost use Rattle.path_model.specs.Trees.{shape, FewAtOnce};
@@ -22,7 +22,7 @@ pub(crate) struct Numbers {
     pub(crate) bound: u16,
 }
 
-/// Adds to a count what stands in a tree. The cost is one walk over it.
+/// Adds the parts of a tree to a count. The cost is one walk over it.
 pub(crate) fn count_parts<A: Allocator + Copy>(tree: &Expr<A>, count: &mut Numbers)
     requires few { FitsFrom (shape tree.now) count.old }
     ensures { NumbersAfter (shape tree.now) count.old count.new }
@@ -50,7 +50,7 @@ pub(crate) fn count_parts<A: Allocator + Copy>(tree: &Expr<A>, count: &mut Numbe
     }
 }
 
-/// What stands before the names within a pair of braces, where this stands before the braces.
+/// The prologue of the names inside a pair of braces, if this one is before the braces.
 fn starting_within(prologue: Prologue, brace: u16, bound: Option<u16>) -> Prologue
     ensures { result ≡ start_within brace bound prologue }
 {
@@ -61,7 +61,7 @@ fn starting_within(prologue: Prologue, brace: u16, bound: Option<u16>) -> Prolog
     }
 }
 
-/// What stands after the names within a pair of braces, where this stands after the braces.
+/// The epilogue of the names inside a pair of braces, if this one is after the braces.
 fn ending_within(epilogue: Epilogue, brace: u16, bound: Option<u16>) -> Epilogue
     ensures { result ≡ end_within brace bound epilogue }
 {
@@ -72,9 +72,9 @@ fn ending_within(epilogue: Epilogue, brace: u16, bound: Option<u16>) -> Epilogue
     }
 }
 
-/// Adds each name of a tree, from left to right, with what stands before it: `prologue`, and at the right of a `;` what waits for
-/// that. What stands after it is set on the way back. Adds the semaphore of each bound too. The numbers that the tree's parts get
-/// begin with `next`, which becomes those after them; after a refusal its numbers mean nothing.
+/// Adds each name of a tree, from left to right, with its prologue: `prologue`, or at the right of a `;` the P on its semaphore. The
+/// epilogues are set on the way back. Adds the semaphore of each bound too. The tree's parts are numbered from `next` on, which
+/// becomes the numbers after them; after an error the numbers in `next` mean nothing. Fails only if allocation fails.
 pub(crate) fn add_starts<A: Allocator + Copy, B: Allocator + Copy>(
     ops: &mut Vec<OpCode, B>,
     semaphores: &mut Vec<(u16, u16), B>,
@@ -124,8 +124,8 @@ pub(crate) fn add_starts<A: Allocator + Copy, B: Allocator + Copy>(
     }
 }
 
-/// Sets what stands after each name of a tree, from right to left: `epilogue`, and at the left of a `;` what signals that. The
-/// numbers after those of the tree's parts are `end`, which becomes the first ones.
+/// Sets the epilogue of each name of a tree, from right to left: `epilogue`, or at the left of a `;` the V on its semaphore. `end` has
+/// the numbers after those of the tree's parts, and becomes their first numbers.
 pub(crate) fn set_ends<A: Allocator + Copy>(
     ops: &mut [OpCode],
     tree: &Expr<A>,

@@ -14,8 +14,8 @@ use path_decl::{Decl, counts, path_resource, tree_of};
 use path_model::{Expr, OutOfMemory, PathId, ResId};
 use std::alloc::Allocator;
 
-/// A path's own semaphore, which has the number `own` and opens at 1, and those of its `;`, which have the numbers from there up to
-/// `end` and open at 0. There is room for so many more.
+/// A path's own semaphore, which has the number `own` and opens at 1, and the semaphores of its `;`, which have the next numbers up to
+/// but not including `end` and open at 0. Reserves capacity for `more` further ones. Fails only if allocation fails.
 fn first_semaphores<A: Allocator + Copy>(
     alloc: A,
     own: u16,
@@ -34,7 +34,7 @@ fn first_semaphores<A: Allocator + Copy>(
     Ok(semaphores)
 }
 
-/// The numbers from `first` up to `end`.
+/// The numbers from `first` up to but not including `end`. Fails only if allocation fails.
 fn numbers<A: Allocator + Copy>(alloc: A, first: u16, end: u16) -> Result<Vec<u16, A>, OutOfMemory>
     requires { first ≤ end }
     ensures { IfOk result (λ v. v.items ≡ numbers_from first (end - first)) }
@@ -46,8 +46,8 @@ fn numbers<A: Allocator + Copy>(alloc: A, first: u16, end: u16) -> Result<Vec<u1
     Ok(numbers)
 }
 
-/// What a path is compiled to, where its own semaphore has the number `own` and its first pair of braces the number `brace`. The
-/// cost is three walks over its tree.
+/// The code of a path whose own semaphore has the number `own` and whose first pair of braces has the number `brace`. Fails only if
+/// allocation fails. The cost is three walks over its tree.
 fn path_code<'d, A: Allocator + Copy>(
     alloc: A,
     resource: ResId,
@@ -88,13 +88,12 @@ fn path_code<'d, A: Allocator + Copy>(
     })
 }
 
-/// What the paths of a declaration are compiled to: from the root of each tree downwards, `L S ; T R` becomes `L S V(t)` and
-/// `P(t) T R` with a semaphore `t` that opens at 0, `L S , T R` becomes `L S R` and `L T R`, and `L { S } R` becomes
-/// `PP(c,m,L) S VV(c,m,R)`; with a bound, `P(u)` stands before it and `V(u)` after it, where `u` opens at the bound. The root has
-/// `P(s)` and `V(s)`, where `s` opens at 1 (Campbell and Habermann, 1974). The numbers of semaphores and of pairs of braces count
-/// from 0 through the file.
+/// Compiles the paths of a declaration. From the root of each tree downwards, `L S ; T R` becomes `L S V(t)` and `P(t) T R` with a
+/// semaphore `t` that opens at 0, `L S , T R` becomes `L S R` and `L T R`, and `L { S } R` becomes `PP(c,m,L) S VV(c,m,R)`; with a
+/// bound, `P(u)` comes before it and `V(u)` after it, and `u` opens at the bound. The root has `P(s)` and `V(s)`, and `s` opens at 1
+/// (Campbell and Habermann, 1974). Semaphores and pairs of braces are numbered from 0 through the file.
 ///
-/// The only error is want of memory; nothing is kept then. The cost is three walks over each tree, and a place for each semaphore,
+/// Fails only if allocation fails; nothing is kept then. The cost is three walks over each tree, and memory for each semaphore,
 /// pair of braces and name. No tree is copied.
 pub fn translate<'d, A: Allocator + Copy>(
     alloc: A,

@@ -1,4 +1,4 @@
--- What refuses an audit over the program's own devices, and how a verdict is told.
+-- What refuses an audit over the program's own devices, and how a verdict is written.
 use Rattle.std.proofs.Common.{◌≡◌, ℕ, ◌<◌, List, [], length, get_or, Option, Some, None, ◌⊎◌, inl, inr, refl, sym, ap, ◌∙◌, subst, arith}
 use Rattle.std.specs.Option.{unwrap_or}
 use Rattle.std.specs.Io.KnownBytes.{Appends}
@@ -51,7 +51,7 @@ refuses_audit d room r text named lines openings (audits.BadOpening q) told is o
     absurd (bad.2.misfit (subst (λ xs. FitsAt d xs q.0) (sym own) (openings_fit d q.0 bad.2.declared)))
 refuses_audit d room r text named lines openings audits.OutOfMemory told is own bad = tt
 
--- how a verdict is told
+-- how a verdict is written
 abbrev pub Ends : Verdict → Status → Type 0
 Ends v s = (s ≡ verdict_status v) ⊎ (s ≡ StreamFailed) ⊎ (s ≡ NoMemory)
 
@@ -100,7 +100,7 @@ pub tells_front : (old new : Option (List ℕ)) (d : Declaration) (room : ℕ) (
 tells_front old new d room text v is (bytes, inl none, wrote) = (bytes, inl none, wrote)
 tells_front old new d room text v is (bytes, inr (rest, whole), wrote) = (bytes, inr (rest, (v, is, whole)), wrote)
 
--- what is told under a declaration is told under its text
+-- what is written under a declaration is written under its text
 pub under : (old new : Option (List ℕ)) (text : List ℕ) (d : Declaration) (P : Declaration → List ℕ → Type 0) → IsDeclarationText text d → AppendsSome old new (P d)
     → AppendsSome old new (λ bytes. Under text (λ e. P e bytes))
 under old new text d P is (bytes, p, wrote) = (bytes, (d, is, p), wrote)

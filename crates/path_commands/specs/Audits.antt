@@ -1,4 +1,4 @@
--- What an audit tells of a journal's text.
+-- What an audit says of a journal's text.
 use Rattle.std.specs.Prelude.{◌≡◌, ◌<◌, ◌⊎◌, ℕ, List, ◌∷◌, [], ◌++◌, length, map, codes, decimal, Option, None}
 use Rattle.std.specs.Option.{unwrap_or}
 use Rattle.path_model.specs.declared.journal.Line.{Line}
@@ -14,12 +14,12 @@ use Rattle.path_audit.specs.Verdicts.{IsRoom, IsVerdict}
 use Rattle.path_streams.specs.declared.status.Status.{Status}
 use Rattle.path_streams.specs.declared.status.Status.TheVariants as statuses
 
--- what the program's own devices contain at first: each cell and tally 0, each queue nothing
+-- what the program's own devices contain at first: 0 in each cell and tally, nothing in each queue
 abbrev pub own_openings : Declaration → List (List ℕ)
 own_openings d = map (λ r. opening_numbers r.law) d.resources
 
--- The text tells a journal of this verdict, over the program's own devices. Its room is the one that the text names, else the one that
--- is asked for.
+-- the text is that of a journal with this verdict, over the program's own devices; its room is the one that the text names, else the
+-- one that is given
 pub record IsAuditOf (d : Declaration) (room : ℕ) (text : List ℕ) (verdict : Verdict) : Type 0 where
   pub named : Option ℕ
   pub lines : List Line
@@ -27,36 +27,36 @@ pub record IsAuditOf (d : Declaration) (room : ℕ) (text : List ℕ) (verdict :
   pub in_range : IsRoom (unwrap_or named room)
   pub judged : IsVerdict d (unwrap_or named room) (own_openings d) lines verdict
 
--- the text tells an honest journal
+-- the text is that of an honest journal
 abbrev pub IsSoundText : Declaration → ℕ → List ℕ → Type 0
 IsSoundText d room text = IsAuditOf d room text Sound
 
--- line n is the first that makes the journal wrong that the text tells
+-- the text is that of a journal, and line n is the first with which it isn't honest
 abbrev pub IsWrongText : Declaration → ℕ → List ℕ → ℕ → Type 0
 IsWrongText d room text n = IsAuditOf d room text (WrongLine n)
 
--- the line that tells a verdict, with its line feed
+-- the line of a verdict, with its line feed
 abbrev pub verdict_line : Verdict → List ℕ
 verdict_line Sound = codes "sound\n"
 verdict_line (WrongLine n) = codes "wrong line " ++ (decimal n ++ 10 ∷ [])
 
--- the bytes tell the verdict on a text
+-- the bytes are the line of the verdict on a text
 abbrev pub TellsVerdict : Declaration → ℕ → List ℕ → List ℕ → Type 0
 TellsVerdict d room text bytes = (verdict : Verdict) × IsAuditOf d room text verdict × (bytes ≡ verdict_line verdict)
 
--- the bytes tell that a text is sound
+-- the text is sound, and the bytes say so
 abbrev pub TellsSound : Declaration → ℕ → List ℕ → List ℕ → Type 0
 TellsSound d room text bytes = IsSoundText d room text × (bytes ≡ verdict_line Sound)
 
--- the bytes tell the first wrong line of a text
+-- the text has a wrong line, and the bytes name the first one
 abbrev pub TellsWrong : Declaration → ℕ → List ℕ → List ℕ → Type 0
 TellsWrong d room text bytes = (n : ℕ) × IsWrongText d room text n × (bytes ≡ verdict_line (WrongLine n))
 
--- the text is too long, or tells no journal
+-- the text is too long, or isn't a journal
 abbrev pub IsBadJournal : Declaration → List ℕ → Type 0
 IsBadJournal d text = (LIMIT < length text) ⊎ IsNoJournalText d text
 
--- the text tells a journal and names no room, and the one that is asked for is none
+-- the text is a journal that names no room, and the room that is given is out of range
 pub record LacksRoom (d : Declaration) (room : ℕ) (text : List ℕ) : Type 0 where
   pub lines : List Line
   pub told : IsJournalText d text None lines
@@ -69,11 +69,11 @@ IsUnaudited d room text statuses.TextRefused = IsBadJournal d text
 IsUnaudited d room text statuses.NoMemory = Unit {0}
 IsUnaudited d room text status = ⊥
 
--- the status of a verdict that was told
+-- the status of a verdict that was written
 abbrev pub verdict_status : Verdict → Status
 verdict_status Sound = statuses.Done
 verdict_status (WrongLine n) = statuses.Unsound
 
--- something holds of the declaration that a text is
+-- P holds of the declaration in a text
 abbrev pub Under : List ℕ → (Declaration → Type 0) → Type 0
 Under declaration P = (d : Declaration) × IsDeclarationText declaration d × P d

@@ -9,6 +9,6 @@ use Rattle.path_trim.specs.LeanListing.{lean_text}
 abbrev pub compiled_text : Declaration → List ℕ
 compiled_text d = listing_text d d.paths ++ (codes "trimmed\n" ++ lean_text d (trees d))
 
--- the text is a declaration that is compiled to this
+-- the text is a declaration, and this is what it is compiled to
 abbrev pub IsCompiledOf : List ℕ → List ℕ → Type 0
 IsCompiledOf text bytes = (d : Declaration) × IsDeclarationText text d × (bytes ≡ compiled_text d)

@@ -21,7 +21,7 @@ use path_streams::{Fault, Status, put_text, tell};
 use std::alloc::Allocator;
 use std::io::Write;
 
-/// The verdict on the journal that a text tells. Its room is the one that the text names, else this one.
+/// The verdict on the journal in a text. The room is the one that the text names, else `room`.
 fn verdict_on<A: Allocator + Copy>(
     alloc: A,
     decl: &Decl<A>,
@@ -29,7 +29,7 @@ fn verdict_on<A: Allocator + Copy>(
     text: &[u8],
 ) -> Result<Verdict, Fault<'static>>
     ensures ok { IfOk result (λ verdict. IsAuditOf decl.now.declaration room text.now verdict) }
-    // There is one verdict.
+    // There is only one verdict.
     ensures one { IfOk result (λ verdict. (other : Verdict) → IsAuditOf decl.now.declaration room text.now other → other ≡ verdict) }
     ensures err { IfErr result (λ fault. IsUnaudited decl.now.declaration room text.now (status_of fault)) }
 {
@@ -45,7 +45,7 @@ fn verdict_on<A: Allocator + Copy>(
     }
 }
 
-/// The line that tells a verdict.
+/// The line of a verdict.
 fn line_of<A: Allocator + Copy>(alloc: A, verdict: Verdict) -> Result<String<A>, OutOfMemory>
     ensures { IfOk result (λ line. string_bytes line ≡ verdict_line verdict) }
 {
@@ -79,15 +79,15 @@ fn tell_verdict<A: Allocator + Copy, O: Write, E: Write>(
 }
 
 /// Reads the text of a journal, replays it, and writes `sound` or `wrong line N`, where N, counted from 0, is the first line whose
-/// reply wasn't owed by the lines before it. The devices are those of the program: each cell and tally contains 0 at first, each
-/// queue nothing. A text of version 2 names the journal's room, which counts in place of the one that is handed in, 1 to
-/// [`MOST_LINES`](path_model::MOST_LINES). Nothing is written before the whole text was read.
+/// reply wasn't owed by the lines before it or is `no room`. The devices are the program's own: each cell and tally contains 0 at
+/// first, each queue is empty. If the text names the journal's room (version 2), that counts instead of `room`, which is 1 to
+/// [`MOST_LINES`](path_model::MOST_LINES). Writes nothing before the whole text has been read.
 ///
-/// `Unsound`: a line is wrong. `TextRefused`: the text is none of a journal, or too long. `CommandRefused`: the text names no room,
-/// and the one that is handed in is out of range. At these two nothing was written. `StreamFailed`: a writer failed, and what it
-/// took is unknown. `NoMemory`: memory is wanting, and a front of the line was written. A fault is one line on `err`.
+/// `Unsound`: a line is wrong. `TextRefused`: the text isn't a journal, or is too long. `CommandRefused`: the text names no room, and
+/// `room` is out of range. In these last two cases nothing was written. `StreamFailed`: a writer failed, and what it took is unknown.
+/// `NoMemory`: allocation failed, and a front of the line was written. A fault is one line on `err`.
 ///
-/// The cost is that of the text, and for each line what it cost the system: the look at the paths of its operation for a start or a
+/// The cost is that of the text, and for each line what it cost the system: a look at the paths of its operation for a start or a
 /// finish, and a look-up by number for a use.
 pub fn audit_to<A: Allocator + Copy, O: Write, E: Write>(
     alloc: A,
@@ -97,19 +97,19 @@ pub fn audit_to<A: Allocator + Copy, O: Write, E: Write>(
     out: &mut O,
     err: &mut E,
 ) -> Status
-    // The text tells an honest journal, and that was written.
+    // The text is an honest journal, and `sound` was written.
     ensures done { result ≡ Status.Done
         → AppendsSome (O.contents out.old) (O.contents out.new) (TellsSound decl.declaration room journal.now) }
-    // The text tells a journal that isn't honest, and its first wrong line was written.
+    // The text is a journal that isn't honest, and its first wrong line was written.
     ensures unsound { result ≡ Status.Unsound
         → AppendsSome (O.contents out.old) (O.contents out.new) (TellsWrong decl.declaration room journal.now) }
-    // No honest journal is told to be wrong, and no other to be sound.
+    // An honest journal never ends as wrong, and no other ends as sound.
     ensures only_wrong { IsSoundText decl.declaration room journal.now → result ≢ Status.Unsound }
     ensures only_sound { (n : ℕ) → IsWrongText decl.declaration room journal.now n → result ≢ Status.Done }
-    // The text is too long or tells no journal, and nothing was written.
+    // The text is too long or isn't a journal, and nothing was written.
     ensures refused { result ≡ Status.TextRefused
         → Keeps (O.contents out.old) (O.contents out.new) × IsBadJournal decl.declaration journal.now }
-    // No journal has the room, and nothing was written.
+    // No journal can have the room, and nothing was written.
     ensures bad_room { result ≡ Status.CommandRefused
         → Keeps (O.contents out.old) (O.contents out.new) × LacksRoom decl.declaration room journal.now }
     // Only a front of the line was written.
@@ -135,19 +135,19 @@ pub fn audit_bytes<A: Allocator + Copy, O: Write, E: Write>(
     out: &mut O,
     err: &mut E,
 ) -> Status
-    // The text tells an honest journal, and that was written.
+    // The text is an honest journal, and `sound` was written.
     ensures done { result ≡ Status.Done → AppendsSome (O.contents out.old) (O.contents out.new)
         (λ bytes. Under declaration.now (λ d. TellsSound d room journal.now bytes)) }
-    // The text tells a journal that isn't honest, and its first wrong line was written.
+    // The text is a journal that isn't honest, and its first wrong line was written.
     ensures unsound { result ≡ Status.Unsound → AppendsSome (O.contents out.old) (O.contents out.new)
         (λ bytes. Under declaration.now (λ d. TellsWrong d room journal.now bytes)) }
-    // The text is no declaration, and nothing was written.
+    // The text isn't a declaration, and nothing was written.
     ensures undeclared { result ≡ Status.DeclarationRefused
         → Keeps (O.contents out.old) (O.contents out.new) × IsNoDeclaration declaration.now }
-    // The journal's text is too long or tells none, and nothing was written.
+    // The journal's text is too long or isn't a journal, and nothing was written.
     ensures refused { result ≡ Status.TextRefused → Keeps (O.contents out.old) (O.contents out.new)
         × Under declaration.now (λ d. IsBadJournal d journal.now) }
-    // No journal has the room, and nothing was written.
+    // No journal can have the room, and nothing was written.
     ensures bad_room { result ≡ Status.CommandRefused → Keeps (O.contents out.old) (O.contents out.new)
         × Under declaration.now (λ d. LacksRoom d room journal.now) }
     // Only a front of the line was written.

@@ -14,7 +14,7 @@ use path_streams::{Fault, Status, put_text, tell};
 use std::alloc::Allocator;
 use std::io::Write;
 
-/// The print of the declaration that a text is.
+/// Prints the declaration in `text`.
 fn reprinted<A: Allocator + Copy>(alloc: A, text: &[u8]) -> Result<String<A>, Fault<'static>>
     ensures ok { IfOk result (λ print. IsPrintOf text.now (string_bytes print)) }
     ensures err { IfErr result (λ fault. IsUndeclared text.now (status_of fault)) }
@@ -25,10 +25,10 @@ fn reprinted<A: Allocator + Copy>(alloc: A, text: &[u8]) -> Result<String<A>, Fa
     }
 }
 
-/// Reads a declaration and writes it as it is printed. The cost is that of the text.
+/// Reads a declaration and writes it in one line, as `print` lays it out. The cost is that of the text.
 ///
 /// `DeclarationRefused`: the text is refused, and nothing was written. `StreamFailed`: a writer failed, and what it took is
-/// unknown. `NoMemory`: memory is wanting, and a front of the print was written. A fault is one line on `err`.
+/// unknown. `NoMemory`: allocation failed, and a front of the print was written. A fault is one line on `err`.
 pub fn check_to<A: Allocator + Copy, O: Write, E: Write>(
     alloc: A,
     text: &[u8],
@@ -37,7 +37,7 @@ pub fn check_to<A: Allocator + Copy, O: Write, E: Write>(
 ) -> Status
     // The text is a declaration, and its print was written.
     ensures done { result ≡ Status.Done → AppendsSome (O.contents out.old) (O.contents out.new) (IsPrintOf text.now) }
-    // The text is none, and nothing was written.
+    // The text isn't a declaration, and nothing was written.
     ensures refused { result ≡ Status.DeclarationRefused → Keeps (O.contents out.old) (O.contents out.new) × IsNoDeclaration text.now }
     // Only a front of the print was written.
     ensures memory { result ≡ Status.NoMemory → AppendsSome (O.contents out.old) (O.contents out.new) (IsFrontOf (IsPrintOf text.now)) }

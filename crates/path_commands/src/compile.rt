@@ -1,4 +1,4 @@
-//! From a declaration to what it is compiled to.
+//! From a declaration to its semaphores.
 
 ghost use Rattle.std.specs.Prelude.{◌≡◌, ◌≢◌, IfOk, IfErr};
 ghost use Rattle.std.specs.String.{string_bytes};
@@ -17,7 +17,7 @@ use path_trim::{lean_listing, trim};
 use std::alloc::Allocator;
 use std::io::Write;
 
-/// The listing of a declaration, the line `trimmed`, and the listing of what is left.
+/// The listing of a declaration, the line `trimmed`, and the listing of what trimming leaves. Fails only if allocation fails.
 fn listings<A: Allocator + Copy>(alloc: A, decl: &Decl<A>) -> Result<String<A>, OutOfMemory>
     ensures { IfOk result (λ text. string_bytes text ≡ compiled_text decl.now.declaration) }
 {
@@ -34,7 +34,7 @@ fn listings<A: Allocator + Copy>(alloc: A, decl: &Decl<A>) -> Result<String<A>, 
     }
 }
 
-/// What the declaration that a text is is compiled to.
+/// Compiles the declaration in `text`.
 fn compiled<A: Allocator + Copy>(alloc: A, text: &[u8]) -> Result<String<A>, Fault<'static>>
     ensures ok { IfOk result (λ listings. IsCompiledOf text.now (string_bytes listings)) }
     ensures err { IfErr result (λ fault. IsUndeclared text.now (status_of fault)) }
@@ -46,11 +46,11 @@ fn compiled<A: Allocator + Copy>(alloc: A, text: &[u8]) -> Result<String<A>, Fau
 }
 
 /// Reads a declaration and writes what it is compiled to (Campbell and Habermann, 1974): its semaphores, prologues and
-/// epilogues, the line `trimmed`, and what is left of them without the useless ones. The cost is that of the texts, and of
-/// comparing each path with the earlier ones.
+/// epilogues, the line `trimmed`, and what trimming leaves of them. The cost is that of the texts, and of comparing each path
+/// with the earlier ones.
 ///
 /// `DeclarationRefused`: the text is refused, and nothing was written. `StreamFailed`: a writer failed, and what it took is
-/// unknown. `NoMemory`: memory is wanting, and a front of it was written. A fault is one line on `err`.
+/// unknown. `NoMemory`: allocation failed, and a front of the listings was written. A fault is one line on `err`.
 pub fn compile_to<A: Allocator + Copy, O: Write, E: Write>(
     alloc: A,
     text: &[u8],
@@ -59,9 +59,9 @@ pub fn compile_to<A: Allocator + Copy, O: Write, E: Write>(
 ) -> Status
     // The text is a declaration, and what it is compiled to was written.
     ensures done { result ≡ Status.Done → AppendsSome (O.contents out.old) (O.contents out.new) (IsCompiledOf text.now) }
-    // The text is none, and nothing was written.
+    // The text isn't a declaration, and nothing was written.
     ensures refused { result ≡ Status.DeclarationRefused → Keeps (O.contents out.old) (O.contents out.new) × IsNoDeclaration text.now }
-    // Only a front of it was written.
+    // Only a front of the listings was written.
     ensures memory { result ≡ Status.NoMemory → AppendsSome (O.contents out.old) (O.contents out.new) (IsFrontOf (IsCompiledOf text.now)) }
     ensures statuses { (result ≢ Status.CommandRefused) × (result ≢ Status.TextRefused) × (result ≢ Status.Unsound) }
 {

@@ -1,4 +1,4 @@
-//! What each command writes for the bytes that it is given.
+//! What each command writes for the bytes that it gets.
 #![tactic(auto)]
 
 mod audit;

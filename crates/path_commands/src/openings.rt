@@ -9,7 +9,7 @@ use path_decl::{Decl, counts, law_of};
 use path_model::{Law, OutOfMemory, ResId};
 use std::alloc::Allocator;
 
-/// The law of a resource, which is declared.
+/// The law of a declared resource.
 fn law_at<A: Allocator + Copy>(decl: &Decl<A>, resource: ResId) -> Law
     requires { resource.0 < length decl.now.declaration.resources }
     ensures { result ≡ declarations.law_of decl.now.declaration resource.0 }
@@ -17,7 +17,7 @@ fn law_at<A: Allocator + Copy>(decl: &Decl<A>, resource: ResId) -> Law
     law_of(decl, resource).unwrap()
 }
 
-/// What a device of this law contains to which nothing was done.
+/// What a new device of this law contains. Fails only if allocation fails.
 fn opening<A: Allocator + Copy>(alloc: A, law: Law) -> Result<Vec<u64, A>, OutOfMemory>
     ensures { IfOk result (λ numbers. numbers.items ≡ opening_numbers law) }
 {
@@ -29,8 +29,8 @@ fn opening<A: Allocator + Copy>(alloc: A, law: Law) -> Result<Vec<u64, A>, OutOf
     Ok(numbers)
 }
 
-/// What the device of each resource contains at first, in order: a cell and a tally 0, a queue nothing. The only error is want of
-/// memory. Takes time and memory in proportion to the resources.
+/// What the device of each resource contains at first, in order: 0 in a cell or a tally, nothing in a queue. Fails only if
+/// allocation fails. Takes time and memory in proportion to the number of resources.
 pub fn own_openings<A: Allocator + Copy>(
     alloc: A,
     decl: &Decl<A>,

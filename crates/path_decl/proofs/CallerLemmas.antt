@@ -1,4 +1,4 @@
--- What callers may cite of declarations, beside the contracts.
+-- What callers may cite of declarations, besides the contracts.
 use Rattle.std.proofs.Common.{◌+◌, ◌≤◌, All, get_or, arith}
 use Rattle.path_model.specs.Trees.{Tree, op, seq, alt, burst}
 use Rattle.path_model.specs.Machine.{semicolons}

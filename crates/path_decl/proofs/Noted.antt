@@ -1,4 +1,4 @@
--- What is noted beside operations.
+-- Which paths are in the lists of operations.
 use Rattle.std.proofs.Common.{◌≡◌, ℕ, zero, suc, ◌+◌, ◌<◌, ◌≤◌, Bool, true, false, Option, Some, None, List, [], ◌∷◌, ◌++◌, length, get_or, map, filter, refl, sym, ap, ◌∙◌, append_assoc, arith, slice_get, option_map, replicate, Vec, set, take, ◌||◌, eq-eqb, ne_eqb, ◌⊎◌, inl, inr}
 use Rattle.std.proofs.lemmas.List.{append-nil, map_push, map-append, replicate-append-replicate, length-map, take_more}
 use Rattle.std.proofs.lemmas.List.Elements.{filter-append}
@@ -30,7 +30,7 @@ once_at b a e = let t = eq-eqb a b e in rw t refl
 never_at : (b a : ℕ) → (a ≡ b → ⊥) → times (op (record { 0 = b })) (record { 0 = a }) ≡ 0
 never_at b a ne = let t = ne_eqb a b ne in rw t refl
 
--- the list with so many more at its end
+-- the list with this many more at its end
 abbrev pub more : ℕ → PathId → List PathId → List PathId
 more n p ps = ps ++ replicate n p
 

@@ -1,4 +1,4 @@
--- What is shown of the paths of a declaration.
+-- What contracts see of the paths of a declaration.
 use Rattle.std.proofs.Common.{◌≡◌, ℕ, zero, suc, ◌+◌, ◌<◌, List, [], ◌∷◌, length, get_or, map, refl, ap, arith}
 use Rattle.path_model.specs.Trees.{NoRepeats, WellFormed, shape}
 use Rattle.path_model.specs.Legal.{numbered, Every}

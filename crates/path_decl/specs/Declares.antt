@@ -1,4 +1,4 @@
--- The declaration that forms are: numbers in the order of the text in place of names.
+-- The declaration of forms: numbers, in the order of the text, instead of names.
 use Rattle.std.specs.Prelude.{◌≡◌, ℕ, ◌+◌, List, [], ◌∷◌, ◌++◌, map, Option, Some, None, slice_get}
 use Rattle.path_model.specs.declared.resource.Law.{Law}
 use Rattle.path_model.specs.declared.resource.Law.TheVariants.{Cell, Tally, Queue}
@@ -7,14 +7,14 @@ use Rattle.path_model.specs.Declarations.{Resource, Operation, Path, Declaration
 use Rattle.path_decl.specs.Numerals.{Denotes}
 use Rattle.path_decl.specs.Forms.{Form, once, sequence, selection, braced, LawForm, a_cell, a_tally, a_queue, ResourceForm, all_operations}
 
--- the bound is the number that the digits denote, or braces without a bound have none
+-- the bound is the number that the digits denote; braces without digits have no bound
 abbrev pub IsBound : Option (List ℕ) → Bound → Type 0
 IsBound None any = Unit {0}
 IsBound None (most n) = ⊥
 IsBound (Some ds) any = ⊥
 IsBound (Some ds) (most n) = Denotes ds n
 
--- the tree has the numbers of the names in place of them, and those that its bounds denote
+-- the tree is the form with the numbers of its names, and the numbers that its bounds denote
 abbrev pub Numbers : List (List ℕ) → Form → Tree → Type 0
 Numbers ns (once n) (op a) = slice_get ns a.0 ≡ Some n
 Numbers ns (once n) (seq s t) = ⊥
@@ -33,13 +33,13 @@ Numbers ns (braced c f) (op a) = ⊥
 Numbers ns (braced c f) (seq s t) = ⊥
 Numbers ns (braced c f) (alt s t) = ⊥
 
--- the law that stands there; the capacity of a queue is the number that its digits denote
+-- the law of the form; the capacity of a queue is the number that its digits denote
 abbrev pub IsLawOf : LawForm → Law → Type 0
 IsLawOf a_cell l = l ≡ Cell
 IsLawOf a_tally l = l ≡ Tally
 IsLawOf (a_queue ds) l = (n : ℕ) × Denotes ds n × (l ≡ Queue n)
 
--- a resource of that name and that law
+-- a resource with the name and the law of the form
 abbrev pub IsResourceOf : ResourceForm → Resource → Type 0
 IsResourceOf f r = (r.name ≡ f.name) × IsLawOf f.law r.law
 
@@ -49,17 +49,17 @@ AreResourcesOf [] (r ∷ rs) = ⊥
 AreResourcesOf (f ∷ fs) [] = ⊥
 AreResourcesOf (f ∷ fs) (r ∷ rs) = IsResourceOf f r × AreResourcesOf fs rs
 
--- the operations, each with the number of its resource, of which the first is k
+-- the operations, each with the number of its resource; the first resource has the number k
 abbrev pub operations_from : ℕ → List ResourceForm → List Operation
 operations_from k [] = []
 operations_from k (r ∷ rs) = map (λ n. record { name = n; resource = k }) r.operations ++ operations_from (k + 1) rs
 
--- the paths, each with its form and the number of its resource, of which the first is k
+-- the forms of the paths, each with the number of its resource; the first resource has the number k
 abbrev pub paths_from : ℕ → List ResourceForm → List (ℕ × Form)
 paths_from k [] = []
 paths_from k (r ∷ rs) = map (λ f. (k, f)) r.paths ++ paths_from (k + 1) rs
 
--- a path of that resource, with the numbers of the names
+-- the path of that resource and form, with the numbers of the names
 abbrev pub IsPathOf : List (List ℕ) → ℕ × Form → Path → Type 0
 IsPathOf ns f p = (p.resource ≡ f.0) × Numbers ns f.1 p.tree
 

@@ -1,7 +1,7 @@
 -- What a text declares, in names alone.
 use Rattle.std.specs.Prelude.{ℕ, List, [], ◌∷◌, ◌++◌, Option}
 
--- a path expression over names, with the digits of the bounds that stand in braces
+-- a path expression over names, with the digits of the bounds of braces
 pub data Form : Type 0 where
   once : List ℕ → Form
   sequence : Form → Form → Form

@@ -1,4 +1,4 @@
--- The grammar. The pieces, up to those of the rest, are a unit, an alternative, a sequence, .. with this form.
+-- The grammar: the pieces, up to those of the rest, are a unit, an alternative, a sequence and so on of this form.
 use Rattle.std.specs.Prelude.{ℕ, suc, List, [], ◌∷◌, Option, Some, None}
 use Rattle.path_lex.specs.declared.token.Sign.TheVariants as signs
 use Rattle.path_lex.specs.declared.token.Reserved.TheVariants as words
@@ -10,7 +10,7 @@ pub data IsClosing : List Piece → List Piece → Option (List ℕ) → Type 0 
   by_brace : {rest : List Piece} → IsClosing (sign signs.CloseBrace ∷ rest) rest None
   by_bound : {n : List ℕ} {rest : List Piece} → IsClosing (sign signs.Colon ∷ number n ∷ sign signs.CloseBrace ∷ rest) rest (Some n)
 
--- At most d parentheses and braces are open at once.
+-- at most d parentheses and braces are open at once
 mutual
   -- unit = NAME | "(" seq ")" | "{" seq [":" NUMBER] "}"
   pub data IsUnit : ℕ → List Piece → List Piece → Form → Type 0 where

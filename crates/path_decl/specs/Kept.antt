@@ -1,4 +1,4 @@
--- What a declaration shows, and what it keeps beside that.
+-- What contracts see of a declaration, and what it keeps besides.
 use Rattle.std.specs.Prelude.{◌≡◌, ℕ, ◌<◌, length, slice_get, Some, option_map}
 use Rattle.path_model.specs.Declarations.{Declaration}
 use Rattle.path_decl.specs.declared.decl.Decl.TheInside.{Inside}
@@ -12,7 +12,7 @@ declaration_shown d = declaration_of d.resources.entries d.operations.entries d.
 abbrev pub shown : {Y : Type 0} → Inside Y → KnownDeclaration
 shown d = record { declaration = declaration_shown d; lawful = d.lawful }
 
--- The declaration is one that some text declares, and beside each operation stand the paths that name it.
+-- some text declares the declaration, and the list of each operation has the paths that name it
 pub record IsKept {Y : Type 0} (d : Inside Y) : Type 0 where
   pub declared : IsDeclared (declaration_shown d)
   pub named : length d.naming.items ≡ length d.operations.entries

@@ -12,18 +12,18 @@ use Rattle.path_lex.specs.Names.{IsName}
 abbrev pub NamesOwn : Declaration → Path → Type 0
 NamesOwn d p = (a : OpId) → Names p.tree a → (a.0 < length d.operations) × (resource_of d a.0 ≡ p.resource)
 
--- how many names stand in a tree
+-- how many names there are in a tree
 abbrev pub names_count : Tree → ℕ
 names_count (op a) = 1
 names_count (seq s t) = names_count s + names_count t
 names_count (alt s t) = names_count s + names_count t
 names_count (burst bd s) = names_count s
 
--- no name stands twice
+-- no name occurs twice
 abbrev pub IsDistinct : List (List ℕ) → Type 0
 IsDistinct ns = AllPairs (λ m n. m ≢ n) ns
 
--- names that no two share
+-- names, no two of them equal
 pub record AreDistinctNames (ns : List (List ℕ)) : Type 0 where
   pub each : All IsName ns
   pub distinct : IsDistinct ns
@@ -34,9 +34,9 @@ CapacityFits Cell = Unit {0}
 CapacityFits Tally = Unit {0}
 CapacityFits (Queue n) = (1 ≤ n) × (n ≤ 1024)
 
--- Resources and operations have names, each its own. A path names, each once, at most 64 operations of its own resource. There
--- are at most 64 resources, 256 operations and 256 paths. No braces stand within braces, and the bound of braces is 1 to 65,535.
--- The capacity of a queue is 1 to 1,024. The numbers of resources are those of resources that were declared.
+-- Resources and operations have names, no two of them equal. A path names, each once, at most 64 operations of its own resource. There
+-- are at most 64 resources, 256 operations and 256 paths. No braces are inside braces, and the bound of braces is 1 to 65,535.
+-- The capacity of a queue is 1 to 1,024. Operations and paths belong to declared resources.
 pub record Lawful (d : Declaration) : Type 0 where
   pub resource_names : AreDistinctNames (map (λ r. r.name) d.resources)
   pub operation_names : AreDistinctNames (map (λ o. o.name) d.operations)

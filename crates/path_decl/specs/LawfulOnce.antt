@@ -1,4 +1,4 @@
--- That a declaration is lawful is shown in one way at most.
+-- There is at most one proof that a declaration is lawful.
 use Rattle.std.specs.Coded.{Coded-set, ×_prop, Π_prop, Unit-prop, le_prop, coded_ℕ, coded_option}
 use Rattle.std.specs.List.{AllByRecursion-prop}
 use Rattle.std.specs.Prelude.{◌≡◌, ℕ, List, [], ◌∷◌, true, All, slice_index_or}

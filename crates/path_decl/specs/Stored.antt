@@ -1,4 +1,4 @@
--- How declarations are told apart: as numbers.
+-- How declarations are compared: by a coding as numbers.
 use Rattle.std.specs.Prelude.{◌≡◌, ℕ, zero, suc, List, [], ◌∷◌, refl}
 use Rattle.std.specs.Coded.{Coded, code_by, coded×, coded_list, coded_ℕ}
 use Rattle.std.proofs.Common.{◌∙◌, ap}
@@ -7,7 +7,7 @@ use Rattle.path_model.specs.declared.resource.Law.TheVariants.{Cell, Tally, Queu
 use Rattle.path_model.specs.Trees.{Tree, op, seq, alt, burst, any, most}
 use Rattle.path_model.specs.Declarations.{Resource, Operation, Path, Declaration}
 
--- a tree as marks, operands before their operators, and then those of the rest
+-- a tree as marks, operands before their operators, and then the rest
 abbrev marks : Tree → List (ℕ × ℕ) → List (ℕ × ℕ)
 marks (op a) rest = (0, a.0) ∷ rest
 marks (seq s t) rest = marks s (marks t ((1, 0) ∷ rest))
@@ -15,7 +15,7 @@ marks (alt s t) rest = marks s (marks t ((2, 0) ∷ rest))
 marks (burst any s) rest = marks s ((3, 0) ∷ rest)
 marks (burst (most n) s) rest = marks s ((4, n) ∷ rest)
 
--- the trees so far, with what a mark makes of the last of them
+-- the trees so far, after one more mark
 abbrev made : ℕ → ℕ → List Tree → List Tree
 made zero n ts = op (record { 0 = n }) ∷ ts
 made (suc zero) n (t ∷ s ∷ ts) = seq s t ∷ ts
@@ -78,7 +78,7 @@ path_code =
     code_by (ℕ × Tree) (coded× coded_ℕ tree_code)
     (λ p. (p.resource, p.tree)) (λ p. record { resource = p.0; tree = p.1 }) (λ _. refl)
 
--- a declaration is stored as the lists that it holds
+-- a declaration is stored as its three lists
 abbrev pub declaration_code : Coded Declaration
 declaration_code =
     code_by (List Resource × (List Operation × List Path))

@@ -1,4 +1,4 @@
--- What the parts of a declaration show.
+-- What contracts see of the parts of a declaration.
 use Rattle.std.specs.Prelude.{◌==◌, ◌+◌, ℕ, if◌then◌else◌, List, [], map, filter, slice_get, slice_index_or, option_map, Option, Vec}
 use Rattle.std.specs.String.{string_bytes}
 use Rattle.std.specs.declared.string.String.{String}
@@ -38,7 +38,7 @@ path_of p = record { resource = p.resource.0; tree = shape p.tree }
 abbrev pub declaration_of : {Y : Type 0} → List (String Y × Law) → List (String Y × ResId) → List (PathEntry Y) → Declaration
 declaration_of rs os ps = record { resources = resources_of rs; operations = operations_of os; paths = map path_of ps }
 
--- the numbers of the trees that name the operation, in order, where the first has the number n
+-- the numbers of the trees that name the operation, in order; the first tree has the number n
 abbrev pub naming_from : ℕ → List Tree → OpId → List PathId
 naming_from n ts a = map (λ p. record { 0 = p.0 }) (filter (λ p. has p.1 a) (numbered n ts))
 
@@ -46,7 +46,7 @@ naming_from n ts a = map (λ p. record { 0 = p.0 }) (filter (λ p. has p.1 a) (n
 abbrev pub naming : Declaration → OpId → List PathId
 naming d a = map (λ p. record { 0 = p.0 }) (filter (λ p. has p.1 a) (paths_of d))
 
--- what was noted beside an operation
+-- the list of paths of an operation
 abbrev pub noted : {Y : Type 0} → List (Vec PathId Y) → ℕ → Option (List PathId)
 noted vs a = option_map (λ v. v.items) (slice_get vs a)
 

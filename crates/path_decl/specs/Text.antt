@@ -7,8 +7,8 @@ use Rattle.path_decl.specs.Grammar.{IsFile}
 use Rattle.path_decl.specs.Declares.{Declares}
 use Rattle.path_decl.specs.Lawful.{Lawful}
 
--- The bytes are cut into tokens, the tokens are a file of the grammar, what it says of resources, operations and paths
--- is the declaration, and that keeps the rules and the limits.
+-- The bytes are cut into tokens, the tokens are a file of the grammar, its resources, operations and paths are the declaration, and
+-- this keeps the rules and the limits.
 pub record IsDeclarationText (text : List ℕ) (d : Declaration) : Type 0 where
   pub tokens : List Placed
   pub cut : AreTokensOf text tokens

@@ -1,4 +1,4 @@
-//! Declarations, and what they answer.
+//! Declarations, and what they contain.
 
 ghost use Rattle.std.specs.Prelude.{◌≡◌, ◌<◌, ◌↔◌, length, map, Contains, IsSome, IfSome, IfNone, IfOk, Some, slice_get, option_map};
 ghost use Rattle.path_model.specs.Trees.{shape};
@@ -15,26 +15,26 @@ use std::alloc::{Allocator, Global};
 use std::hash::{BuildHasherDefault, FoldHasher};
 use std::marker::Model;
 
-/// Names in the order of the text, each with what was declared of it.
+/// Names in the order of the text, each with what was declared for it.
 pub type Names<V, A> = IndexMap<String<A>, V, BuildHasherDefault<FoldHasher>, A>;
 
 /// A path and its resource.
 #[derive(Drop)]
 pub struct PathEntry<A: Allocator + Copy> {
-    /// The resource over whose operations it is.
+    /// The resource whose operations the path names.
     pub resource: ResId,
-    /// What stands between `path` and `end`.
+    /// The expression between `path` and `end`.
     pub tree: Expr<A>,
 }
 
 /// A declaration: resources, operations and paths, numbered in the order of the text. Contracts see these three lists as
-/// its `declaration`, and beside them what always holds of them, `lawful`.
+/// its `declaration`, and what always holds of them as `lawful`.
 #[derive(Drop)]
 pub struct Decl<A: Allocator + Copy = Global> {
     resources: Names<Law, A>,
     operations: Names<ResId, A>,
     naming: Vec<Vec<PathId, A>, A>,
-    /// The last, since the many small blocks of trees are given back fastest when no larger one follows.
+    /// Last, because the many small blocks of its trees are freed fastest when no larger block follows.
     paths: Vec<PathEntry<A>, A>,
     ghost lawful: { Lawful (declaration_of resources.entries operations.entries paths.items) } by { Lawful-prop _ },
 }
@@ -54,7 +54,7 @@ impl<A: Allocator + Copy> Model for Decl<A> {
 }
 
 impl<A: Allocator + Copy> Decl<A> {
-    /// The declaration of these resources, operations and paths, which some text declares. The only error is want of memory.
+    /// The declaration of these resources, operations and paths, which must be those of some text. Fails only if allocation fails.
     /// The cost is a walk over the trees.
     pub fn new(
         alloc: A,
@@ -75,7 +75,7 @@ impl<A: Allocator + Copy> Decl<A> {
     }
 }
 
-/// The operation with this name; `None` where none has it. A look-up in a hash table.
+/// The operation with this name; `None` if there is none. A look-up in a hash table.
 pub fn operation<A: Allocator + Copy>(decl: &Decl<A>, name: &str) -> Option<OpId>
     ensures some { IfSome result (λ a. slice_get (map (λ o. o.name) decl.now.declaration.operations) a.0 ≡ Some name.now) }
     ensures none { IfNone result (Contains (map (λ o. o.name) decl.now.declaration.operations) name.now → ⊥) }
@@ -84,7 +84,7 @@ pub fn operation<A: Allocator + Copy>(decl: &Decl<A>, name: &str) -> Option<OpId
     Some(OpId(place as u32))
 }
 
-/// The resource with this name; `None` where none has it. A look-up in a hash table.
+/// The resource with this name; `None` if there is none. A look-up in a hash table.
 pub fn resource<A: Allocator + Copy>(decl: &Decl<A>, name: &str) -> Option<ResId>
     ensures some { IfSome result (λ r. slice_get (map (λ r. r.name) decl.now.declaration.resources) r.0 ≡ Some name.now) }
     ensures none { IfNone result (Contains (map (λ r. r.name) decl.now.declaration.resources) name.now → ⊥) }
@@ -93,7 +93,7 @@ pub fn resource<A: Allocator + Copy>(decl: &Decl<A>, name: &str) -> Option<ResId
     Some(ResId(place as u32))
 }
 
-/// The numbers of the paths that name the operation, ascending; `None` where it isn't declared. A look-up by number.
+/// The numbers of the paths that name the operation, ascending; `None` if it isn't declared. A look-up by number.
 pub fn paths_of<A: Allocator + Copy>(decl: &Decl<A>, op: OpId) -> Option<&[PathId]>
     ensures declared { IsSome result ↔ (op.0 < length decl.now.declaration.operations) }
     ensures paths { IfSome result (λ ps. ps.now ≡ naming decl.now.declaration op) }
@@ -102,7 +102,7 @@ pub fn paths_of<A: Allocator + Copy>(decl: &Decl<A>, op: OpId) -> Option<&[PathI
     Some(paths.as_slice())
 }
 
-/// The law of the resource; `None` where it isn't declared. A look-up by number.
+/// The law of the resource; `None` if it isn't declared. A look-up by number.
 pub fn law_of<A: Allocator + Copy>(decl: &Decl<A>, resource: ResId) -> Option<Law>
     ensures { result ≡ option_map (λ r. r.law) (slice_get decl.now.declaration.resources resource.0) }
 {
@@ -110,7 +110,7 @@ pub fn law_of<A: Allocator + Copy>(decl: &Decl<A>, resource: ResId) -> Option<La
     Some(*law)
 }
 
-/// The resource of the operation; `None` where it isn't declared. A look-up by number.
+/// The resource of the operation; `None` if it isn't declared. A look-up by number.
 pub fn resource_of<A: Allocator + Copy>(decl: &Decl<A>, op: OpId) -> Option<ResId>
     ensures { option_map (λ r. r.0) result ≡ option_map (λ o. o.resource) (slice_get decl.now.declaration.operations op.0) }
 {
@@ -118,7 +118,7 @@ pub fn resource_of<A: Allocator + Copy>(decl: &Decl<A>, op: OpId) -> Option<ResI
     Some(*resource)
 }
 
-/// The resource of the path; `None` where it isn't declared. A look-up by number.
+/// The resource of the path; `None` if it isn't declared. A look-up by number.
 pub fn path_resource<A: Allocator + Copy>(decl: &Decl<A>, path: PathId) -> Option<ResId>
     ensures { option_map (λ r. r.0) result ≡ option_map (λ p. p.resource) (slice_get decl.now.declaration.paths path.0) }
 {
@@ -126,7 +126,7 @@ pub fn path_resource<A: Allocator + Copy>(decl: &Decl<A>, path: PathId) -> Optio
     Some(entry.resource)
 }
 
-/// The tree of the path; `None` where it isn't declared. A look-up by number.
+/// The tree of the path; `None` if it isn't declared. A look-up by number.
 pub fn tree_of<A: Allocator + Copy>(decl: &Decl<A>, path: PathId) -> Option<&Expr<A>>
     ensures { option_map (λ t. shape t.now) result ≡ option_map (λ p. p.tree) (slice_get decl.now.declaration.paths path.0) }
 {
@@ -134,7 +134,7 @@ pub fn tree_of<A: Allocator + Copy>(decl: &Decl<A>, path: PathId) -> Option<&Exp
     Some(&entry.tree)
 }
 
-/// The name of the operation; `None` where it isn't declared. A look-up by number.
+/// The name of the operation; `None` if it isn't declared. A look-up by number.
 pub fn op_name<A: Allocator + Copy>(decl: &Decl<A>, op: OpId) -> Option<&str>
     ensures { option_map (λ s. s.now) result ≡ option_map (λ o. o.name) (slice_get decl.now.declaration.operations op.0) }
 {
@@ -142,7 +142,7 @@ pub fn op_name<A: Allocator + Copy>(decl: &Decl<A>, op: OpId) -> Option<&str>
     Some(name.as_str())
 }
 
-/// The name of the resource; `None` where it isn't declared. A look-up by number.
+/// The name of the resource; `None` if it isn't declared. A look-up by number.
 pub fn resource_name<A: Allocator + Copy>(decl: &Decl<A>, resource: ResId) -> Option<&str>
     ensures { option_map (λ s. s.now) result ≡ option_map (λ r. r.name) (slice_get decl.now.declaration.resources resource.0) }
 {
@@ -150,7 +150,7 @@ pub fn resource_name<A: Allocator + Copy>(decl: &Decl<A>, resource: ResId) -> Op
     Some(name.as_str())
 }
 
-/// How many resources, operations and paths there are. Takes the same time however many.
+/// How many resources, operations and paths there are. Takes constant time.
 pub fn counts<A: Allocator + Copy>(decl: &Decl<A>) -> Counts
     ensures resources { result.resources ≡ length decl.now.declaration.resources }
     ensures operations { result.operations ≡ length decl.now.declaration.operations }

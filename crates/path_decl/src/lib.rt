@@ -1,6 +1,6 @@
-//! Declarations: resources, operations and paths, and what they answer.
+//! Declarations: resources, operations and paths.
 //!
-//! What bytes are a declaration is defined in `specs/Text.antt`. The crate path_read reads them.
+//! `specs/Text.antt` defines which bytes are which declaration. The crate path_read reads them.
 #![tactic(auto)]
 
 mod decl;

@@ -8,7 +8,7 @@ use crate::decl::PathEntry;
 use path_model::{Expr, OutOfMemory, PathId};
 use std::alloc::Allocator;
 
-/// Notes beside each operation that the path names it, as often as it does.
+/// Adds the path to the list of each operation that the tree names, once for each time. Fails only if allocation fails.
 fn note<A: Allocator + Copy>(
     naming: &mut Vec<Vec<PathId, A>, A>,
     tree: &Expr<A>,
@@ -33,7 +33,7 @@ fn note<A: Allocator + Copy>(
     Ok(())
 }
 
-/// As many empty lists as there are operations.
+/// An empty list for each operation. Fails only if allocation fails.
 fn unnamed<A: Allocator + Copy>(
     alloc: A,
     operations: usize,
@@ -48,7 +48,7 @@ fn unnamed<A: Allocator + Copy>(
     Ok(naming)
 }
 
-/// The paths that name each operation, in order.
+/// The paths that name each operation, in order. Fails only if allocation fails.
 pub(crate) fn naming_paths<A: Allocator + Copy>(
     alloc: A,
     paths: &[PathEntry<A>],

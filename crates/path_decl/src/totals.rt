@@ -1,6 +1,6 @@
-//! How much a declaration holds.
+//! How much a declaration contains.
 
-/// How much was declared.
+/// The numbers of resources, operations and paths.
 #[derive(Clone, Copy, Debug, PartialEq, Eq)]
 pub struct Counts {
     /// How many resources.

@@ -1,4 +1,4 @@
--- Digits, read from the left, and the number that they write.
+-- Digits, read from the left, and the number that they spell.
 use Rattle.std.proofs.Common.{◌≡◌, ℕ, ◌+◌, ◌-◌, ◌*◌, ◌<◌, ◌≤◌, ◌^◌, List, [], ◌∷◌, ◌++◌, length, take, drop, get_or, refl, sym, ap, inl, inr, ◌∙◌, subst, rules, arith, decimal}
 use Rattle.std.proofs.lemmas.List.{take_more, take-append-drop, append-nil, get_or-take, length-take-le}
 use Rattle.std.proofs.lemmas.Bool.{cases_lt}

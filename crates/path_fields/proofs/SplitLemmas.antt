@@ -37,7 +37,7 @@ until_once sep (x ∷ a) (y ∷ a') b b' h h' end end' e =
     let g = until_once sep a a' b b' h.1 h'.1 end end' f in
     (cc, g.1)
 
--- what a comparison of two texts tells
+-- what a comparison of two texts says
 pub is_text : (r : Bool) (xs ys zs : List ℕ) → zs ≡ ys → r ≡ true → r ≡ pointwise eqb xs zs → xs ≡ ys
 is_text r xs ys zs e t f = (slice_eq-Decides Decides-eqb xs zs r f).0 t ∙ e
 

@@ -2,11 +2,11 @@
 use Rattle.std.specs.Prelude.{◌≡◌, ◌≢◌, ℕ, ◌≤◌, List, [], ◌∷◌}
 use Rattle.std.specs.List.{AllByRecursion}
 
--- such a byte stands nowhere in the text
+-- this byte is nowhere in the text
 abbrev pub HasNone : ℕ → List ℕ → Type 0
 HasNone byte text = AllByRecursion (λ b. b ≢ byte) text
 
--- nothing is left, or such a byte comes next
+-- nothing is left, or this byte comes next
 abbrev pub EndsAt : ℕ → List ℕ → Type 0
 EndsAt byte [] = Unit {0}
 EndsAt byte (b ∷ bs) = b ≡ byte
@@ -15,7 +15,7 @@ EndsAt byte (b ∷ bs) = b ≡ byte
 abbrev pub IsDigit : ℕ → Type 0
 IsDigit b = (48 ≤ b) × (b ≤ 57)
 
--- nothing is left, or what comes next is no digit
+-- nothing is left, or the next byte isn't a digit
 abbrev pub HasNoDigitNext : List ℕ → Type 0
 HasNoDigitNext [] = Unit {0}
 HasNoDigitNext (b ∷ bs) = IsDigit b → ⊥

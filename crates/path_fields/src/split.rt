@@ -4,7 +4,7 @@ ghost use Rattle.std.specs.Prelude.{◌≡◌, ◌≢◌, ℕ, ◌+◌, ◌<◌,
 ghost use Rattle.std.specs.Prelude.{IfSome, IfNone, MatchOption, List};
 ghost use Rattle.path_fields.specs.Splits.{HasNone, EndsAt};
 
-/// The place of the first such byte.
+/// The index of the first byte with this value.
 fn place_of(text: &[u8], byte: u8) -> Option<usize>
     ensures within { IfSome result (λ at. at < length text.now) }
     ensures found { IfSome result (λ at. slice_index text.now at ≡ byte) }
@@ -14,7 +14,7 @@ fn place_of(text: &[u8], byte: u8) -> Option<usize>
     text.iter().position(|other| *other == byte)
 }
 
-/// The bytes before the first such byte, and those after it; nothing where there is no such byte. One pass over the text.
+/// The bytes before the first separator, and those after it; `None` if there is no separator. One pass over the text.
 pub fn cut(text: &[u8], separator: u8) -> Option<(&[u8], &[u8])>
     ensures some { IfSome result (λ p. text.now ≡ p.0.now ++ separator ∷ p.1.now) }
     ensures first { IfSome result (λ p. HasNone separator p.0.now) }
@@ -24,8 +24,8 @@ pub fn cut(text: &[u8], separator: u8) -> Option<(&[u8], &[u8])>
     Some((&text[..at], &text[at + 1..]))
 }
 
-/// The bytes before the first such byte, and the rest of the text from that byte on: all of it and nothing where there
-/// is no such byte. One pass over what is before it.
+/// The bytes before the first separator, and the rest of the text from that separator on; without a separator, the whole text
+/// and an empty rest. One pass over what is before it.
 pub fn until(text: &[u8], separator: u8) -> (&[u8], &[u8])
     ensures parts { text.now ≡ result.0.now ++ result.1.now }
     ensures first { HasNone separator result.0.now }
@@ -37,7 +37,7 @@ pub fn until(text: &[u8], separator: u8) -> (&[u8], &[u8])
     }
 }
 
-/// What follows these bytes, where the text begins with them.
+/// What follows `front` if the text begins with it.
 pub fn strip<'a>(text: &'a [u8], front: &[u8]) -> Option<&'a [u8]>
     ensures { MatchOption result ((rest : List ℕ) → text.now ≢ front.now ++ rest) (λ rest. text.now ≡ front.now ++ rest.now) }
 {
@@ -52,8 +52,7 @@ pub fn strip<'a>(text: &'a [u8], front: &[u8]) -> Option<&'a [u8]>
     Some(&text[front.len()..])
 }
 
-/// The text itself, where the line ends before it: it is empty or begins with a line feed. Nothing where it goes on
-/// otherwise.
+/// The text itself if the line has ended: the text is empty or begins with a line feed. Else `None`.
 pub fn at_end(text: &[u8]) -> Option<&[u8]>
     ensures { MatchOption result (EndsAt 10 text.now → ⊥) (λ same. (same.now ≡ text.now) × EndsAt 10 same.now) }
 {
@@ -64,7 +63,7 @@ pub fn at_end(text: &[u8]) -> Option<&[u8]>
     }
 }
 
-/// What follows a line of so many bytes and its line feed, which the last line of a text may lack.
+/// What follows a line of `line` bytes and its line feed, which the last line of a text may lack.
 pub fn after_line(text: &[u8], line: usize) -> &[u8]
     requires { line ≤ length text.now }
     ensures { result.now ≡ drop (line + 1) text.now }

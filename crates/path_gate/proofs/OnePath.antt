@@ -1,4 +1,4 @@
--- One path in the table: its trimmed terms ask and change what its values do, and touch no other path's.
+-- One path in the table: its trimmed terms test and change its own values, and touch no other path's.
 use Rattle.std.proofs.Common.{◌≡◌, ◌⊎◌, ◌==◌, ◌&&◌, ◌+◌, ◌-◌, ◌<◌, ◌≤◌, ◌^◌, ℕ, cond, Bool, true, false, List, length, get_or, arith, refl, sym, ap, ◌∙◌, subst, inl, inr}
 use Rattle.std.specs.Prelude.{nat_lt}
 use Rattle.std.proofs.Math.ListN.{set}

@@ -1,4 +1,4 @@
--- The passes over paths whose numbers rise: each term moves its own path, and the first that can't pass is that of the first path that blocks.
+-- Passes over paths whose numbers rise: each term moves its own path, and the first that can't pass is that of the first path that blocks.
 use Rattle.std.proofs.Common.{◌≡◌, ◌+◌, ◌<◌, ◌≤◌, ℕ, cond, Bool, true, false, List, [], ◌∷◌, length, get_or, arith, refl, sym, ◌∙◌, subst, Option, Some, None, All, inl, inr}
 use Rattle.std.specs.Prelude.{MatchOption}
 use Rattle.std.proofs.lemmas.List.Elements.{All-nil, All-cons}

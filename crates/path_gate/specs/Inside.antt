@@ -1,4 +1,4 @@
--- What a gate shows, and what it keeps beside that.
+-- What contracts see of a gate, and what it keeps besides.
 use Rattle.path_model.specs.Legal as legal
 use Rattle.path_gate.specs.declared.gate.Gate.TheInside.{Inside}
 use Rattle.path_gate.specs.Standings.{Standing}

@@ -14,14 +14,14 @@ pub record Levels : Type 0 where
 abbrev pub levels : List ℕ → List ℕ → Levels
 levels semaphores counters = record { semaphores = semaphores; counters = counters }
 
--- one less, and one more, at a number
+-- the values with one less, and with one more, at a number
 abbrev pub taken : List ℕ → ℕ → List ℕ
 taken values q = slice_set values q (slice_index values q - 1)
 
 abbrev pub given : List ℕ → ℕ → List ℕ
 given values q = slice_set values q (slice_index values q + 1)
 
--- the semaphore is above 0, or an execution of the braces is under way already
+-- the semaphore is above 0, or an execution of the braces is in progress already
 abbrev pub is_open : ℕ → ℕ → Levels → Bool
 is_open c q v = nat_lt 0 (slice_index v.counters c) || nat_lt 0 (slice_index v.semaphores q)
 
@@ -32,7 +32,7 @@ can_pass (Some (P q)) v = nat_lt 0 (slice_index v.semaphores q)
 can_pass (Some (PP c q)) v = is_open c q v
 can_pass (Some (PPN c q u)) v = nat_lt 0 (slice_index v.semaphores u) && is_open c q v
 
--- one execution more of the braces, the first of which takes one from the semaphore
+-- one more execution of the braces, the first of which takes one from the semaphore
 abbrev pub entered : ℕ → ℕ → Levels → Levels
 entered c q v =
     record {
@@ -40,7 +40,7 @@ entered c q v =
       counters = given v.counters c;
     }
 
--- one execution less, the last of which gives one
+-- one execution less, the last of which gives one to the semaphore
 abbrev pub left : ℕ → ℕ → Levels → Levels
 left c q v =
     record {
@@ -60,7 +60,7 @@ finished (Some (V q)) v = record v { semaphores = given v.semaphores q }
 finished (Some (VV c q)) v = left c q v
 finished (Some (VVN c q u)) v = let w = left c q v in record w { semaphores = given w.semaphores u }
 
--- the numbers stand in tables of n semaphores and m counters
+-- the numbers are within tables of n semaphores and m counters
 abbrev pub PrologueWithin : ℕ → ℕ → Option Prologue → Type 0
 PrologueWithin n m None = Unit {0}
 PrologueWithin n m (Some (P q)) = q < n
@@ -73,7 +73,7 @@ EpilogueWithin n m (Some (V q)) = q < n
 EpilogueWithin n m (Some (VV c q)) = (c < m) × (q < n)
 EpilogueWithin n m (Some (VVN c q u)) = (c < m) × (q < n) × (u < n)
 
--- no value falls below 0 or leaves its places
+-- no value falls below 0 or reaches 2 ^ 64
 abbrev pub CanEnter : ℕ → ℕ → Levels → Type 0
 CanEnter c q v = (slice_index v.counters c ≡ 0 → 0 < slice_index v.semaphores q) × (slice_index v.counters c + 1 < 2 ^ 64)
 

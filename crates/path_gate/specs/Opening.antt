@@ -1,4 +1,4 @@
--- How the table of a gate is opened: value by value, and term by term.
+-- How the table of a gate is filled: value by value, and term by term.
 use Rattle.std.specs.Prelude.{◌==◌, ◌+◌, ◌-◌, ◌<◌, if◌then◌else◌, ℕ, List, []}
 use Rattle.std.specs.Prelude.{◌∷◌, ◌++◌, length, map, replicate, slice_set, slice_index_or, Vec}
 use Rattle.path_model.specs.declared.ids.OpId.{OpId}
@@ -7,7 +7,7 @@ use Rattle.path_trim.specs.declared.table.LeanOp.{LeanOp}
 use Rattle.path_trim.specs.LeanTable.{LeanRow}
 use Rattle.path_gate.specs.declared.gate.Term.{Term}
 
--- the value at its number; places below it that weren't there have 0
+-- the values with x at number i; new places below it have 0
 abbrev pub put_value : List ℕ → ℕ → ℕ → List ℕ
 put_value values i x = slice_set (values ++ replicate (i + 1 - length values) 0) i x
 

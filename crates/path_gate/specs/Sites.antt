@@ -6,7 +6,7 @@ use Rattle.path_model.specs.Flat.{Sited, sited, HasBound, bound_number}
 use Rattle.path_model.specs.Trimmed.{stands_in, KeepsSemaphore, KeepsCounter}
 use Rattle.path_gate.specs.Levels.{Levels}
 
--- those whose trees no earlier path has, with the numbers of the file; seen are the earlier trees
+-- the paths whose tree no earlier path has, with the numbers of the file; seen are the earlier trees
 abbrev pub unlike : List Tree → List (ℕ × Sited) → List (ℕ × Sited)
 unlike seen [] = []
 unlike seen (x ∷ xs) = if stands_in x.1.tree seen then unlike seen xs else (x ∷ unlike (x.1.tree ∷ seen) xs)
@@ -14,7 +14,7 @@ unlike seen (x ∷ xs) = if stands_in x.1.tree seen then unlike seen xs else (x 
 abbrev pub kept_paths : List (ℕ × Tree) → List (ℕ × Sited)
 kept_paths xs = unlike [] (sited 0 0 xs)
 
--- at the path's numbers the table holds what is kept of its values: semaphores, counters and bounds
+-- at the path's numbers the table has what is kept of its values: semaphores, counters and bounds
 pub record Shows (v : Levels) (w : Values) (x : Sited) : Type 0 where
   pub semaphores : (q : ℕ) → q ≤ semicolons x.tree → KeepsSemaphore x.tree q → slice_index v.semaphores (x.own + q) ≡ w.semaphore q
   pub counters : (c : ℕ) → c < braces x.tree → KeepsCounter x.tree c → slice_index v.counters (x.first + c) ≡ w.counter c

@@ -13,17 +13,17 @@ use Rattle.path_gate.specs.Sites.{kept_paths}
 use Rattle.path_gate.specs.Standings.{Standing, IsAt}
 use Rattle.path_gate.specs.Terms.{terms_at}
 
--- all that is kept of the path has its place in tables of n semaphores and m counters
+-- each kept value of the path has its place in tables of n semaphores and m counters
 pub record HasPlaces (n m : ℕ) (x : Sited) : Type 0 where
   pub semaphores : (q : ℕ) → q ≤ semicolons x.tree → KeepsSemaphore x.tree q → x.own + q < n
   pub counters : (c : ℕ) → c < braces x.tree → KeepsCounter x.tree c → x.first + c < m
   pub limits : (c : ℕ) → HasBound x.tree 0 c → bound_number x c < n
 
--- the run of each operation: the terms between two places
+-- the run of each operation: the terms between its two bounds
 abbrev pub runs_of : List Term → List (ℕ × ℕ) → List (List Term)
 runs_of terms bounds = map (λ b. take (b.1 - b.0) (drop b.0 terms)) bounds
 
--- the places are in order, and within the list
+-- the bounds are in order, and within the list
 abbrev pub IsLaidOut : List Term → List (ℕ × ℕ) → Type 0
 IsLaidOut terms bounds = All (λ b. (b.0 ≤ b.1) × (b.1 ≤ length terms)) bounds
 
@@ -34,6 +34,6 @@ pub record IsSound (g : Standing) (runs : List (List Term)) : Type 0 where
   pub terms : (a : OpId) → slice_index_or runs a.0 [] ≡ terms_at (kept_paths g.paths) a
   pub counts : length g.in_progress ≡ length runs
   pub places : legal.Every (λ x. HasPlaces (length g.semaphores) (length g.counters) x) (kept_paths g.paths)
-  -- what no path names isn't counted
+  -- the count of an operation that no path names is 0
   pub idle : (a : OpId) → legal.NoneOf (λ s. Names s a) g.paths → slice_index g.in_progress a.0 ≡ 0
   pub history : (h : List Event) × legal.Legal g.paths h × IsAt g h × (starts_in h ≡ g.admitted)

@@ -36,31 +36,32 @@ standing_code =
 abbrev pub IsNamed : List (ℕ × Tree) → OpId → Type 0
 IsNamed xs a = legal.NoneOf (λ s. Names s a) xs → ⊥
 
--- The gate is at a history: of each path that is kept it has the values of the trimmed semaphores after it, and for each operation
--- that a path names it tells how often it began there and hasn't ended.
+-- the gate is at a history: of each path that is kept it has the values of the trimmed semaphores after it, and for each operation
+-- that a path names, the count of executions that began in it and haven't ended
 pub record IsAt (g : Standing) (h : List Event) : Type 0 where
   pub values : legal.Every (λ x. Shows (levels g.semaphores g.counters) (lean_among x.tree (opening x.tree) h) x) (kept_paths g.paths)
   pub progress : (a : OpId) → IsNamed g.paths a → slice_index g.in_progress a.0 + ended a h ≡ begun a h
 
--- a start is let through exactly where it keeps each legal history legal at which the gate is; else the first path that forbids it is named
+-- a start is let through if and only if each legal history at which the gate is stays legal with it; else the error is the first path
+-- that forbids it
 abbrev pub Judges : {E : Type 0} → Standing → OpId → Result E PathId → Type 0
 Judges g a result =
     (h : List Event) → legal.Legal g.paths h → IsAt g h
     → MatchResult result (λ ok. legal.Legal g.paths (h ++ Began a ∷ [])) (λ p. legal.First (legal.Forbids h a) g.paths p.0)
 
--- the gate goes on by an admitted start
+-- the gate after an admitted start
 pub record Admitted (old : Standing) (a : OpId) (new : Standing) : Type 0 where
   pub paths : new.paths ≡ old.paths
   pub admitted : new.admitted ≡ old.admitted + 1
   pub moved : (h : List Event) → IsAt old h → IsAt new (h ++ Began a ∷ [])
 
--- each path that forbade a start of any operation still does after this one
+-- each path that forbade a start of any operation still forbids it after this one
 abbrev pub BlocksStay : Standing → OpId → Type 0
 BlocksStay g a =
     (h : List Event) → legal.Legal g.paths h → IsAt g h → (b : OpId)
     → legal.Every (λ s. legal.Forbids h b s → legal.Forbids (h ++ Began a ∷ []) b s) g.paths
 
--- the gate goes on by a finish
+-- the gate after a finish
 pub record Released (old : Standing) (a : OpId) (new : Standing) : Type 0 where
   pub paths : new.paths ≡ old.paths
   pub admitted : new.admitted ≡ old.admitted

@@ -1,4 +1,4 @@
--- The terms of a gate: what an operation asks of the paths that name it, in the order of the file.
+-- The terms of a gate: what an operation does in the paths that name it, in the order of the file.
 use Rattle.std.specs.Prelude.{◌+◌, ◌-◌, if◌then◌else◌, ℕ, List, [], ◌∷◌, Option, Some, None, slice_index, slice_set}
 use Rattle.path_model.specs.declared.ids.OpId.{OpId}
 use Rattle.path_model.specs.declared.ids.PathId.{PathId}
@@ -9,7 +9,7 @@ use Rattle.path_trim.specs.LeanTable.{prologue_left, epilogue_left}
 use Rattle.path_gate.specs.declared.gate.Term.{Term}
 use Rattle.path_gate.specs.Levels.{Levels, can_pass, started, finished, PrologueWithin, EpilogueWithin, CanStart, CanFinish}
 
--- what is left of the operation in the path
+-- the term of the operation in the path
 abbrev pub term_at : ℕ × Sited → OpId → Term
 term_at x a =
     record {
@@ -48,12 +48,12 @@ abbrev pub CanFinishAll : List Term → Levels → Type 0
 CanFinishAll [] v = Unit {0}
 CanFinishAll (t ∷ terms) v = CanFinish t.epilogue v × CanFinishAll terms (finished t.epilogue v)
 
--- the numbers of the term stand in tables of n semaphores and m counters
+-- the numbers of the term are within tables of n semaphores and m counters
 pub record IsWithin (n m : ℕ) (t : Term) : Type 0 where
   pub prologue : PrologueWithin n m t.prologue
   pub epilogue : EpilogueWithin n m t.epilogue
 
--- one execution more, and one less, of an operation that has terms
+-- the counts with one more, and with one less, for an operation that has terms
 abbrev pub one_more : List Term → ℕ → List ℕ → List ℕ
 one_more [] op counts = counts
 one_more (t ∷ terms) op counts = slice_set counts op (slice_index counts op + 1)

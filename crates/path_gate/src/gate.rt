@@ -1,8 +1,8 @@
 //! Admission over several paths.
 //!
 //! Each path is a few semaphores and counters, as Campbell and Habermann describe (1974), of which only the useful ones are left.
-//! Those of all paths stand in one table. A start does its prologue in each path that names its operation, and is refused if one of
-//! these can't pass; a finish does its epilogues. `specs/Standings.antt` says at which histories a gate is, and what it answers there.
+//! Those of all paths are in one table. A start does its prologue in each path that names its operation, and is refused if one of
+//! these can't pass; a finish does its epilogues. `specs/Standings.antt` says at which histories a gate is, and what it decides there.
 
 ghost use Rattle.std.specs.Prelude.{◌≡◌, ◌≢◌, ◌+◌, ◌<◌, ◌≤◌, length, All, IfOk, OnOk, OnErr, MatchResult, slice_index, slice_index_or, []};
 ghost use Rattle.path_model.specs.Trees.{Names};
@@ -23,18 +23,18 @@ use std::alloc::{Allocator, Global};
 use std::marker::Model;
 use std::snapshot::Snapshot;
 
-/// What an operation asks of one path that names it.
+/// What an operation does in one path that names it.
 #[derive(Clone, Copy)]
 struct Term {
     /// The path.
     path: PathId,
-    /// What a start waits on; `None` where it always passes.
+    /// What a start waits on; `None` if it always passes.
     prologue: Option<Prologue>,
-    /// What a finish gives back; `None` where that is nothing.
+    /// What a finish gives back; `None` if it gives nothing back.
     epilogue: Option<Epilogue>,
 }
 
-/// Whether an execution of braces may begin: one is under way already, or the semaphore lets the first one in.
+/// Whether an execution of braces may begin: one is in progress already, or the semaphore lets the first one in.
 fn is_open(semaphores: &[u64], counters: &[u64], counter: u16, semaphore: u16) -> bool
     requires { (counter < length counters.now) × (semaphore < length semaphores.now) }
     ensures { result ≡ spec.is_open counter semaphore (levels semaphores.now counters.now) }
@@ -57,7 +57,7 @@ fn can_pass(semaphores: &[u64], counters: &[u64], prologue: Option<Prologue>) ->
     }
 }
 
-/// Counts one execution more of braces, the first of which takes one from the semaphore.
+/// Counts one more execution of the braces; the first one takes 1 from the semaphore.
 fn enter(semaphores: &mut [u64], counters: &mut [u64], counter: u16, semaphore: u16)
     requires within { (counter < length counters.old) × (semaphore < length semaphores.old) }
     requires can { CanEnter counter semaphore (levels semaphores.old counters.old) }
@@ -69,7 +69,7 @@ fn enter(semaphores: &mut [u64], counters: &mut [u64], counter: u16, semaphore: 
     counters[counter as usize] += 1;
 }
 
-/// Counts one execution less of braces, the last of which gives one to the semaphore.
+/// Counts one execution of the braces less; the last one gives 1 to the semaphore.
 fn leave(semaphores: &mut [u64], counters: &mut [u64], counter: u16, semaphore: u16)
     requires within { (counter < length counters.old) × (semaphore < length semaphores.old) }
     requires can { CanLeave counter semaphore (levels semaphores.old counters.old) }
@@ -81,7 +81,7 @@ fn leave(semaphores: &mut [u64], counters: &mut [u64], counter: u16, semaphore: 
     counters[counter as usize] -= 1;
 }
 
-/// Does a prologue, which can pass.
+/// Does a prologue that can pass.
 fn start(semaphores: &mut [u64], counters: &mut [u64], prologue: Option<Prologue>)
     requires within { PrologueWithin (length semaphores.old) (length counters.old) prologue }
     requires can { CanStart prologue (levels semaphores.old counters.old) }
@@ -115,7 +115,7 @@ fn finish(semaphores: &mut [u64], counters: &mut [u64], epilogue: Option<Epilogu
     }
 }
 
-/// The checking pass, which writes nothing.
+/// The first path whose prologue can't pass, as the error. Writes nothing.
 fn first_blocked(semaphores: &[u64], counters: &[u64], terms: &[Term]) -> Result<(), PathId>
     requires { All (IsWithin (length semaphores.now) (length counters.now)) terms.now }
     ensures { MatchResult result
@@ -130,7 +130,7 @@ fn first_blocked(semaphores: &[u64], counters: &[u64], terms: &[Term]) -> Result
     Ok(())
 }
 
-/// The applying pass of a start.
+/// Does the prologues of all terms.
 fn start_all(semaphores: &mut [u64], counters: &mut [u64], terms: &[Term])
     requires within { All (IsWithin (length semaphores.old) (length counters.old)) terms.now }
     requires can { CanStartAll terms.now (levels semaphores.old counters.old) }
@@ -141,7 +141,7 @@ fn start_all(semaphores: &mut [u64], counters: &mut [u64], terms: &[Term])
     }
 }
 
-/// The pass of a finish.
+/// Does the epilogues of all terms.
 fn finish_all(semaphores: &mut [u64], counters: &mut [u64], terms: &[Term])
     requires within { All (IsWithin (length semaphores.old) (length counters.old)) terms.now }
     requires can { CanFinishAll terms.now (levels semaphores.old counters.old) }
@@ -152,7 +152,7 @@ fn finish_all(semaphores: &mut [u64], counters: &mut [u64], terms: &[Term])
     }
 }
 
-/// One execution more of an operation that a path names.
+/// Counts one more execution of an operation that a path names.
 fn count_start(in_progress: &mut [u32], terms: &[Term], op: OpId)
     requires within { terms.now ≢ [] → op.0 < length in_progress.old }
     requires small { terms.now ≢ [] → slice_index in_progress.old op.0 + 1 < 4294967296 }
@@ -163,7 +163,7 @@ fn count_start(in_progress: &mut [u32], terms: &[Term], op: OpId)
     }
 }
 
-/// One execution less of an operation that a path names.
+/// Counts one execution less of an operation that a path names.
 fn count_finish(in_progress: &mut [u32], terms: &[Term], op: OpId)
     requires within { terms.now ≢ [] → op.0 < length in_progress.old }
     requires some { terms.now ≢ [] → 0 < slice_index in_progress.old op.0 }
@@ -174,7 +174,7 @@ fn count_finish(in_progress: &mut [u32], terms: &[Term], op: OpId)
     }
 }
 
-/// The terms of an operation; none for one that no path names.
+/// The terms of an operation; none if no path names it.
 fn run_of<'a>(terms: &'a [Term], bounds: &[(usize, usize)], op: OpId) -> &'a [Term]
     requires { IsLaidOut terms.now bounds.now }
     ensures { result.now ≡ slice_index_or (runs_of terms.now bounds.now) op.0 [] }
@@ -189,11 +189,11 @@ fn run_of<'a>(terms: &'a [Term], bounds: &[(usize, usize)], op: OpId) -> &'a [Te
 /// often each operation is in progress, and how many starts were admitted.
 #[derive(Drop)]
 pub struct Gate<A: Allocator + Copy = Global> {
-    /// What was opened, which only contracts read: it takes no memory.
+    /// What the gate was opened with. Only contracts read it, and it takes no memory.
     lean: Snapshot<Lean<A>>,
     /// The terms of all operations, those of each in the order of the paths.
     terms: Vec<Term, A>,
-    /// Where the terms of each operation begin, and where they end.
+    /// Where the terms of each operation begin and end.
     bounds: Vec<(usize, usize), A>,
     /// The values of the semaphores by their numbers in the file; 0 for those that were removed.
     semaphores: Vec<u64, A>,
@@ -218,9 +218,9 @@ impl<A: Allocator + Copy> Model for Gate<A> {
 }
 
 impl<A: Allocator + Copy> Gate<A> {
-    /// A gate over trimmed paths, with nothing in progress and nothing admitted.
+    /// Opens a gate over trimmed paths, with nothing in progress and nothing admitted.
     ///
-    /// The only error is want of memory; nothing is kept then. All memory of the gate is taken here. The cost is one look at each
+    /// Fails only if allocation fails; nothing is kept then. All memory of the gate is allocated here. The cost is one look at each
     /// semaphore and counter of the paths that are kept, three at each of their operations, and a place for each operation.
     pub fn open(alloc: A, lean: Lean<A>) -> Result<Gate<A>, OutOfMemory>
         ensures paths { IfOk result (λ gate. gate.paths ≡ legal.numbered 0 lean.trees) }
@@ -249,9 +249,9 @@ impl<A: Allocator + Copy> Gate<A> {
         })
     }
 
-    /// Whether a start of the operation would be admitted; if not, the first path in the file that forbids it.
+    /// Whether a start of the operation would be admitted; the error is the first path in the file that forbids it.
     ///
-    /// An operation that no path names is always let through. Nothing changes, and no memory is taken. The cost is one look at a
+    /// An operation that no path names is always let through. Changes nothing and allocates nothing. The cost is one look at a
     /// prologue for each path that names the operation.
     pub fn would_admit(&self, op: OpId) -> Result<(), PathId>
         ensures { Judges self.now op result }
@@ -260,11 +260,11 @@ impl<A: Allocator + Copy> Gate<A> {
         first_blocked(&self.semaphores, &self.counters, terms)
     }
 
-    /// Admits a start of the operation, or answers the first path in the file that forbids it.
+    /// Admits a start of the operation; the error is the first path in the file that forbids it.
     ///
-    /// All paths are asked before a value is written, so after an error the gate is as it was. After a start each path that forbade
-    /// an operation still does. Fewer than 4,294,967,295 starts may have been admitted before. No memory is taken. The cost is two
-    /// passes over the paths that name the operation.
+    /// Every path is asked before anything is written, so after an error the gate is as it was. After a start each path that forbade
+    /// an operation still forbids it. Fewer than 4,294,967,295 starts may have been admitted before. Allocates nothing. The cost is
+    /// two passes over the paths that name the operation.
     pub fn admit(&mut self, op: OpId) -> Result<(), PathId>
         requires { self.old.admitted < 4294967295 }
         ensures judges { Judges self.old op result }
@@ -284,9 +284,9 @@ impl<A: Allocator + Copy> Gate<A> {
         }
     }
 
-    /// Ends an execution of the operation, which has to be in progress if a path names it; otherwise nothing changes.
+    /// Ends an execution of the operation, which must be in progress if a path names it. Without a path that names it, nothing changes.
     ///
-    /// No memory is taken. The cost is one pass over the paths that name the operation.
+    /// Allocates nothing. The cost is one pass over the paths that name the operation.
     pub fn release(&mut self, op: OpId)
         requires { IsNamed self.old.paths op → 0 < slice_index self.old.in_progress op.0 }
         ensures moves { Released self.old op self.new }
@@ -304,7 +304,7 @@ impl<A: Allocator + Copy> Gate<A> {
         self.admitted
     }
 
-    /// How many executions of the operation began and haven't ended; 0 for one that no path names.
+    /// How many executions of the operation began and haven't ended; 0 for an operation that no path names.
     pub fn in_progress(&self, op: OpId) -> u32
         ensures counted { result ≡ slice_index self.now.in_progress op.0 }
         ensures unnamed { legal.NoneOf (λ s. Names s op) self.now.paths → result ≡ 0 }

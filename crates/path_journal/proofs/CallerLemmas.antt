@@ -1,4 +1,4 @@
--- What callers cite: the text that a line is written as tells that line.
+-- What callers cite: a line is read back from the text that is written for it.
 use Rattle.std.proofs.Common.{[], ◌∷◌, None, inr, sym}
 use Rattle.std.proofs.lemmas.List.{append-nil}
 use Rattle.std.proofs.lemmas.List.Elements.{All-cons, All-nil}

@@ -1,4 +1,4 @@
--- The text of a journal: what its first byte tells, its head, and its lines.
+-- The text of a journal: what its first byte decides, its head, and its lines.
 use Rattle.std.proofs.Common.{◌≡◌, ◌≢◌, ℕ, ◌+◌, ◌<◌, ◌^◌, List, [], ◌∷◌, ◌++◌, Option, Some, None, length, drop, ◌⊎◌, inl, inr, All, decimal, refl, sym, ap, ◌∙◌, subst, append_assoc, arith}
 use Rattle.std.proofs.lemmas.List.{append-nil, append_cancel_right, nil_from_length}
 use Rattle.std.proofs.lemmas.List.Elements.{All-nil}

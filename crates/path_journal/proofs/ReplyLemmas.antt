@@ -1,4 +1,4 @@
--- Each reply has one text, which is a line, and a text that is none is refused.
+-- Each reply has one text, which is a line, and any other text is refused.
 use Rattle.std.proofs.Common.{◌≡◌, ◌≢◌, ℕ, ◌<◌, ◌^◌, Bool, true, false, cond, if◌then◌else◌, List, ◌∷◌, ◌++◌, Option, Some, None, codes, decimal, rules, refl, sym, ap, ◌∙◌, subst, arith}
 use Rattle.std.specs.Str.{bytes_eq}
 use Rattle.std.proofs.lemmas.Slice.Eq.{bytes_eq-Decides}
@@ -67,7 +67,7 @@ reply_is_line Stale h = search rules
 reply_is_line NotYours h = search rules
 reply_is_line NoRoom h = search rules
 
--- what one test of the words tells
+-- what one test of the words says
 by_test : (b : Bool) (w c : List ℕ) (x r : Reply) (o : Option Reply) → (b ≡ true → w ≡ c) → c ≡ reply_text x → ReplyFits x → (o ≡ Some r → (w ≡ reply_text r) × ReplyFits r) → cond b (Some x) o ≡ Some r → (w ≡ reply_text r) × ReplyFits r
 by_test true w c x r o told is fits rest e = let same : x ≡ r = cc in (told refl ∙ is ∙ ap reply_text same, subst ReplyFits same fits)
 by_test false w c x r o told is fits rest e = rest e

@@ -1,4 +1,4 @@
--- Where a text of a journal is at fault.
+-- Faults of texts that aren't journals.
 use Rattle.std.specs.Prelude.{◌≡◌, ◌≢◌, ℕ, ◌+◌, ◌<◌, List, [], ◌++◌, length, codes, All, Option, Some, None}
 use Rattle.path_model.specs.declared.journal.Reply.{Reply}
 use Rattle.path_model.specs.declared.journal.Line.{Line}
@@ -16,7 +16,7 @@ use Rattle.path_journal.specs.JournalTexts.{ReplyFits, LineFits, head_text, IsRo
 abbrev pub IsNoLine : Declaration → List ℕ → Type 0
 IsNoLine d text = (l : Line) → LineFits l → text ≢ journal_line_text d l
 
--- a line that is right but for the name that it starts
+-- the line is right except for the name that it starts
 pub record IsUndeclared (d : Declaration) (line : List ℕ) : Type 0 where
   pub attempt : List ℕ
   pub reply : Reply
@@ -24,21 +24,21 @@ pub record IsUndeclared (d : Declaration) (line : List ℕ) : Type 0 where
   pub fits : ReplyFits reply
   pub spelled : line ≡ attempt ++ (codes ": " ++ reply_text reply)
 
--- a line is at fault so
+-- the fault of a line
 abbrev pub IsRecordFault : Declaration → List ℕ → LineFault → Type 0
 IsRecordFault d line line_faults.Bad = IsUndeclared d line → ⊥
 IsRecordFault d line line_faults.Undeclared = IsUndeclared d line
 
--- the first line of a text is none of a journal, and is at fault so
+-- the first line of a text isn't a line of a journal, and this is its fault
 abbrev pub IsFirstRecordFault : Declaration → List ℕ → LineFault → Type 0
 IsFirstRecordFault d text fault = (line : List ℕ) × IsFirstLine line text × IsNoLine d line × IsRecordFault d line fault
 
--- how many lines stand before those of the journal
+-- how many lines precede those of the journal
 abbrev pub lines_before : Option ℕ → ℕ
 lines_before None = 0
 lines_before (Some room) = 1
 
--- behind these lines stands this line, which is none
+-- the text has these lines, and then this line, which isn't a line of a journal
 pub record AreFaultyLines (d : Declaration) (text : List ℕ) (before : List Line) (line : List ℕ) : Type 0 where
   pub rest : List ℕ
   pub fits : All LineFits before
@@ -47,7 +47,7 @@ pub record AreFaultyLines (d : Declaration) (text : List ℕ) (before : List Lin
   pub first : IsFirstLine line rest
   pub none : IsNoLine d line
 
--- the first faulty one of the lines is line n, and it is at fault so
+-- the first faulty line is line n, and this is its fault
 pub record AreLinesAtFault (d : Declaration) (text : List ℕ) (n : ℕ) (kind : LineFault) : Type 0 where
   pub before : List Line
   pub line : List ℕ
@@ -55,14 +55,14 @@ pub record AreLinesAtFault (d : Declaration) (text : List ℕ) (n : ℕ) (kind :
   pub faulty : AreFaultyLines d text before line
   pub fault : IsRecordFault d line kind
 
--- lines are refused so, which stand behind so many others
+-- the fault of lines that follow `before` others
 abbrev pub IsLinesFault : Declaration → List ℕ → ℕ → TextFault → Type 0
 IsLinesFault d text before faults.TooLong = ⊥
 IsLinesFault d text before (faults.BadLine n) = (k : ℕ) × (n ≡ before + k) × AreLinesAtFault d text k line_faults.Bad
 IsLinesFault d text before (faults.Undeclared n) = (k : ℕ) × (n ≡ before + k) × AreLinesAtFault d text k line_faults.Undeclared
 IsLinesFault d text before faults.OutOfMemory = Unit {0}
 
--- behind n lines that are right stands this line, which is none of a journal and, where it is the first, no head
+-- the text has n lines that are right, and then this line, which isn't a line of a journal nor, as the first line, a head
 pub record IsFaultyLine (d : Declaration) (text : List ℕ) (n : ℕ) (line : List ℕ) : Type 0 where
   pub room : Option ℕ
   pub before : List Line
@@ -76,11 +76,11 @@ pub record IsFaultyLine (d : Declaration) (text : List ℕ) (n : ℕ) (line : Li
   pub none : IsNoLine d line
   pub no_head : n ≡ 0 → (m : ℕ) → IsRoom m → line ≢ head_text m
 
--- the first faulty line of a text is line n, and it is at fault so
+-- the first faulty line of a text is line n, and this is its fault
 abbrev pub IsFaultAt : Declaration → List ℕ → ℕ → LineFault → Type 0
 IsFaultAt d text n fault = (line : List ℕ) × IsFaultyLine d text n line × IsRecordFault d line fault
 
--- a text is refused so: it is too long, or its first faulty line is at fault so
+-- the fault of a text: it is too long, or its first faulty line has this fault
 abbrev pub IsJournalFault : Declaration → List ℕ → TextFault → Type 0
 IsJournalFault d text faults.TooLong = LIMIT < length text
 IsJournalFault d text (faults.BadLine n) = IsFaultAt d text n line_faults.Bad

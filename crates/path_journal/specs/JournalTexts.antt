@@ -1,4 +1,4 @@
--- Texts of journals: the lines, one a line, and in version 2 a first line that names the room.
+-- Texts of journals: a line for each line of the journal, and in version 2 a first line that names the room.
 use Rattle.std.specs.Prelude.{◌≡◌, ℕ, ◌<◌, ◌≤◌, ◌^◌, List, [], ◌∷◌, ◌++◌, codes, decimal, All, ◌⊎◌, Option, Some, None}
 use Rattle.std.specs.List.{flat_map}
 use Rattle.path_model.specs.declared.journal.TheConstants.{MOST_LINES}
@@ -9,7 +9,7 @@ use Rattle.path_model.specs.declared.journal.Line.{Line}
 use Rattle.path_model.specs.Declarations.{Declaration}
 use Rattle.path_lines.specs.LineTexts.{AttemptFits, journal_line_text}
 
--- the number of a path has at most 32 bits, each other at most 64
+-- the number of a path has at most 32 bits, any other at most 64
 abbrev pub ReplyFits : Reply → Type 0
 ReplyFits (Started n) = n.0 < 2 ^ 64
 ReplyFits (Blocked p) = p.0 < 2 ^ 32
@@ -35,7 +35,7 @@ pub record LineFits (l : Line) : Type 0 where
 abbrev pub journal_line : Declaration → Line → List ℕ
 journal_line d l = journal_line_text d l ++ 10 ∷ []
 
--- the lines of all of them, in order
+-- the texts of all lines, in order
 abbrev pub lines_text : Declaration → List Line → List ℕ
 lines_text d ls = flat_map (journal_line d) ls
 
@@ -43,16 +43,16 @@ lines_text d ls = flat_map (journal_line d) ls
 abbrev pub head_text : ℕ → List ℕ
 head_text room = codes "journal 2 room " ++ decimal room
 
--- a journal may have room for so many lines
+-- a journal may have this room
 abbrev pub IsRoom : ℕ → Type 0
 IsRoom room = (1 ≤ room) × (room ≤ MOST_LINES)
 
--- a room that is named is one
+-- a room that is named is in range
 abbrev pub RoomFits : Option ℕ → Type 0
 RoomFits None = Unit {0}
 RoomFits (Some room) = IsRoom room
 
--- what stands before the lines: in version 2 the head
+-- what precedes the lines: in version 2 the head
 abbrev pub front_text : Option ℕ → List ℕ
 front_text None = []
 front_text (Some room) = head_text room ++ 10 ∷ []

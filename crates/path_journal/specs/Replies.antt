@@ -5,7 +5,7 @@ use Rattle.path_model.specs.declared.journal.Reply.{Reply}
 use Rattle.path_model.specs.declared.journal.Reply.TheVariants.{UnknownOperation, NotOffered, Empty, Full}
 use Rattle.path_model.specs.declared.journal.Reply.TheVariants.{Overflow, DeviceFailed, Finished, Stale, NotYours, NoRoom}
 
--- the reply without a number that has these words
+-- the reply with these words and no number
 unfoldable pub plain_reply : List ℕ → Option Reply
 plain_reply w =
     if bytes_eq w (codes "finished") then Some Finished else

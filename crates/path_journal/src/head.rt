@@ -9,7 +9,7 @@ use path_fields::{last_number, strip};
 use path_model::{MOST_LINES, OutOfMemory};
 use std::alloc::Allocator;
 
-/// The room that the first line of a text names, and the text from the end of that line on.
+/// The room that the first line of a text names, and the text from the end of that line on; `None` if that line isn't a head.
 pub fn read_head(text: &[u8]) -> Option<(u32, &[u8])>
     ensures some { IfSome result (λ p. (text.now ≡ head_text p.0 ++ p.1.now) × IsRoom p.0 × EndsAt 10 p.1.now) }
     ensures none { IfNone result ((room : ℕ) (rest : List ℕ) → IsRoom room → EndsAt 10 rest → text.now ≢ head_text room ++ rest) }
@@ -23,8 +23,8 @@ pub fn read_head(text: &[u8]) -> Option<(u32, &[u8])>
     Some((room, rest))
 }
 
-/// The first line of a journal's text of version 2, without a line feed: `journal 2 room` and the room, which is 1 to
-/// [`MOST_LINES`]. Refused only for want of memory.
+/// The first line of a journal's text of version 2, without a line feed: `journal 2 room` and the room, which must be 1 to
+/// [`MOST_LINES`]. Fails only if allocation fails.
 pub fn write_head<A: Allocator + Copy>(alloc: A, room: u32) -> Result<String<A>, OutOfMemory>
     requires { IsRoom room }
     ensures { IfOk result (λ text. string_bytes text ≡ head_text room) }

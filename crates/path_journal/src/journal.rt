@@ -15,13 +15,13 @@ use path_lines::{LIMIT, TextFault, fault_at};
 use path_model::{JournalText, Line};
 use std::alloc::Allocator;
 
-/// How many lines a text may have: no line has fewer than sixteen bytes with its line feed.
+/// The most lines that a text can have: each line has at least sixteen bytes with its line feed.
 fn lines_at_most(text: &[u8]) -> usize {
     let ends = text.iter().filter(|byte| **byte == b'\n').count();
     ends.min(text.len() / 16) + 1
 }
 
-/// The lines of a journal, of a text that stands behind so many other lines.
+/// The lines of a journal in a text; `before` other lines precede them.
 fn read_lines<A: Allocator + Copy, B: Allocator + Copy>(
     alloc: B,
     decl: &Decl<A>,
@@ -49,14 +49,13 @@ fn read_lines<A: Allocator + Copy, B: Allocator + Copy>(
     Ok(lines)
 }
 
-/// The journal of a text. A text whose first byte is `j` is of version 2: its first line is `journal 2 room` and the room,
-/// 1 to [`MOST_LINES`](path_model::MOST_LINES), and the lines follow. Every other text is of version 1, and consists of
-/// lines. The line feed after the last line may be missing, and an empty text has no lines. Every reply may follow every
-/// attempt.
+/// Reads the journal of a text. A text whose first byte is `j` is of version 2: its first line is `journal 2 room` and the room,
+/// 1 to [`MOST_LINES`](path_model::MOST_LINES), and the lines follow. Every other text is of version 1, and has only lines. The
+/// line feed after the last line may be missing, and an empty text has no lines. Any reply may follow any attempt.
 ///
-/// `TooLong` exactly where the text has more than [`LIMIT`] bytes; else `BadLine` or `Undeclared` names the first faulty line,
-/// where the first line of version 2 is line 0. A line is `Undeclared` that starts a well-formed name which no operation has,
-/// and is right otherwise. `OutOfMemory` where a growth of memory is refused.
+/// Fails with `TooLong` exactly when the text has more than [`LIMIT`] bytes; else with `BadLine` or `Undeclared` for the first faulty
+/// line, and in version 2 the first line is line 0. `Undeclared` means that the line starts a well-formed name that no operation
+/// has, and is right otherwise. Fails with `OutOfMemory` if allocation fails.
 ///
 /// A few passes over the text; the list is allocated once.
 pub fn read_journal<A: Allocator + Copy, B: Allocator + Copy>(
@@ -65,12 +64,12 @@ pub fn read_journal<A: Allocator + Copy, B: Allocator + Copy>(
     text: &[u8],
 ) -> Result<JournalText<B>, TextFault>
     ensures ok { IfOk result (λ j. IsJournalText decl.now.declaration text.now j.room j.lines.items) }
-    // A text is that of one journal.
+    // A text has one journal.
     ensures one { IfOk result (λ j. (room : Option ℕ) (ls : List Line)
         → IsJournalText decl.now.declaration text.now room ls → (room ≡ j.room) × (ls ≡ j.lines.items)) }
     ensures err { IfErr result (λ e. IsJournalFault decl.now.declaration text.now e) }
     ensures too_long { IsErrOf result faults.TooLong ↔ (LIMIT < length text.now) }
-    // What is refused, but for its length or want of memory, is the text of no journal.
+    // Any error but TooLong and OutOfMemory: the text isn't a journal.
     ensures none { IfErr result (λ e. e ≢ faults.TooLong → e ≢ faults.OutOfMemory → IsNoJournalText decl.now.declaration text.now) }
 {
     if text.len() > LIMIT {

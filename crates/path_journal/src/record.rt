@@ -1,6 +1,6 @@
-//! From the first line of a text to the line of a journal that it is.
+//! From the first line of a text to a line of a journal.
 //!
-//! The reply is read first: a line whose reply is wrong is bad, whatever it attempts.
+//! The reply is read first: a line with a wrong reply is bad, whatever its attempt.
 
 ghost use Rattle.std.specs.Prelude.{◌≡◌, ◌≢◌, length, IfOk, IfErr, OnErr};
 ghost use Rattle.path_lines.specs.LineTexts.{line_text, journal_line_text};
@@ -15,7 +15,7 @@ use path_lines::{LineFault, first_entry};
 use path_model::{Attempt, Line};
 use std::alloc::Allocator;
 
-/// The worker and the attempt that these bytes tell, all of them.
+/// The worker and the attempt of which these bytes are the whole text.
 fn whole_entry<A: Allocator + Copy>(
     decl: &Decl<A>,
     text: &[u8],
@@ -38,8 +38,8 @@ fn whole_entry<A: Allocator + Copy>(
     }
 }
 
-/// The line of a journal that the first line of a text is, and how many bytes it has without its line feed. A fault says
-/// why it is none. Two passes over the attempt, one over the reply; takes no memory.
+/// The line of a journal in the first line of a text, and how many bytes it has without its line feed. The error says why there is
+/// none. Two passes over the attempt, one over the reply; allocates nothing.
 pub fn first_record<A: Allocator + Copy>(
     decl: &Decl<A>,
     text: &[u8],

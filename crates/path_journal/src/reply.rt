@@ -10,7 +10,7 @@ ghost use Rattle.path_journal.specs.Replies.{plain_reply};
 use path_fields::{last_number, strip, until};
 use path_model::{ActId, PathId, Reply};
 
-/// The reply without a number that has these words.
+/// The reply with these words and no number.
 #[tactic(auto, unfolding(crate::specs::Replies::plain_reply))]
 fn plain(words: &[u8]) -> Option<Reply>
     ensures { result ≡ plain_reply words.now }
@@ -40,7 +40,7 @@ fn plain(words: &[u8]) -> Option<Reply>
     }
 }
 
-/// The reply with which the line ends, and the text from the line's end on.
+/// The reply up to the end of the line, and the text from the end of the line on.
 fn read_reply(text: &[u8]) -> Option<(Reply, &[u8])>
     ensures some { IfSome result (λ p. (text.now ≡ reply_text p.0 ++ p.1.now) × ReplyFits p.0 × EndsAt 10 p.1.now) }
     ensures none { IfNone result ((r : Reply) (rest : List ℕ) → ReplyFits r → EndsAt 10 rest → text.now ≢ reply_text r ++ rest) }
@@ -63,7 +63,7 @@ fn read_reply(text: &[u8]) -> Option<(Reply, &[u8])>
     Some((reply, rest))
 }
 
-/// The reply behind a colon and a space, and the text from the line's end on.
+/// The reply after a colon and a space, up to the end of the line, and the text from there on.
 pub fn read_told(text: &[u8]) -> Option<(Reply, &[u8])>
     ensures some { IfSome result (λ p. (text.now ≡ codes ": " ++ (reply_text p.0 ++ p.1.now)) × ReplyFits p.0 × EndsAt 10 p.1.now) }
     ensures none { IfNone result ((r : Reply) (rest : List ℕ)

@@ -1,4 +1,4 @@
--- Activations whose numbers ascend: where one stands, and that one more or one less keeps the order.
+-- Activations whose numbers ascend: the index of one, and that one more or one less keeps the order.
 use Rattle.std.proofs.Common.{◌≡◌, ◌≢◌, ℕ, ◌+◌, ◌<◌, ◌≤◌, suc, zero, List, [], ◌∷◌, ◌++◌, length, get_or, arith, refl, ap, sym, Result, Ok, Err, inl, inr}
 use Rattle.std.specs.Prelude.{MatchOption}
 use Rattle.std.specs.Result.{result_ok}

@@ -1,4 +1,4 @@
-//! The live activations, in order of start.
+//! The live activations, in the order of their starts.
 
 ghost use Rattle.std.specs.Prelude.{◌≡◌, ◌<◌, ◌≤◌, [], ℕ, length, IfOk, OnOk, OnErr, MatchOption};
 ghost use Rattle.path_model.specs.Journals.{AreNumbered, activation_of, without};
@@ -17,7 +17,7 @@ pub enum EndFault {
     NotYours,
 }
 
-/// The activations that were begun and haven't ended, in order of start.
+/// The activations that were begun and haven't ended, in the order of their starts.
 #[derive(Drop)]
 pub struct Ledger<A: Allocator + Copy = Global> {
     live: Vec<Activation, A>,
@@ -36,7 +36,7 @@ impl<A: Allocator + Copy> Model for Ledger<A> {
     ghost invariant = { λ l. IsKept l.live.items l.begun l.room (vec_capacity l.live) };
 }
 
-/// Where the activation of a number stands.
+/// The index of the activation with this number, if there is one.
 fn place_of(live: &[Activation], act: ActId) -> Option<usize>
     requires { (end : ℕ) × AreNumbered live.now end }
     ensures { MatchOption result (IsNowhere act live.now) (IsPlaceOf act live.now) }
@@ -46,8 +46,8 @@ fn place_of(live: &[Activation], act: ActId) -> Option<usize>
 }
 
 impl<A: Allocator + Copy> Ledger<A> {
-    /// An empty ledger, in which `room` activations may be live at once. All its places are taken now, so no later
-    /// call wants memory. The only error is want of memory.
+    /// An empty ledger, in which `room` activations may be live at once. Allocates memory for all of them now, so no later call
+    /// allocates. Fails only if allocation fails.
     pub fn with_room(alloc: A, room: u32) -> Result<Ledger<A>, OutOfMemory>
         ensures { IfOk result (λ l. l ≡ record { live = []; begun = 0; room = room }) }
     {
@@ -59,10 +59,9 @@ impl<A: Allocator + Copy> Ledger<A> {
         })
     }
 
-    /// Appends an activation of this worker and operation. Its number, which is answered, is how many were begun
-    /// before it.
+    /// Appends an activation of this worker and operation, and returns its number: how many were begun before it.
     ///
-    /// Needs a free place, and that fewer than 4,294,967,295 were begun. The cost is the same for any ledger.
+    /// Fewer than `room` activations must be live, and fewer than 4,294,967,295 begun. Takes constant time.
     pub fn begin(&mut self, worker: u32, op: OpId) -> ActId
         requires room { length self.old.live < self.old.room }
         requires number { self.old.begun < 4294967295 }
@@ -85,8 +84,8 @@ impl<A: Allocator + Copy> Ledger<A> {
         }
     }
 
-    /// Takes the live activation of this number out, if there is one. The others keep their order, and `begun` its
-    /// number. The cost is that of a search and of moving those begun later.
+    /// Removes and returns the live activation of this number, if there is one. The others keep their order, and `begun` doesn't
+    /// change. The cost is that of a search and of moving the live ones begun later.
     pub fn end(&mut self, act: ActId) -> Option<Activation>
         ensures ended { result ≡ activation_of act self.old.live }
         ensures others { self.new ≡ record self.old { live = without act self.old.live } }
@@ -97,11 +96,11 @@ impl<A: Allocator + Copy> Ledger<A> {
         }
     }
 
-    /// Takes the live activation of this number out, if it is this worker's own. The others keep their order, and
-    /// `begun` its number.
+    /// Removes and returns the live activation of this number if it is this worker's own. The others keep their order, and
+    /// `begun` doesn't change.
     ///
-    /// It is `Stale` if no live activation has the number, and else `NotYours` if it is another worker's; the ledger is
-    /// then as it was. The cost is that of one search and of moving those begun later.
+    /// Fails with `Stale` if no live activation has the number, and else with `NotYours` if it is another worker's; the ledger is
+    /// then as it was. The cost is that of one search and of moving the live ones begun later.
     pub fn end_own(&mut self, worker: u32, act: ActId) -> Result<Activation, EndFault>
         ensures told { result ≡ own_of worker (activation_of act self.old.live) }
         ensures ended { OnOk result (self.new ≡ record self.old { live = without act self.old.live }) }
@@ -118,7 +117,7 @@ impl<A: Allocator + Copy> Ledger<A> {
         }
     }
 
-    /// The live activations, in order of start; so their numbers ascend, and each is below `begun`.
+    /// The live activations, in the order of their starts; so their numbers ascend, and each is below `begun`.
     pub fn live(&self) -> &[Activation]
         ensures value { result.now ≡ self.now.live }
         ensures numbered { AreNumbered self.now.live self.now.begun }
@@ -127,7 +126,7 @@ impl<A: Allocator + Copy> Ledger<A> {
         self.live.as_slice()
     }
 
-    /// How many were begun since the ledger was made.
+    /// How many activations were begun since the ledger was made.
     pub fn begun(&self) -> u32
         ensures { result ≡ self.now.begun }
     {

@@ -1,4 +1,4 @@
-//! The live activations of a system, in order of start.
+//! The live activations of a system, in the order of their starts.
 #![tactic(auto)]
 
 mod ledger;

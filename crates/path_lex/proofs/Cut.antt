@@ -267,7 +267,7 @@ more_of : (b : ℕ) (bs : List ℕ) (t : Bool) → is_word_byte b ≡ t → cond
 more_of b bs true f e = (f, omega arith)
 more_of b bs false f e = absurd (omega arith)
 
--- the word goes on to the end exactly where each byte stands in a word
+-- if the word goes on to the end, each byte is a word byte
 pub all_word : (bs : List ℕ) → word_len bs ≡ length bs → AllByRecursion (λ c. is_word_byte c ≡ true) bs
 all_word [] e = tt
 all_word (b ∷ bs) e = let p = more_of b bs (is_word_byte b) refl e in (p.0, all_word bs p.1)

@@ -71,7 +71,7 @@ names_number ts (faults.WordTooLong at') at l f = absurd (word_or_number l f)
 names_number ts (faults.NumberTooLong at') at l f = ap faults.NumberTooLong (both_numbers l f)
 names_number ts _ at l f = absurd l
 
--- only want of memory keeps a text from being cut that can be
+-- a text that can be cut is cut, unless allocation fails
 pub cut_fails_memory : (s : List ℕ) (ts : List Placed) (e : DeclFault) → CutFails s e → Spells 0 s ts → e ≡ faults.OutOfMemory
 cut_fails_memory s ts (faults.BadByte at) f h = absurd (f.1 ts h)
 cut_fails_memory s ts faults.OutOfMemory f h = refl

@@ -1,4 +1,4 @@
--- Which bytes begin a token, which stand in a word, and which are bad.
+-- Which bytes begin a token, which belong to a word, and which are bad.
 use Rattle.std.specs.Prelude.{◌≡◌, ℕ, ◌<◌, Bool, true, false, ◌&&◌, ◌||◌, ◌==◌, nat_le, if◌then◌else◌, List, length, slice_index}
 use Rattle.path_lex.specs.declared.token.Sign.TheVariants as signs
 use Rattle.path_lex.specs.declared.token.Class.{Class}
@@ -60,14 +60,14 @@ is_word_byte b = in_word (class_of b)
 abbrev pub is_number_byte : ℕ → Bool
 is_number_byte b = in_number (class_of b)
 
--- from a letter before i on, only letters, digits and underscores stand up to i, and at i
+-- from a letter before i on there are only letters, digits and underscores, up to i and at i
 pub record InWord (s : List ℕ) (i : ℕ) : Type 0 where
   pub from : ℕ
   pub before : from < i
   pub letter : class_of (slice_index s from) ≡ classes.Letter
   pub each : (k : ℕ) → from < k → k < i → is_word_byte (slice_index s k) ≡ true
 
--- a byte where a token would have to begin and none can: an underscore is one unless it stands in a word
+-- a token would have to begin at i, and can't begin with that byte; an underscore is bad unless it is in a word
 pub record IsBad (s : List ℕ) (i : ℕ) : Type 0 where
   pub within : i < length s
   pub none : begins_none (class_of (slice_index s i)) ≡ true

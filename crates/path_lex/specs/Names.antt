@@ -7,7 +7,7 @@ use Rattle.path_lex.specs.declared.token.Reserved.TheVariants as words
 use Rattle.path_lex.specs.declared.token.Class.TheVariants as classes
 use Rattle.path_lex.specs.Bytes.{class_of, is_word_byte}
 
--- the reserved word that has these bytes
+-- the reserved word with these bytes
 unfoldable pub reserved_of : List ℕ → Option Reserved
 reserved_of w =
     if bytes_eq w (codes "resource") then Some words.Resource else
@@ -18,7 +18,7 @@ reserved_of w =
     if bytes_eq w (codes "tally") then Some words.Tally else
     if bytes_eq w (codes "queue") then Some words.Queue else None
 
--- a letter, and then letters, digits and underscores
+-- a letter followed by letters, digits and underscores
 abbrev pub IsWordText : List ℕ → Type 0
 IsWordText [] = ⊥
 IsWordText (b ∷ bs) = (class_of b ≡ classes.Letter) × AllByRecursion (λ c. is_word_byte c ≡ true) bs

@@ -9,7 +9,7 @@ use Rattle.path_lex.specs.declared.token.Token.TheVariants as tokens
 use Rattle.path_lex.specs.Bytes.{class_of, is_word_byte, is_number_byte}
 use Rattle.path_lex.specs.Names.{reserved_of}
 
--- a token without where its bytes lie in memory
+-- a token, apart from where its bytes are in memory
 pub data Piece : Type 0 where
   sign : Sign → Piece
   reserved : Reserved → Piece
@@ -37,34 +37,34 @@ views ts = map view ts
 abbrev pub pieces : List Placed → List Piece
 pieces ts = map (λ t. t.piece) ts
 
--- a word, where it is reserved or not
+-- a word, reserved or not
 abbrev pub word_or : Option Reserved → List ℕ → Piece
 word_or (Some r) w = reserved r
 word_or None w = name w
 
--- what a word is: reserved, or a name
+-- the piece of a word: reserved, or a name
 abbrev pub word : List ℕ → Piece
 word w = word_or (reserved_of w) w
 
--- how many bytes from the front on stand in a word, in a number
+-- how many of the first bytes belong to a word, and to a number
 abbrev pub word_len : List ℕ → ℕ
 word_len s = prefix_len is_word_byte s
 
 abbrev pub number_len : List ℕ → ℕ
 number_len s = prefix_len is_number_byte s
 
--- These bytes, which stand at that offset, are made of these tokens.
+-- these bytes, which begin at that offset, are made of these tokens
 pub data Spells : ℕ → List ℕ → List Placed → Type 0 where
   by_end : {at : ℕ} → Spells at [] []
-  -- white space separates tokens and is none
+  -- white space separates tokens and isn't one
   by_space : {at b : ℕ} {bs : List ℕ} {ts : List Placed} → class_of b ≡ classes.Space → Spells (at + 1) bs ts → Spells at (b ∷ bs) ts
   -- a sign is one byte
   by_mark : {at b : ℕ} {bs : List ℕ} {ts : List Placed} {s : Sign} → class_of b ≡ classes.Sign s → Spells (at + 1) bs ts
       → Spells at (b ∷ bs) (placed (sign s) at ∷ ts)
-  -- a letter, and all letters, digits and underscores that follow it
+  -- a letter, with all letters, digits and underscores that follow it
   by_word : {at b : ℕ} {bs : List ℕ} {ts : List Placed} → class_of b ≡ classes.Letter
       → Spells (at + 1 + word_len bs) (drop (word_len bs) bs) ts → Spells at (b ∷ bs) (placed (word (b ∷ take (word_len bs) bs)) at ∷ ts)
-  -- a digit, and all digits that follow it
+  -- a digit, with all digits that follow it
   by_number : {at b : ℕ} {bs : List ℕ} {ts : List Placed} → class_of b ≡ classes.Digit
       → Spells (at + 1 + number_len bs) (drop (number_len bs) bs) ts
       → Spells at (b ∷ bs) (placed (number (b ∷ take (number_len bs) bs)) at ∷ ts)
@@ -82,13 +82,13 @@ IsWithin t = IsWithinPiece t.piece
 abbrev pub AreWithin : List Placed → Type 0
 AreWithin ts = AllByRecursion IsWithin ts
 
--- what a text that can be cut is made of
+-- the tokens of a text, if both are within the limits
 pub record AreTokensOf (s : List ℕ) (ts : List Placed) : Type 0 where
   pub short : length s ≤ 65536
   pub spelled : Spells 0 s ts
   pub within : AreWithin ts
 
--- of these tokens the first past its limit has more than that many bytes, and begins at that offset
+-- the first of these tokens past its limit has more than `most` bytes, and begins at that offset
 pub record FirstLong (ts : List Placed) (make : List ℕ → Piece) (most at : ℕ) : Type 0 where
   pub before : List Placed
   pub text : List ℕ
@@ -97,7 +97,7 @@ pub record FirstLong (ts : List Placed) (make : List ℕ → Piece) (most at : �
   pub within : AreWithin before
   pub parts : ts ≡ before ++ placed (make text) at ∷ after
 
--- a text that can be cut, and of whose words and numbers the first that is too long is the word, the number, at that offset
+-- the text can be cut, and the first word or number that is too long is the word (or the number) at that offset
 abbrev pub IsFirstLongWord : List ℕ → ℕ → Type 0
 IsFirstLongWord s at = (ts : List Placed) × Spells 0 s ts × FirstLong ts name 32 at
 

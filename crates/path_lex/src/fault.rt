@@ -1,4 +1,4 @@
-//! Why a text is no declaration.
+//! Why a text isn't a declaration.
 
 ghost use Rattle.std.specs.Prelude.{◌≡◌};
 ghost use Rattle.path_lex.specs.declared.fault.DeclFault.TheVariants.{OutOfMemory};
@@ -7,14 +7,14 @@ use path_model::OutOfMemory;
 use std::alloc::{AllocError, AllocFailed};
 use thiserror::Error;
 
-/// Why a text is no declaration. A place is the offset of the first byte of the token at fault; at the end of the
-/// text it is the text's length.
+/// Why a text isn't a declaration. A number is the offset of the first byte of the token at fault; at the end of the text it is the
+/// text's length.
 #[derive(Clone, Copy, Debug, PartialEq, Eq, Error)]
 pub enum DeclFault {
     /// The text has more than 65,536 bytes.
     #[error("text too long")]
     TooLong,
-    /// A byte where a token would have to begin, and none can begin with it.
+    /// No token can begin with this byte, and one would have to.
     #[error("bad byte at {0}")]
     BadByte(u32),
     /// A word of more than 32 bytes.
@@ -29,31 +29,31 @@ pub enum DeclFault {
     /// A parenthesis or a brace that would be the 33rd open one.
     #[error("too deep at {0}")]
     TooDeep(u32),
-    /// The name of a resource that an earlier resource has.
+    /// A resource has the name of an earlier resource.
     #[error("duplicate resource at {0}")]
     DuplicateResource(u32),
-    /// The name of an operation that was declared before, in any resource.
+    /// An operation has the name of an earlier operation, of any resource.
     #[error("duplicate operation at {0}")]
     DuplicateOperation(u32),
-    /// A name in a path that isn't an operation of the path's own resource.
+    /// A path names something that isn't an operation of the path's own resource.
     #[error("undeclared at {0}")]
     Undeclared(u32),
-    /// A name in a path that stands earlier in the same path.
+    /// A path names an operation twice.
     #[error("repeated name at {0}")]
     RepeatedName(u32),
     /// A brace inside open braces.
     #[error("nested braces at {0}")]
     NestedBraces(u32),
-    /// The capacity of a queue that begins with the digit 0, or is greater than 1,024.
+    /// The capacity of a queue begins with the digit 0, or is greater than 1,024.
     #[error("bad capacity at {0}")]
     BadCapacity(u32),
-    /// The bound of braces that begins with the digit 0, or is greater than 65,535.
+    /// The bound of braces begins with the digit 0, or is greater than 65,535.
     #[error("bad count at {0}")]
     BadCount(u32),
-    /// One resource, operation, path or name in a path more than its limit allows.
+    /// One resource, operation, path or name in a path more than the limit.
     #[error("too many at {0}")]
     TooMany(u32),
-    /// A growth of memory was refused.
+    /// An allocation failed.
     #[error("out of memory")]
     OutOfMemory,
 }

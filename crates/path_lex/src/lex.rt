@@ -41,7 +41,7 @@ fn class(b: u8) -> Class
     }
 }
 
-/// How many bytes from the front on stand in a word.
+/// How many of the first bytes belong to a word.
 fn word_part(bytes: &[u8]) -> usize
     ensures within { result ≤ length bytes.now }
     ensures part { result ≡ word_len bytes.now }
@@ -52,7 +52,7 @@ fn word_part(bytes: &[u8]) -> usize
         .count()
 }
 
-/// How many bytes from the front on stand in a number.
+/// How many of the first bytes belong to a number.
 fn number_part(bytes: &[u8]) -> usize
     ensures within { result ≤ length bytes.now }
     ensures part { result ≡ number_len bytes.now }
@@ -63,7 +63,7 @@ fn number_part(bytes: &[u8]) -> usize
         .count()
 }
 
-/// The reserved word that has these bytes.
+/// The reserved word with these bytes, if there is one.
 #[tactic(auto, unfolding(crate::specs::Names::reserved_of))]
 fn reserved(word: &[u8]) -> Option<Reserved>
     ensures { result ≡ reserved_of word.now }
@@ -87,7 +87,7 @@ fn reserved(word: &[u8]) -> Option<Reserved>
     }
 }
 
-/// Whether the bytes are a letter, and then letters, digits and underscores.
+/// Whether the bytes are a letter followed by letters, digits and underscores.
 fn is_word(text: &[u8]) -> bool
     ensures { IsTrue result ↔ IsWordText text.now }
 {
@@ -100,8 +100,8 @@ fn is_word(text: &[u8]) -> bool
     }
 }
 
-/// Whether the bytes are a name: a letter, then letters, digits and underscores, 32 bytes at most, and no reserved
-/// word. Takes time in proportion to at most 33 of the bytes.
+/// Whether the bytes are a name: a letter followed by letters, digits and underscores, at most 32 bytes, and not a reserved
+/// word. Looks at no more than 33 of the bytes.
 pub fn is_name(text: &[u8]) -> bool
     ensures { IsTrue result ↔ IsName text.now }
 {
@@ -114,7 +114,7 @@ pub fn is_name(text: &[u8]) -> bool
     reserved(text).is_none()
 }
 
-/// The token of a word at this place: reserved, or a name. The bytes of a word are ASCII.
+/// The token of a word at this offset: reserved, or a name. The bytes of a word are ASCII.
 fn word_token(at: u32, text: &[u8]) -> Token<'_>
     requires { IsAscii text.now }
     ensures { view result ≡ placed (word text.now) at }
@@ -126,7 +126,7 @@ fn word_token(at: u32, text: &[u8]) -> Token<'_>
     Token::Name(at, name)
 }
 
-/// The tokens of a text, of any lengths.
+/// The tokens of a text, with words and numbers of any length.
 fn cut<A: Allocator + Copy>(alloc: A, text: &[u8]) -> Result<Vec<Token<'_>, A>, DeclFault>
     requires { length text.now ≤ 65536 }
     ensures ok { IfOk result (λ v. Spells 0 text.now (views v.items)) }
@@ -159,7 +159,7 @@ fn cut<A: Allocator + Copy>(alloc: A, text: &[u8]) -> Result<Vec<Token<'_>, A>, 
     Ok(tokens)
 }
 
-/// Refuses the first word or number that is too long.
+/// Fails at the first word or number that is too long.
 fn check_lengths(tokens: &[Token<'_>]) -> Result<(), DeclFault>
     ensures ok { IfOk result (λ _. AreWithin (views tokens.now)) }
     ensures err { IfErr result (λ e. LongFails (views tokens.now) e) }
@@ -178,18 +178,19 @@ fn check_lengths(tokens: &[Token<'_>]) -> Result<(), DeclFault>
     Ok(())
 }
 
-/// Cuts a text into tokens. The first fault of these is named: the text is too long; the first bad byte; the first word
-/// or number that is too long. Takes time in proportion to the text, and memory in proportion to its tokens.
+/// Cuts a text into tokens. Fails with the first fault in this order: the text is too long; the first bad byte; the first word or
+/// number that is too long. `OutOfMemory` may come at any point. Takes time in proportion to the text, and memory in proportion to
+/// its tokens.
 pub fn tokens<A: Allocator + Copy>(alloc: A, text: &[u8]) -> Result<Vec<Token<'_>, A>, DeclFault>
-    // What is cut is made of these tokens, and of no others.
+    // The text is made of these tokens, and of no others.
     ensures ok { IfOk result (λ v. AreTokensOf text.now (views v.items)) }
     ensures only { IfOk result (λ v. (ts : List Placed) → AreTokensOf text.now ts → ts ≡ views v.items) }
-    // A fault other than memory: the text is made of no tokens within the limits.
+    // Any error but OutOfMemory: the text isn't made of tokens within the limits.
     ensures err { IfErr result (λ e. NoTokens text.now e) }
-    // Where a text that isn't too long has a bad byte, the first is named, unless memory runs out.
+    // If a text that isn't too long has a bad byte, the error names the first one, unless allocation fails.
     ensures bad_byte { (at : ℕ) → length text.now ≤ 65536 → IsFirstBad text.now at
         → IsErrOf result (DeclFault.BadByte at) ⊎ IsErrOf result DeclFault.OutOfMemory }
-    // The same of the first word or number that is too long.
+    // The same of the first word or number that is too long, in a text that can be cut into tokens.
     ensures word_too_long { (at : ℕ) → length text.now ≤ 65536 → IsFirstLongWord text.now at
         → IsErrOf result (DeclFault.WordTooLong at) ⊎ IsErrOf result DeclFault.OutOfMemory }
     ensures number_too_long { (at : ℕ) → length text.now ≤ 65536 → IsFirstLongNumber text.now at

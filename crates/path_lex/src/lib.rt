@@ -1,7 +1,7 @@
 //! Cuts the text of a declaration into tokens.
 //!
-//! [`tokens`] answers the one list of tokens that the text spells, or the first fault at which it spells none. What bytes are
-//! which tokens is defined in `specs/Spelling.antt`.
+//! [`tokens`] returns the one list of tokens that the text is made of, or the first fault. `specs/Spelling.antt` defines which bytes
+//! are which tokens.
 #![tactic(auto)]
 
 mod fault;

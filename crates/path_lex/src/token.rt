@@ -1,4 +1,4 @@
-//! What a declaration text is made of.
+//! The tokens of a declaration text.
 
 /// The signs of the grammar.
 #[derive(Clone, Copy, Debug, PartialEq, Eq)]
@@ -12,7 +12,7 @@ pub enum Sign {
     CloseBrace,
 }
 
-/// The words that are no names.
+/// The reserved words, which can't be names.
 #[derive(Clone, Copy, Debug, PartialEq, Eq)]
 pub enum Reserved {
     Resource,
@@ -24,7 +24,7 @@ pub enum Reserved {
     Queue,
 }
 
-/// What a byte can begin or stand in.
+/// Where a byte can occur: what it can begin, or belong to.
 #[derive(Clone, Copy, Debug, PartialEq, Eq)]
 pub enum Class {
     Space,

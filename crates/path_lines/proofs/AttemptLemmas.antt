@@ -1,4 +1,4 @@
--- Lines of attempts are lines, how far a text of attempts was read, and that a faulty text is the text of none.
+-- Lines of attempts are lines, how far a text of attempts was read, and that a faulty text isn't one of attempts.
 use Rattle.std.proofs.Common.{◌≡◌, ◌≢◌, ◌↔◌, ℕ, ◌+◌, ◌<◌, ◌^◌, List, [], ◌∷◌, ◌++◌, length, drop, ◌⊎◌, inl, inr, false, rules, refl, sym, ap, ◌∙◌, subst, arith, decimal, codes, All, Contains}
 use Rattle.std.proofs.lemmas.List.Elements.{All-contains}
 use Rattle.std.proofs.lemmas.Bool.{cases_lt}
@@ -154,7 +154,7 @@ start_is_fault d name line line_faults.Bad unnamed is spelled = λ u.
     let other : line_faults.Bad ≡ line_faults.Undeclared = is.1 (subst IsName same u.is_name) in
     cc
 
--- a start of no operation is undeclared exactly where a name stands there
+-- a start of no operation is undeclared if and only if there is a name
 pub start_fault : (d : Declaration) (text r name after : List ℕ) (f : LineFault) → text ≡ codes "start " ++ r → r ≡ name ++ after → HasNone 10 name → EndsAt 10 after → (Contains (operation_names d) name → ⊥) → (f ≡ line_faults.Undeclared ↔ IsName name) → (line : List ℕ) → IsFirstLine line text → IsAttemptFault d line f
 start_fault d text r name after f e cut clean stop unnamed is line first =
     let p = ends_first line text first in

@@ -1,4 +1,4 @@
--- What callers cite: texts of lines, whatever a line tells; that a line is a line, and of one attempt; names, verbs and operations.
+-- What callers cite: texts of lines of any kind; that a line is a line, and of one attempt; names, verbs and operations.
 pub use Rattle.path_lines.proofs.NameLemmas.{name_is_ascii, name_without, line_feed_outside}
 pub use Rattle.path_lines.proofs.EntryLemmas.{named, first_line, is_first, ends_first}
 pub use Rattle.path_lines.proofs.WholeTexts.{text_of, Spells, ReadLines, lines_none, whole_parts, lines_more, all_read, first_of_text, ends_in_feed, refuted, nothing_spelled, spells_once}

@@ -1,4 +1,4 @@
--- Names are words of ASCII.
+-- Names are ASCII words.
 use Rattle.std.proofs.Common.{◌≡◌, ℕ, ◌<◌, ◌≤◌, ◌==◌, true, false, List, [], ◌∷◌, refl, ap, subst, arith, ◌∙◌, ◌++◌, Option, option_map, sym}
 use Rattle.path_model.specs.declared.ids.OpId.{OpId}
 use Rattle.path_model.specs.Declarations.{Declaration}

@@ -1,4 +1,4 @@
--- A text tells one list of attempts: each line has one worker and one attempt.
+-- A text has one list of attempts: each line has one worker and one attempt.
 use Rattle.std.proofs.Common.{◌≡◌, ◌≢◌, ℕ, ◌<◌, ◌^◌, List, [], ◌∷◌, ◌++◌, length, ◌≤◌, inl, inr, refl, sym, ap, ◌∙◌, arith, decimal, All, get_or}
 use Rattle.std.proofs.lemmas.List.{length-map}
 use Rattle.std.proofs.lemmas.List.Elements.{All-contains}

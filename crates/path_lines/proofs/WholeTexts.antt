@@ -1,4 +1,4 @@
--- Texts of lines, whatever a line tells: how far one was read, that a faulty line refutes it, and that it has one reading.
+-- Texts of lines of any kind: how far one was read, that a faulty line refutes it, and that it has one reading.
 use Rattle.std.proofs.Common.{◌≡◌, ◌≢◌, ℕ, ◌+◌, ◌-◌, ◌<◌, ◌≤◌, List, [], ◌∷◌, ◌++◌, length, drop, ◌⊎◌, inl, inr, refl, sym, ap, ◌∙◌, subst, append_assoc, arith, length-append, length-drop, All}
 use Rattle.std.specs.List.{flat_map}
 use Rattle.std.proofs.Math.Seq.{drop-append_seam}
@@ -138,13 +138,13 @@ module _ (E : Type 0) (line_of : E → List ℕ) (Fits : E → Type 0) where
         refuted bs rest line p.1 (All-tail Fits b bs fb) (All-tail Fits p.0 p.1 (subst (All Fits) p.2 fe)) more first none p.4
 
     module _ (some : (e : E) → line_of e ≢ []) (once : (e f : E) → Fits e → Fits f → line_of e ≡ line_of f → e ≡ f) where
-      -- an empty text tells nothing
+      -- an empty text has no lines
       pub nothing_spelled : (es : List E) → Spells [] es → es ≡ []
       nothing_spelled [] s = refl
       nothing_spelled (e ∷ es) (inl s) = absurd (nonempty_line (line_of e) (text_of es) (sym (s ∙ first_of_text e es)))
       nothing_spelled (e ∷ es) (inr s) = absurd (feed_alone (line_of e) (text_of es) (some e) (s ∙ first_of_text e es))
 
-      -- one line without its line feed tells one thing
+      -- one line without its line feed has one reading
       last_once : (e : E) (fs : List E) → Fits e → All Fits fs → Spells (line_of e) fs → e ∷ [] ≡ fs
       last_once e [] h k (inl s) = absurd (some e s)
       last_once e [] h k (inr s) = absurd (nonempty_line (line_of e) [] s)

@@ -11,7 +11,7 @@ use Rattle.path_model.specs.declared.journal.Reply.TheVariants.{Overflow, Device
 use Rattle.path_model.specs.declared.journal.Line.{Line}
 use Rattle.path_model.specs.Declarations.{Declaration}
 
--- what is asked of a device
+-- a verb
 abbrev pub verb_text : Verb → List ℕ
 verb_text (Put x) = codes "put " ++ decimal x
 verb_text Take = codes "take"
@@ -22,7 +22,7 @@ verb_text (Add x) = codes "add " ++ decimal x
 abbrev pub operation_names : Declaration → List (List ℕ)
 operation_names d = map (λ o. o.name) d.operations
 
--- a name, or `#` and a number where there is none
+-- a name, or `#` and a number if there is none
 abbrev pub name_or_number : Option (List ℕ) → ℕ → List ℕ
 name_or_number (Some name) n = name
 name_or_number None n = 35 ∷ decimal n
@@ -31,26 +31,26 @@ name_or_number None n = 35 ∷ decimal n
 abbrev pub operation_text : Declaration → OpId → List ℕ
 operation_text d a = name_or_number (slice_get (operation_names d) a.0) a.0
 
--- which activation is used, and how
+-- the activation and the verb of a use
 abbrev pub use_text : ℕ → Verb → List ℕ
 use_text n verb = decimal n ++ (32 ∷ verb_text verb)
 
--- what is attempted
+-- an attempt without its worker
 abbrev pub attempt_text : Declaration → Attempt → List ℕ
 attempt_text d (Start a) = codes "start " ++ operation_text d a
 attempt_text d (Apply n verb) = codes "use " ++ use_text n.0 verb
 attempt_text d (Finish n) = codes "finish " ++ decimal n.0
 
--- who attempts it, and what
+-- the worker and the attempt
 abbrev pub line_text : Declaration → ℕ → Attempt → List ℕ
 line_text d w a = decimal w ++ (32 ∷ attempt_text d a)
 
--- a number where there is one
+-- a number if there is one
 abbrev pub digits : Option ℕ → List ℕ
 digits None = []
 digits (Some n) = decimal n
 
--- what a worker is told
+-- a reply
 abbrev pub reply_text : Reply → List ℕ
 reply_text (Started n) = codes "started " ++ decimal n.0
 reply_text (Blocked p) = codes "blocked " ++ decimal p.0
@@ -70,14 +70,14 @@ reply_text NoRoom = codes "no room"
 abbrev pub journal_line_text : Declaration → Line → List ℕ
 journal_line_text d l = line_text d l.worker l.attempt ++ (codes ": " ++ reply_text l.reply)
 
--- the number of a verb has at most 64 bits
+-- a number of a verb has at most 64 bits
 abbrev pub VerbFits : Verb → Type 0
 VerbFits (Put x) = x < 2 ^ 64
 VerbFits Take = Unit {0}
 VerbFits Look = Unit {0}
 VerbFits (Add x) = x < 2 ^ 64
 
--- the number of an operation has at most 32 bits, each other at most 64
+-- the number of an operation has at most 32 bits, any other at most 64
 abbrev pub AttemptFits : Attempt → Type 0
 AttemptFits (Start a) = a.0 < 2 ^ 32
 AttemptFits (Apply n verb) = (n.0 < 2 ^ 64) × VerbFits verb

@@ -1,6 +1,6 @@
-//! From the first line of a text to the worker and the attempt that it tells.
+//! From the first line of a text to the worker and the attempt in it.
 //!
-//! Each reader takes a text and answers what it begins with and what follows that, so a line is read in one pass.
+//! Each reader takes a text and returns what it begins with and what follows that, so a line is read in one pass.
 
 ghost use Rattle.std.specs.Prelude.{◌≡◌, ◌≢◌, ◌↔◌, ℕ, ◌<◌, ◌≤◌, ◌^◌, [], ◌∷◌, ◌++◌, List, decimal, length, All, Contains};
 ghost use Rattle.std.specs.Prelude.{Some, slice_get, IsTrue, IfSome, IfNone, IfOk, IfErr, OnErr};
@@ -19,28 +19,28 @@ use path_lex::is_name;
 use path_model::{ActId, Attempt, OpId, Verb};
 use std::alloc::Allocator;
 
-/// Why a line is no attempt.
+/// Why a line isn't an attempt.
 #[derive(Clone, Copy, Debug, PartialEq, Eq)]
 pub enum LineFault {
     /// It has none of the forms.
     Bad,
-    /// It is right but for its name, which is no operation's.
+    /// It is right except that its name isn't a declared operation.
     Undeclared,
 }
 
-/// What the first line of a text tells.
+/// The first line of a text.
 #[derive(Clone, Copy, Debug, PartialEq, Eq)]
 pub struct FirstLine {
-    /// Who attempts it.
+    /// The worker.
     pub worker: u32,
-    /// What is attempted.
+    /// The worker's attempt.
     pub attempt: Attempt,
     /// The bytes of the line, without its line feed.
     pub length: usize,
 }
 
-/// The verb that the first line of the text consists of, with its number where it has one, and the text from the end of that line on,
-/// which is empty or begins with a line feed; nothing where that line is no verb. One pass over the line; takes no memory.
+/// The verb that is the whole first line of the text, with its number if it has one, and the text from the end of that line on, which
+/// is empty or begins with a line feed; `None` if that line isn't a verb. One pass over the line; allocates nothing.
 pub fn read_verb(text: &[u8]) -> Option<(Verb, &[u8])>
     ensures some { IfSome result (λ p. (text.now ≡ verb_text p.0 ++ p.1.now) × VerbFits p.0 × EndsAt 10 p.1.now) }
     ensures none { IfNone result ((v : Verb) (rest : List ℕ) → VerbFits v → EndsAt 10 rest → text.now ≢ verb_text v ++ rest) }
@@ -62,7 +62,7 @@ pub fn read_verb(text: &[u8]) -> Option<(Verb, &[u8])>
     Some((Verb::Add(value), rest))
 }
 
-/// Which activation is used, and how.
+/// The activation of a use, and its verb.
 fn read_use(text: &[u8]) -> Option<(ActId, Verb, &[u8])>
     ensures some { IfSome result (λ p. (text.now ≡ use_text p.0.0 p.1 ++ p.2.now) × (p.0.0 < 2 ^ 64) × VerbFits p.1 × EndsAt 10 p.2.now) }
     ensures none { IfNone result ((n : ℕ) (v : Verb) (r : List ℕ) → n < 2 ^ 64 → VerbFits v → EndsAt 10 r → text.now ≢ use_text n v ++ r) }
@@ -73,7 +73,7 @@ fn read_use(text: &[u8]) -> Option<(ActId, Verb, &[u8])>
     Some((ActId(act), verb, rest))
 }
 
-/// The operation whose number stands behind `#`. It is none of the declared ones, of which there are so many.
+/// The operation whose number follows `#`. It isn't a declared one: its number is at least `operations`.
 fn undeclared(text: &[u8], operations: u32) -> Option<OpId>
     ensures some { IfSome result (λ a. (text.now ≡ 35 ∷ decimal a.0) × (operations ≤ a.0) × (a.0 < 2 ^ 32)) }
     ensures none { IfNone result ((n : ℕ) → operations ≤ n → n < 2 ^ 32 → text.now ≢ 35 ∷ decimal n) }
@@ -90,15 +90,15 @@ fn undeclared(text: &[u8], operations: u32) -> Option<OpId>
     Some(OpId(value))
 }
 
-/// Whether all of these bytes are ASCII. Names are short: a plain loop takes less than one over words.
+/// Whether all of these bytes are ASCII. Names are short: a plain loop is faster than one over words.
 fn is_ascii(name: &[u8]) -> bool
     ensures { IsTrue result ↔ All (λ b. b < 128) name.now }
 {
     name.iter().all(|byte| *byte < 128)
 }
 
-/// The operation with this name, all of these bytes; `None` where none has it. Names are ASCII, so nothing else is looked up. One pass
-/// over the bytes and a look-up in a hash table; takes no memory.
+/// The operation whose name is exactly these bytes; `None` if there is none. Names are ASCII, so nothing else is looked up. One pass
+/// over the bytes and a look-up in a hash table; allocates nothing.
 pub fn declared<A: Allocator + Copy>(decl: &Decl<A>, name: &[u8]) -> Option<OpId>
     ensures some { IfSome result (λ a. slice_get (operation_names decl.now.declaration) a.0 ≡ Some name.now) }
     ensures none { IfNone result (Contains (operation_names decl.now.declaration) name.now → ⊥) }
@@ -110,7 +110,7 @@ pub fn declared<A: Allocator + Copy>(decl: &Decl<A>, name: &[u8]) -> Option<OpId
     operation(decl, name)
 }
 
-/// The operation with this name or, where none has it, with the number behind `#`.
+/// The operation with this name or, if there is none, with the number after `#`.
 fn read_operation<A: Allocator + Copy>(decl: &Decl<A>, text: &[u8]) -> Result<OpId, LineFault>
     ensures ok { IfOk result (λ a. (text.now ≡ operation_text decl.now.declaration a) × (a.0 < 2 ^ 32)) }
     ensures err { OnErr result ((a : OpId) → a.0 < 2 ^ 32 → text.now ≢ operation_text decl.now.declaration a) }
@@ -128,7 +128,7 @@ fn read_operation<A: Allocator + Copy>(decl: &Decl<A>, text: &[u8]) -> Result<Op
     }
 }
 
-/// What stands behind the worker's number, to the end of the line.
+/// The attempt after the worker's number, up to the end of the line.
 fn read_attempt<'a, A: Allocator + Copy>(
     decl: &Decl<A>,
     text: &'a [u8],
@@ -154,15 +154,15 @@ fn read_attempt<'a, A: Allocator + Copy>(
     Ok((Attempt::Start(op), rest))
 }
 
-/// The worker and the attempt that the first line of a text tells, and the length of that line. The line ends at its
-/// line feed or at the end of the text; an empty text has an empty first line, which is bad. A fault says why the line
-/// tells no attempt. One pass over the line and one look-up of a name; takes no memory.
+/// The worker and the attempt in the first line of a text, and the length of that line. The line ends at its line feed or at the end
+/// of the text; an empty text has an empty first line, which is bad. The error says why the line isn't an attempt. One pass over
+/// the line and one look-up of a name; allocates nothing.
 pub fn first_entry<A: Allocator + Copy>(decl: &Decl<A>, text: &[u8]) -> Result<FirstLine, LineFault>
     ensures line { IfOk result (λ f. IsFirstLine (line_text decl.now.declaration f.worker f.attempt) text.now) }
     ensures fits { IfOk result (λ f. EntryFits (f.worker, f.attempt)) }
     ensures length { IfOk result (λ f. f.length ≡ length (line_text decl.now.declaration f.worker f.attempt)) }
     ensures err { IfErr result (λ fault. IsFirstFault decl.now.declaration text.now fault) }
-    // No attempts in front of such a text make it a text of attempts.
+    // No attempts before this text make it a text of attempts.
     ensures none { OnErr result (text.now ≢ [] → IsNoRest decl.now.declaration text.now) }
 {
     let Some((worker, rest)) = number(text) else {

@@ -1,4 +1,4 @@
-//! The texts of attempts, and of the lines of a journal: each has one, and is read from it.
+//! The texts of attempts and of the lines of a journal: each has one text, and is read from it.
 #![tactic(auto)]
 
 mod entry;

@@ -1,4 +1,4 @@
-//! From attempts, replies and lines of a journal to their texts.
+//! From attempts, replies and lines of a journal to their texts. The functions fail only if allocation fails.
 
 ghost use Rattle.std.specs.Prelude.{◌≡◌, ◌++◌, ◌∷◌, [], codes, decimal, IfOk, OnOk};
 ghost use Rattle.std.specs.String.{string_bytes};
@@ -10,7 +10,7 @@ use path_decl::{Decl, op_name};
 use path_model::{ActId, Attempt, Line, OpId, OutOfMemory, Reply, Verb};
 use std::alloc::Allocator;
 
-/// Appends a verb, with its number where it has one.
+/// Appends a verb, with its number if it has one.
 fn push_verb<A: Allocator + Copy>(out: &mut String<A>, verb: Verb) -> Result<(), OutOfMemory>
     ensures { OnOk result (string_bytes out.new ≡ string_bytes out.old ++ verb_text verb) }
 {
@@ -23,7 +23,7 @@ fn push_verb<A: Allocator + Copy>(out: &mut String<A>, verb: Verb) -> Result<(),
     Ok(())
 }
 
-/// Appends the name of an operation; of one that isn't declared, `#` and its number. If memory runs out, a front of that may have
+/// Appends the name of a declared operation, or `#` and the number of an undeclared one. If allocation fails, a front of that may have
 /// been appended. Grows the text only if its capacity is too small.
 pub fn push_operation<A: Allocator + Copy, B: Allocator + Copy>(
     out: &mut String<A>,
@@ -64,7 +64,7 @@ fn push_attempt<A: Allocator + Copy, B: Allocator + Copy>(
     Ok(())
 }
 
-/// The words of a reply, up to its number where it has one, and that number.
+/// The words of a reply, up to its number if it has one, and that number.
 fn spelled(reply: Reply) -> (&'static str, Option<u64>)
     ensures { reply_text reply ≡ result.0.now ++ digits result.1 }
 {
@@ -100,8 +100,8 @@ fn push_numbered<A: Allocator + Copy>(
     Ok(())
 }
 
-/// Appends what follows an attempt in its line: `: `, the text of the reply and a line feed. Where memory is wanting, a
-/// front of it may have been appended. Grows the list only where its capacity doesn't suffice.
+/// Appends what follows an attempt in its line: `: `, the text of the reply and a line feed. If allocation fails, a front of it may
+/// have been appended. Allocates only if the capacity of the list isn't enough.
 pub fn push_told<A: Allocator + Copy>(out: &mut Vec<u8, A>, reply: Reply) -> Result<(), OutOfMemory>
     ensures { OnOk result (out.new.items ≡ out.old.items ++ (codes ": " ++ (reply_text reply ++ 10 ∷ []))) }
 {
@@ -123,8 +123,8 @@ pub fn push_told<A: Allocator + Copy>(out: &mut Vec<u8, A>, reply: Reply) -> Res
     Ok(())
 }
 
-/// Appends the text of a reply. Where memory is wanting, a front of it may have been appended. Grows the text only where its
-/// capacity doesn't suffice.
+/// Appends the text of a reply. If allocation fails, a front of it may have been appended. Allocates only if the capacity of the
+/// text isn't enough.
 pub fn push_reply<A: Allocator + Copy>(out: &mut String<A>, reply: Reply) -> Result<(), OutOfMemory>
     ensures { OnOk result (string_bytes out.new ≡ string_bytes out.old ++ reply_text reply) }
 {
@@ -136,9 +136,9 @@ pub fn push_reply<A: Allocator + Copy>(out: &mut String<A>, reply: Reply) -> Res
     Ok(())
 }
 
-/// Appends the text of a line without a line feed: the attempt, `: ` and the reply. An operation that isn't declared
-/// is written as `#` and its number. Where memory is wanting, a front of the text may have been appended. Grows the
-/// text only where its capacity doesn't suffice.
+/// Appends the text of a line without a line feed: the attempt, `: ` and the reply. An operation that isn't declared is written as
+/// `#` and its number. If allocation fails, a front of the text may have been appended. Allocates only if the capacity of the text
+/// isn't enough.
 pub fn push_line<A: Allocator + Copy, B: Allocator + Copy>(
     out: &mut String<A>,
     decl: &Decl<B>,
@@ -153,7 +153,7 @@ pub fn push_line<A: Allocator + Copy, B: Allocator + Copy>(
     push_reply(out, line.reply)
 }
 
-/// The text of a line without a line feed: the attempt, `: ` and the reply. Refused only for want of memory.
+/// The text of a line without a line feed: the attempt, `: ` and the reply. Fails only if allocation fails.
 pub fn write_line<A: Allocator + Copy, B: Allocator + Copy>(
     alloc: A,
     decl: &Decl<B>,

@@ -14,7 +14,7 @@ use thiserror::Error;
 /// The most bytes that a text of attempts may have.
 pub const LIMIT: usize = 134_217_728;
 
-/// Why a text is no text of attempts. Lines count from 0.
+/// Why a text isn't a list of attempts. Lines count from 0.
 #[derive(Clone, Copy, Debug, PartialEq, Eq, Error)]
 pub enum TextFault {
     /// It has more than 134,217,728 bytes.
@@ -23,10 +23,10 @@ pub enum TextFault {
     /// The first faulty line has none of the forms.
     #[error("bad line {0}")]
     BadLine(u32),
-    /// The first faulty line is right but for its name, which is no operation's.
+    /// The first faulty line is right except that its name isn't a declared operation.
     #[error("undeclared in line {0}")]
     Undeclared(u32),
-    /// A growth of memory was refused.
+    /// An allocation failed.
     #[error("out of memory")]
     OutOfMemory,
 }
@@ -47,13 +47,13 @@ impl<T: Drop> From<AllocFailed<T>> for TextFault {
     }
 }
 
-/// How many attempts a text may tell: no line has fewer than ten bytes with its line feed.
+/// The most attempts that a text can have: each line has at least ten bytes with its line feed.
 fn lines_at_most(text: &[u8]) -> usize {
     let ends = text.iter().filter(|byte| **byte == b'\n').count();
     ends.min(text.len() / 10) + 1
 }
 
-/// The text fault of a line's fault.
+/// The fault of a text whose first faulty line is this one.
 pub fn fault_at(line: u32, fault: LineFault) -> TextFault
     ensures { result ≡ fault_of line fault }
 {
@@ -63,20 +63,20 @@ pub fn fault_at(line: u32, fault: LineFault) -> TextFault
     }
 }
 
-/// The workers and attempts of a text, one a line, in order. The line feed after the last line may be missing, and an
-/// empty text has no lines. A fault names the first line that is no attempt. One pass over the text; the list is
-/// allocated once.
+/// The workers and attempts of a text, one a line, in order. The line feed after the last line may be missing, and an empty text has no
+/// lines. Fails with `TooLong` exactly when the text has more than [`LIMIT`] bytes; else with `BadLine` or `Undeclared` for the first
+/// line that isn't an attempt, or with `OutOfMemory`. One pass over the text; the list is allocated once.
 pub fn read_attempts<A: Allocator + Copy, B: Allocator + Copy>(
     alloc: B,
     decl: &Decl<A>,
     text: &[u8],
 ) -> Result<Vec<(u32, Attempt), B>, TextFault>
     ensures ok { IfOk result (λ v. IsAttemptsText decl.now.declaration text.now v.items) }
-    // A text tells one list.
+    // A text has one list of attempts.
     ensures one { IfOk result (λ v. (es : List Entry) → IsAttemptsText decl.now.declaration text.now es → es ≡ v.items) }
     ensures err { IfErr result (λ e. IsTextFault decl.now.declaration text.now e) }
     ensures too_long { IsErrOf result TextFault.TooLong ↔ (LIMIT < length text.now) }
-    // What is refused, but for its length or want of memory, is the text of no attempts.
+    // Any error but TooLong and OutOfMemory: the text isn't a list of attempts.
     ensures none { IfErr result (λ e. e ≢ TextFault.TooLong → e ≢ TextFault.OutOfMemory → IsNoAttemptsText decl.now.declaration text.now) }
 {
     if text.len() > LIMIT {

@@ -1,4 +1,4 @@
--- No semaphore passes the number of starts by more than one, no counter passes it, and no bound's semaphore passes the bound.
+-- No semaphore exceeds the number of starts by more than 1, no counter exceeds that number, and no bound's semaphore exceeds the bound.
 use Rattle.std.proofs.Common.{◌≡◌, ◌==◌, ◌<◌, ◌≤◌, ◌+◌, ◌-◌, ℕ, List, [], ◌∷◌, ◌++◌, refl, sym, ap, ◌∙◌, subst, inl, inr, arith}
 use Rattle.std.proofs.lemmas.Bool.{eqb-true, eq-eqb, ne_eqb, cond-true, cond-false, cond_both}
 use Rattle.path_model.specs.declared.ids.OpId.{OpId}

@@ -1,4 +1,4 @@
--- What the crates above cite of these proofs, and all that they cite: the laws, each under its own name, and lemmas on trees, histories and journals.
+-- The proofs of this crate that the crates above cite; they cite no others: the laws, by name, and lemmas on trees, histories and journals.
 
 -- the laws: what the function of the same name in src/theorems.rt ensures
 pub use Rattle.path_model.proofs.OnePath.{each_path_admits_its_words}

@@ -1,4 +1,4 @@
--- Worked examples of journals: the slot's honest journal, one that isn't honest, and one that has no room.
+-- Worked examples of journals: the slot's honest journal, one that isn't honest, and one without room.
 use Rattle.std.proofs.Common.{◌≡◌, ℕ, List, [], ◌∷◌, refl, inl, inr, arith}
 use Rattle.path_model.specs.declared.ids.ActId.{ActId}
 use Rattle.path_model.specs.declared.ids.PathId.{PathId}

@@ -1,4 +1,4 @@
--- The counter tells the open burst, and the values count the labels of each of its part labellings.
+-- The counter shows the open burst, and the values count the labels of each of its part labellings.
 use Rattle.std.proofs.Common.{◌≡◌, ◌≢◌, ◌⊎◌, ◌<◌, ◌≤◌, ◌+◌, ℕ, List, [], ◌∷◌, ◌++◌, refl, sym, ap, ◌∙◌, subst, inl, inr, arith}
 use Rattle.std.proofs.lemmas.List.{append-nil, append_assoc}
 use Rattle.path_model.specs.declared.ids.OpId.{OpId}

@@ -1,4 +1,4 @@
--- What is frozen stays so, and a finish comes between a blocked start and the next admitted one.
+-- What is frozen stays frozen, and a finish comes between a blocked start and the next admitted one.
 use Rattle.std.proofs.Common.{◌≡◌, ◌⊎◌, ℕ, List, [], ◌∷◌, ◌++◌, Some, refl, sym, ap, ◌∙◌, subst, inl, inr, append_assoc, append-nil}
 use Rattle.std.proofs.lemmas.List.Elements.{All-nil, All-cons}
 use Rattle.path_model.specs.declared.ids.OpId.{OpId}

@@ -1,4 +1,4 @@
--- The trimmed table answers as the whole one does.
+-- The trimmed table gives the same answers as the whole one.
 use Rattle.std.proofs.Common.{◌≡◌, ◌⊎◌, ◌==◌, if◌then◌else◌, ◌<◌, ◌+◌, ◌-◌, ℕ, List, [], ◌∷◌, ◌++◌, ◌↔◌, Bool, true, false, refl, sym, ap, ◌∙◌, subst, inl, inr, arith}
 use Rattle.std.proofs.lemmas.Bool.{eqb-true, eq-eqb, ne_eqb, cond-true, cond-false, cond_both, cases_eq, or_cases, and_parts}
 use Rattle.path_model.specs.declared.ids.OpId.{OpId}

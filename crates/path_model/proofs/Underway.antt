@@ -142,7 +142,7 @@ module _ (s : Tree) (f : NoBraces s) (n : NoRepeats s) (ms : Meets s) where
                 go (inr (inl z)) = omega (arith, z.1, z.2)
                 go (inr (inr z)) = absurd (r (word_ends (carrying k x) (carrying k y) z (whole_solo k u)))
 
-  -- a labelling is within the bound exactly where the counts fit
+  -- a labelling is within the bound exactly when the counts fit
   pub within : (b : Bound) (w : List Event) → ((x y : List Event) → w ≡ x ++ y → Fits b (count s 0 x)) → (ls : List (ℕ × Event)) → events_of ls ≡ w → EachLabel (IsWord s) ls → WithinBound b ls
   within any w fits ls e each = tt
   within (most m) w fits ls e each = λ x y q. many_at_most (Underway x y) (count s 0 (events_of x)) m (underway_many x y (subst (EachLabel (IsWord s)) q each)) (fits (events_of x) (events_of y) (sym e ∙ ap events_of q ∙ events_append x y))

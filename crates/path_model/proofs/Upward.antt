@@ -62,7 +62,7 @@ pub through_passes : (b : Bound) (m q : ℕ) (v : Values) (c : ℕ) → Spare b 
 through_passes any m q v c h = (λ p. (p, tt), λ p. p.0)
 through_passes (most n) m q v c h = (λ p. (p.0, (let l = p.1 in omega (arith, l, h))), λ p. (p.0, (let l = p.1 in omega (arith, l, h))))
 
--- the prologue can pass exactly where the operation may begin
+-- the prologue can pass exactly when the operation may begin
 pub pass_may : (s : Tree) → NoRepeats s → NoNesting s → (n m : ℕ) (a : OpId) (up : List Above) → NoBraces s ⊎ Clear up → Names s a → (h : List Event) (v : Values) → Holds s n m h v → Passes (prologue_below (above s n m a ++ up)) v ↔ May s h (Began a) (Passes (prologue_below up) v)
 pass_may (op b) nr nn n m a up c k h v H = (λ p. (k, p), λ q. q.1)
 pass_may (seq s t) nr nn n m a up c (inl k) h v H =

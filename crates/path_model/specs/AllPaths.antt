@@ -41,13 +41,13 @@ pub record Judged (xs : List (ℕ × Tree)) (h : List Event) : Type 0 where
   -- the first path that blocks by its values is the first that forbids by its words
   pub first : (a : OpId) (p : ℕ) → First (Blocks a) (after xs h) p ↔ First (Forbids h a) xs p
   pub none : (a : OpId) → NoneOf (Blocks a) (after xs h) ↔ NoneOf (Forbids h a) xs
-  -- and so is it of each path: it blocks exactly where it forbids
+  -- the same for each path: it blocks exactly when it forbids
   pub each : (a : OpId) → Every (λ r. Blocks a r ↔ Forbids h a r.tree) (after xs h)
-  -- one of the two is so
+  -- one of the two holds
   pub decided : (a : OpId) → NoneOf (Blocks a) (after xs h) ⊎ ((p : ℕ) × First (Blocks a) (after xs h) p)
   -- an admitted start keeps the history legal, and no other does
   pub starts : (a : OpId) → NoneOf (Blocks a) (after xs h) ↔ Legal xs (h ++ Began a ∷ [])
-  -- so does a finish of an operation in progress
+  -- a finish of an operation in progress keeps the history legal
   pub finishes : (a : OpId) → InProgress a h → Legal xs (h ++ Ended a ∷ [])
   -- an operation that no path names is always admitted, and both its events keep the history legal
   pub unnamed :
@@ -57,11 +57,11 @@ pub record Judged (xs : List (ℕ × Tree)) (h : List Event) : Type 0 where
 abbrev pub AllPathsJudge : Type 0
 AllPathsJudge = (xs : List (ℕ × Tree)) → Every WellFormed xs → (h : List Event) → Legal xs h → Judged xs h
 
--- a path sees as much in progress of what it names as there is
+-- a path sees an operation that it names as in progress exactly when the whole history has it in progress
 abbrev pub ProjectionsKeepProgress : Type 0
 ProjectionsKeepProgress = (s : Tree) (h : List Event) (a : OpId) → Names s a → InProgress a (projection s h) ↔ InProgress a h
 
--- what is blocked stays so through admitted starts; the path that is named may become an earlier one
+-- what is blocked stays blocked through admitted starts; the first path that blocks it may become an earlier one
 abbrev pub StartsOnlyBlock : Type 0
 StartsOnlyBlock =
     (ss : List Tree) → Every WellFormed (numbered 0 ss)
@@ -69,7 +69,7 @@ StartsOnlyBlock =
     → (b : OpId) (p : ℕ) → First (Blocks b) (after (numbered 0 ss) h) p
     → (q : ℕ) × First (Blocks b) (after (numbered 0 ss) (h ++ starts_of u)) q × (q ≤ p)
 
--- each path that blocked still does
+-- each path that forbade a start still forbids it after another start
 abbrev pub EachBlockStays : Type 0
 EachBlockStays =
     (s : Tree) → WellFormed s → (h : List Event) (a b : OpId) → Forbids h b s → Forbids (h ++ Began a ∷ []) b s

@@ -1,4 +1,4 @@
--- The law of one path among several: histories that hold other operations too.
+-- The law of one path among several: histories may have other operations too.
 use Rattle.std.specs.Prelude.{if◌then◌else◌, List, [], ◌∷◌, ◌++◌, ◌↔◌}
 use Rattle.path_model.specs.declared.ids.OpId.{OpId}
 use Rattle.path_model.specs.declared.history.Event.{Event}
@@ -20,7 +20,7 @@ Lets s h a = Names s a → Passes (prologue s a) (values_among s (opening s) h)
 pub record Guards (s : Tree) : Type 0 where
   pub starts : (h : List Event) (a : OpId) → LegalOn s h → Lets s h a ↔ LegalOn s (h ++ Began a ∷ [])
   pub finishes : (h : List Event) (a : OpId) → LegalOn s h → (Names s a → InProgress a (projection s h)) ↔ LegalOn s (h ++ Ended a ∷ [])
-  -- what a start leaves open was open before it
+  -- a start that is legal after another start was legal before it
   pub starts_only_block : (h : List Event) (a b : OpId) → LegalOn s (h ++ Began a ∷ Began b ∷ []) → LegalOn s (h ++ Began b ∷ [])
 
 abbrev pub EachPathGuards : Type 0

@@ -1,4 +1,4 @@
--- Which resource's device a line asked, and what may be replaced while none did.
+-- Which resource's device a line asked, and that a device that no line asked may be replaced.
 use Rattle.std.specs.Prelude.{◌≡◌, ◌≢◌, ◌⊎◌, ℕ, Bool, true, false, List, [], ◌∷◌, ◌++◌, Option, Some, None, slice_index_or, if◌then◌else◌}
 use Rattle.path_model.specs.declared.journal.Attempt.{Attempt}
 use Rattle.path_model.specs.declared.journal.Attempt.TheVariants.{Apply}
@@ -11,7 +11,7 @@ use Rattle.path_model.specs.Journals.{activation_of, live}
 use Rattle.path_model.specs.Contents.{contents_after}
 use Rattle.path_model.specs.Honest.{IsHonest}
 
--- the reply is that of a device, which was asked
+-- the reply comes from a device, which was asked
 abbrev pub is_device_reply : Reply → Bool
 is_device_reply (Used x) = true
 is_device_reply NotOffered = true
@@ -26,7 +26,7 @@ abbrev pub its_resource : Declaration → Option Activation → Option ℕ
 its_resource d None = None
 its_resource d (Some a) = Some (resource_of d a.op.0)
 
--- the resource whose device the attempt asked, as its reply tells: that of the live activation which it uses
+-- the resource whose device the attempt asked, by its reply: that of the live activation that it uses
 abbrev pub resource_asked : Declaration → List Line → Attempt → Reply → Option ℕ
 resource_asked d before (Apply n verb) reply =
     if is_device_reply reply then its_resource d (activation_of n (live before)) else None
@@ -41,8 +41,8 @@ IsAskedFrom d r before (l ∷ ls) =
 abbrev pub IsAsked : Declaration → List Line → ℕ → Type 0
 IsAsked d ls r = IsAskedFrom d r [] ls
 
--- while no line asked the device of a resource, its opening contents may be others: the journal stays honest, and what all
--- other resources contain stays
+-- while no line asked the device of a resource, the resource may have other opening contents: the journal stays honest, and all other
+-- resources contain the same
 abbrev pub UnaskedDevicesMayBeReplaced : Type 0
 UnaskedDevicesMayBeReplaced =
     (d : Declaration) (room : ℕ) (openings others : List (List ℕ)) (ls : List Line) (r : ℕ)

@@ -1,4 +1,4 @@
--- How large values become.
+-- How large values can become.
 use Rattle.std.specs.Prelude.{◌≤◌, ◌<◌, ◌+◌, ℕ, List}
 use Rattle.path_model.specs.declared.history.Event.{Event}
 use Rattle.path_model.specs.Trees.{Tree, WellFormed}
@@ -10,7 +10,7 @@ use Rattle.path_model.specs.Machine.{semicolons, braces, Values, bound_at, openi
 use Rattle.path_model.specs.AmongOthers.{values_among}
 use Rattle.path_model.specs.Flat.{HasBound, Sited, sited, bound_number, Table, flat_from, flat_opening}
 
--- the values of the path after n starts
+-- bounds on the values of the path after n starts
 pub record Bounded (s : Tree) (v : Values) (n : ℕ) : Type 0 where
   pub semaphores : (q : ℕ) → v.semaphore q ≤ 1 + n
   pub counters : (c : ℕ) → v.counter c ≤ n
@@ -20,18 +20,18 @@ pub record Bounded (s : Tree) (v : Values) (n : ℕ) : Type 0 where
 abbrev pub EachValueIsBounded : Type 0
 EachValueIsBounded = (s : Tree) → WellFormed s → (h : List Event) → Behaves s h → Bounded s (values_after s h) (starts_in h)
 
--- the same of a path among others
+-- the same for a path among others
 abbrev pub ValuesAmongAreBounded : Type 0
 ValuesAmongAreBounded =
     (s : Tree) → WellFormed s → (h : List Event) → LegalOn s h → Bounded s (values_among s (opening s) h) (starts_in h)
 
--- the values of the path in the table after n starts
+-- bounds on the values of the path in the table after n starts
 pub record BoundedInTable (x : Sited) (v : Table) (n : ℕ) : Type 0 where
   pub semaphores : (q : ℕ) → q ≤ semicolons x.tree → v.semaphore (x.own + q) ≤ 1 + n
   pub counters : (c : ℕ) → c < braces x.tree → v.counter (x.first + c) ≤ n
   pub limits : (c : ℕ) → HasBound x.tree 0 c → v.semaphore (bound_number x c) ≤ bound_at x.tree 0 c
 
--- the same of all paths in one table
+-- the same for all paths in one table
 abbrev pub TableValuesAreBounded : Type 0
 TableValuesAreBounded =
     (xs : List (ℕ × Tree)) → Every WellFormed xs → (h : List Event) → Legal xs h

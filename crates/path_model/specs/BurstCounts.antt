@@ -10,7 +10,7 @@ use Rattle.path_model.specs.Behaviour.{IsFront, IsPartLabelling, Behaves}
 use Rattle.path_model.specs.Projection.{projection}
 use Rattle.path_model.specs.Machine.{semicolons, braces, Plain, through, prologue, values_after, CanPass}
 
--- the tree t is a part of the last one; its first semicolon and its first braces have the numbers i and j, those of the whole n and m
+-- t is a part of the other tree; its first semicolon and its first braces have the numbers i and j, those of the whole tree n and m
 pub data Inside (t : Tree) (i j : ℕ) : Tree → ℕ → ℕ → Type 0 where
   itself : Inside t i j t i j
   seq_first : (s u : Tree) (n m : ℕ) → Inside t i j s n m → Inside t i j (seq s u) n m
@@ -19,7 +19,7 @@ pub data Inside (t : Tree) (i j : ℕ) : Tree → ℕ → ℕ → Type 0 where
   alt_second : (s u : Tree) (n m : ℕ) → Inside t i j u (n + semicolons s) (m + braces s) → Inside t i j (alt s u) n m
   in_braces : (bd : Bound) (s : Tree) (n m : ℕ) → Inside t i j s n (m + 1) → Inside t i j (burst bd s) n m
 
--- n numbers meet P
+-- exactly n numbers meet P
 pub record Many (P : ℕ → Type 0) (n : ℕ) : Type 0 where
   pub all : List ℕ
   pub apart : NoneTwice all
@@ -53,18 +53,18 @@ abbrev pub Spare : Bound → ℕ → ℕ → Type 0
 Spare any u c = Unit {0}
 Spare (most n) u c = u + c ≡ n
 
--- what each part labelling of an open burst has to do with the values; the braces have the number j
+-- how each part labelling of an open burst agrees with the values; the braces have the number j
 pub record Counts (s b : Tree) (bd : Bound) (i j : ℕ) (h : List Event) (ls : List (ℕ × Event)) : Type 0 where
   pub counter : Many (Unfinished b ls) ((values_after s h).counter j)
   pub spare : Spare bd ((values_after s h).bound j) ((values_after s h).counter j)
   pub semaphores :
       (l r : Tree) (n m : ℕ) → Inside (seq l r) n m b i (j + 1)
       → Many (StandsAt l r ls) ((values_after s h).semaphore (n + semicolons l))
-  -- a start whose prologue is P can be given to a label in use exactly where it can pass
+  -- a start whose prologue is P can be given to a label in use if and only if it can pass
   pub goes_on :
       (a : OpId) (q : ℕ) → Names b a → prologue s a ≡ Plain q
       → CanPass s h a ↔ ((k : ℕ) × InUse ls k × IsPartLabelling b (ls ++ (k, Began a) ∷ []))
-  -- a start whose prologue is PP can begin any label that isn't in use, where the bound has room; it can pass exactly then
+  -- a start whose prologue is PP can begin any label that isn't in use if the bound has room; it can pass exactly then
   pub room : (a : OpId) (q : ℕ) → prologue s a ≡ through bd j q → CanPass s h a ↔ Room bd ((values_after s h).counter j)
   pub begins :
       (a : OpId) (q : ℕ) → Names b a → prologue s a ≡ through bd j q
@@ -78,7 +78,7 @@ EachLabellingCounts =
     → (ls : List (ℕ × Event)) → events_of ls ≡ w → IsPartLabelling b ls
     → Counts s b bd i j h ls
 
--- the counter is above 0 exactly where the braces are open
+-- the counter is above 0 exactly while the braces are open
 abbrev pub CountersTellOpenBraces : Type 0
 CountersTellOpenBraces =
     (s : Tree) → WellFormed s

@@ -11,7 +11,7 @@ use Rattle.path_model.specs.Declarations.{Declaration, resource_of, law_of}
 use Rattle.path_model.specs.Devices.{outcome_of, contents_left}
 use Rattle.path_model.specs.Journals.{activation_of, starts}
 
--- what the resource r contains after a verb for an activation, which may be another resource's
+-- what resource r contains after a verb for an activation, which may be another resource's
 abbrev pub verb_applied : Declaration → ℕ → Verb → Option Activation → List ℕ → List ℕ
 verb_applied d r verb None held = held
 verb_applied d r verb (Some a) held =
@@ -27,6 +27,6 @@ contents_from d r before held [] = held
 contents_from d r before held (l ∷ ls) =
     contents_from d r (before ++ l ∷ []) (line_applied d r before l.attempt l.reply held) ls
 
--- from its opening contents the table is applied over the Used lines of its activations
+-- the opening contents, changed by the table for each Used line of the resource's activations
 abbrev pub contents_after : Declaration → List (List ℕ) → List Line → ℕ → List ℕ
 contents_after d openings ls r = contents_from d r [] (slice_index_or openings r []) ls

@@ -1,4 +1,4 @@
--- What a declaration holds: resources, operations and paths, in order.
+-- What a declaration contains: resources, operations and paths, in order.
 use Rattle.std.specs.Prelude.{ℕ, List, [], map, slice_index_or}
 use Rattle.path_model.specs.declared.resource.Law.{Law}
 use Rattle.path_model.specs.declared.resource.Law.TheVariants.{Cell}

@@ -22,7 +22,7 @@ abbrev pub first_seen : List ℕ → Outcome
 first_seen [] = refuses Empty
 first_seen (x ∷ xs) = serves x (x ∷ xs)
 
--- one line for each law and verb
+-- the table: one line for each law and verb
 abbrev pub outcome_of : Law → Verb → List ℕ → Outcome
 outcome_of Cell (Put x) held = serves (slice_index held 0) (x ∷ [])
 outcome_of Cell Take held = refuses NotOffered
@@ -46,7 +46,7 @@ abbrev pub contents_left : Outcome → List ℕ → List ℕ
 contents_left (serves x rest) held = rest
 contents_left (refuses r) held = held
 
--- contents that a device of this law may have: one number, or at most as many as a queue's capacity
+-- a device of this law may have these contents: one number, or at most as many as a queue's capacity
 abbrev pub Fits : Law → List ℕ → Type 0
 Fits Cell held = length held ≡ 1
 Fits Tally held = length held ≡ 1

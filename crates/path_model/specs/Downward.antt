@@ -4,13 +4,13 @@ use Rattle.path_model.specs.declared.ids.OpId.{OpId}
 use Rattle.path_model.specs.Trees.{Bound, Tree, op, seq, alt, burst, WellFormed}
 use Rattle.path_model.specs.Machine.{semicolons, braces, Term, Plain, Braced, Counted, through, prologue, epilogue}
 
--- PP or VV round a P or a V
+-- PP or VV around a P or a V
 abbrev pub within : Bound → ℕ → Term → Term
 within b m (Plain q) = through b m q
 within b m (Braced c q) = Braced c q
 within b m (Counted c q) = Counted c q
 
--- L S R, by the forms of S: what stands before and after each name of S; n and m number its first semicolon and its first braces
+-- L S R, by the forms of S: what comes before and after each name of S; n and m number its first semicolon and its first braces
 abbrev pub substituted : Tree → ℕ → ℕ → Term → Term → List (OpId × Term × Term)
 substituted (op b) n m L R = (b, L, R) ∷ []
 substituted (seq s t) n m L R =

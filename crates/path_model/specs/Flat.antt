@@ -10,7 +10,7 @@ use Rattle.path_model.specs.Machine.{semicolons, braces, Term, Plain, Braced, Co
 use Rattle.path_model.specs.Machine.{Values, take_one, add_one, Passes, opening}
 use Rattle.path_model.specs.AmongOthers.{values_among}
 
--- 1 for a bound, and 0 where there is none
+-- 1 for a bound, 0 for none
 abbrev pub bound_count : Bound → ℕ
 bound_count any = 0
 bound_count (most n) = 1
@@ -22,19 +22,19 @@ counted_braces (seq s t) = counted_braces s + counted_braces t
 counted_braces (alt s t) = counted_braces s + counted_braces t
 counted_braces (burst bd s) = bound_count bd + counted_braces s
 
--- how many of them have a number below c, where the braces of the tree have the numbers from m on
+-- how many of them have a number below c, if the braces of the tree have the numbers from m on
 abbrev pub rank : Tree → ℕ → ℕ → ℕ
 rank (op a) m c = 0
 rank (seq s t) m c = rank s m c + rank t (m + braces s) c
 rank (alt s t) m c = rank s m c + rank t (m + braces s) c
 rank (burst bd s) m c = (if nat_lt m c then bound_count bd else 0) + rank s (m + 1) c
 
--- there is one
+-- there is a bound
 abbrev pub IsBound : Bound → Type 0
 IsBound any = ⊥
 IsBound (most n) = Unit {0}
 
--- the braces number c have a bound, where those of the tree have the numbers from m on
+-- the braces number c have a bound, if those of the tree have the numbers from m on
 abbrev pub HasBound : Tree → ℕ → ℕ → Type 0
 HasBound (op a) m c = ⊥
 HasBound (seq s t) m c = HasBound s m c ⊎ HasBound t (m + braces s) c
@@ -55,14 +55,14 @@ abbrev pub sited : ℕ → ℕ → List (ℕ × Tree) → List (ℕ × Sited)
 sited k c [] = []
 sited k c (x ∷ xs) = (x.0, record { tree = x.1; own = k; first = c }) ∷ sited (k + semaphores_in x.1) (c + braces x.1) xs
 
--- the number of the first bound's semaphore, and of that of the bound of the path's braces number c
+-- the number of the first bound's semaphore, and of the semaphore of the bound of the path's braces number c
 abbrev pub first_bound : Sited → ℕ
 first_bound x = x.own + 1 + semicolons x.tree
 
 abbrev pub bound_number : Sited → ℕ → ℕ
 bound_number x c = first_bound x + rank x.tree 0 c
 
--- what an operation does to the table: to a semaphore, through a counter, or through a counter and to a bound's semaphore, the last number
+-- what an operation does to the table: to a semaphore, through a counter, or through a counter and to a bound's semaphore (last)
 pub data TableTerm : Type 0 where
   PlainAt : ℕ → TableTerm
   BracedAt : ℕ → ℕ → TableTerm
@@ -84,14 +84,14 @@ TablePasses (PlainAt q) v = 0 < v.semaphore q
 TablePasses (BracedAt c q) v = (0 < v.counter c) ⊎ (0 < v.semaphore q)
 TablePasses (CountedAt c q u) v = ((0 < v.counter c) ⊎ (0 < v.semaphore q)) × (0 < v.semaphore u)
 
--- the semaphore loses one, and the first to begin takes it
+-- the semaphore loses one; or the counter gains one, and only the first execution takes one from the semaphore
 abbrev pub one_taken : ℕ → Table → Table
 one_taken q v = record v { semaphore = take_one v.semaphore q }
 
 abbrev pub entered : ℕ → ℕ → Table → Table
 entered c q v = record { semaphore = if v.counter c == 0 then take_one v.semaphore q else v.semaphore; counter = add_one v.counter c }
 
--- the semaphore gains one, and the last to end gives it
+-- the semaphore gains one; or the counter loses one, and only the last execution gives one to the semaphore
 abbrev pub one_given : ℕ → Table → Table
 one_given q v = record v { semaphore = add_one v.semaphore q }
 
@@ -127,7 +127,7 @@ abbrev pub owns : List (ℕ × Sited) → ℕ → ℕ
 owns [] i = 0
 owns (x ∷ xs) i = (if i == x.1.own then 1 else 0) + owns xs i
 
--- the bound whose semaphore has the number i, where those of the tree have the numbers from n on; 0 for all other numbers
+-- the bound whose semaphore has the number i, if those of the tree have the numbers from n on; 0 for all other numbers
 abbrev pub bound_opening : Tree → ℕ → ℕ → ℕ
 bound_opening (op a) n i = 0
 bound_opening (seq s t) n i = bound_opening s n i + bound_opening t (n + counted_braces s) i
@@ -142,12 +142,12 @@ bound_openings (x ∷ xs) i = bound_opening x.1.tree (first_bound x.1) i + bound
 abbrev pub flat_opening : List (ℕ × Sited) → Table
 flat_opening xs = record { semaphore = λ i. owns xs i + bound_openings xs i; counter = λ c. 0 }
 
--- the table v holds the path's own values w
+-- the table v has the path's own values w
 pub record Shows (x : Sited) (v : Table) (w : Values) : Type 0 where
   pub semaphores : (q : ℕ) → q ≤ semicolons x.tree → v.semaphore (x.own + q) ≡ w.semaphore q
   pub counters : (c : ℕ) → c < braces x.tree → v.counter (x.first + c) ≡ w.counter c
   pub limits : (c : ℕ) → HasBound x.tree 0 c → v.semaphore (bound_number x c) ≡ w.bound c
-  -- and each prologue asks of it what it asks of them
+  -- each prologue can pass in the table exactly when it can with the path's own values
   pub passes : (a : OpId) → Names x.tree a → TablePasses (in_table x (prologue x.tree a)) v ↔ Passes (prologue x.tree a) w
 
 -- after every history

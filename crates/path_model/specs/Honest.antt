@@ -19,15 +19,15 @@ IsHonestFrom judge d room openings before (l ∷ ls) =
     × (l.reply ≢ NoRoom)
     × IsHonestFrom judge d room openings (before ++ l ∷ []) ls
 
--- each line's reply is owed by the lines before it, and no line says that there was no room
+-- each line's reply is owed by the lines before it, and none is NoRoom
 abbrev pub IsHonest : Declaration → ℕ → List (List ℕ) → List Line → Type 0
 IsHonest d room openings ls = IsHonestFrom (by_words d) d room openings [] ls
 
--- the same, starts being judged by the semaphores
+-- the same, with starts judged by the semaphores
 abbrev pub IsHonestByMachine : Declaration → ℕ → List (List ℕ) → List Line → Type 0
 IsHonestByMachine d room openings ls = IsHonestFrom (by_machine d) d room openings [] ls
 
--- what comes first in an honest journal is an honest journal
+-- a front of an honest journal is an honest journal
 abbrev pub FrontsAreHonest : Type 0
 FrontsAreHonest =
     (d : Declaration) (room : ℕ) (openings : List (List ℕ)) (x y : List Line)
@@ -41,7 +41,7 @@ TheMachineOwesTheSame =
     → (w : ℕ) (attempt : Attempt) (r : Reply)
     → OwedByMachine d room openings ls w attempt r ↔ Owed d room openings ls w attempt r
 
--- so the journals that are honest by the semaphores are the honest ones
+-- so a journal is honest by the semaphores if and only if it is honest
 abbrev pub HonestByMachineIsHonest : Type 0
 HonestByMachineIsHonest =
     (d : Declaration) (room : ℕ) (openings : List (List ℕ)) → Every WellFormed (paths_of d)
@@ -53,7 +53,7 @@ EachHonestJournalIsLegal =
     (d : Declaration) (room : ℕ) (openings : List (List ℕ)) → Every WellFormed (paths_of d)
     → (ls : List Line) → IsHonest d room openings ls → Legal (paths_of d) (admitted_history ls)
 
--- the lines and the finishes that are to come have room
+-- there is room for the lines and for the finishes still to come
 abbrev pub EachHonestJournalHasRoom : Type 0
 EachHonestJournalHasRoom =
     (d : Declaration) (room : ℕ) (openings : List (List ℕ)) (ls : List Line) → IsHonest d room openings ls → taken ls ≤ room

@@ -1,4 +1,4 @@
--- What a journal tells: its starts and finishes, the live activations, and the admitted history.
+-- What a journal says: its starts and finishes, the live activations, and the admitted history.
 use Rattle.std.specs.Prelude.{◌≡◌, ℕ, ◌+◌, ◌≤◌, ◌==◌, ◌||◌, Bool, false, not}
 use Rattle.std.specs.Prelude.{List, [], ◌∷◌, ◌++◌, length, filter, Option, Some, None, if◌then◌else◌}
 use Rattle.path_model.specs.declared.ids.OpId.{OpId}
@@ -40,12 +40,12 @@ is_finished_in (l ∷ ls) n = finishes n l.attempt l.reply || is_finished_in ls 
 abbrev pub live : List Line → List Activation
 live ls = filter (λ a. not (is_finished_in ls a.act)) (starts ls)
 
--- the activation of a number
+-- the activation with this number
 abbrev pub activation_of : ActId → List Activation → Option Activation
 activation_of n [] = None
 activation_of n (a ∷ rest) = if a.act.0 == n.0 then Some a else activation_of n rest
 
--- all but the activation of a number, in their order
+-- all but the activation with this number, in order
 abbrev pub without : ActId → List Activation → List Activation
 without n activations = filter (λ a. not (a.act.0 == n.0)) activations
 
@@ -58,7 +58,7 @@ AreNumberedFrom low (a ∷ rest) end = (low ≤ a.act.0) × AreNumberedFrom (a.a
 abbrev pub AreNumbered : List Activation → ℕ → Type 0
 AreNumbered activations end = AreNumberedFrom 0 activations end
 
--- the activations have the numbers from n on, each the next
+-- the activations have the numbers n, n + 1, n + 2, and so on
 abbrev pub AreCountedFrom : ℕ → List Activation → Type 0
 AreCountedFrom n [] = Unit {0}
 AreCountedFrom n (a ∷ rest) = (a.act.0 ≡ n) × AreCountedFrom (n + 1) rest
@@ -72,7 +72,7 @@ abbrev pub ended_events : Option Activation → List Event
 ended_events None = []
 ended_events (Some a) = Ended a.op ∷ []
 
--- the event of a line after the lines before it: a start begins its operation, and a finish ends that of the Started line with its number
+-- the event of a line after the lines before it: a start begins its operation, a finish ends that of the Started line with its number
 abbrev pub events_of_line : List Line → Attempt → Reply → List Event
 events_of_line before (Start a) (Started n) = Began a ∷ []
 events_of_line before (Finish n) Finished = ended_events (activation_of n (starts before))
@@ -92,7 +92,7 @@ pub record IsQuiet (w : ℕ) (attempt : Attempt) (reply : Reply) : Type 0 where
   pub finishes_none : (n : ActId) → finishes n attempt reply ≡ false
   pub no_events : (before : List Line) → events_of_line before attempt reply ≡ []
 
--- the journal after one more attempt: a line with its reply, or nothing where there is no room
+-- the journal after one more attempt: with its line, or as it was for NoRoom
 abbrev pub with_line : List Line → ℕ → Attempt → Reply → List Line
 with_line ls w attempt NoRoom = ls
 with_line ls w attempt reply = ls ++ record { worker = w; attempt = attempt; reply = reply } ∷ []

@@ -23,13 +23,13 @@ TrimmedTermsTouchTheKept =
     (s : Tree) → WellFormed s → (a : OpId) → Names s a
     → TouchesKept s (lean_prologue s a) × TouchesKept s (lean_epilogue s a)
 
--- a counter from which the term takes one is above 0
+-- each counter that the term lowers is above 0
 abbrev pub FindsCounter : Term → Values → Type 0
 FindsCounter (Plain q) v = Unit {0}
 FindsCounter (Braced c q) v = 0 < v.counter c
 FindsCounter (Counted c q) v = 0 < v.counter c
 
--- a finish that keeps the history legal
+-- a finish that keeps the history legal finds each counter that it lowers above 0
 abbrev pub FinishesFindTheirCounters : Type 0
 FinishesFindTheirCounters =
     (s : Tree) → WellFormed s → (h : List Event) (a : OpId) → Names s a → LegalOn s (h ++ Ended a ∷ [])

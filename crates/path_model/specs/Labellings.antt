@@ -37,7 +37,7 @@ NoneTwice (l ∷ ls) = (Member l ls → ⊥) × NoneTwice ls
 abbrev pub AtMost : ℕ → (ℕ → Type 0) → Type 0
 AtMost n P = (ks : List ℕ) → NoneTwice ks → ((k : ℕ) → Member k ks → P k) → length ks ≤ n
 
--- some of the label's events stand in x, and some in y after it
+-- some of the label's events are in x, and some in y after it
 abbrev pub Underway : List (ℕ × Event) → List (ℕ × Event) → ℕ → Type 0
 Underway x y k = (carrying k x ≢ []) × (carrying k y ≢ [])
 

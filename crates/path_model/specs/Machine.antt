@@ -18,13 +18,13 @@ braces (seq s t) = braces s + braces t
 braces (alt s t) = braces s + braces t
 braces (burst bd s) = braces s + 1
 
--- what stands above a name: a semicolon that has it in its left or right operand, or braces around it with their bound, by their numbers
+-- what is above a name: a semicolon with it in its left or right operand, or braces around it with their bound; all by their numbers
 pub data Above : Type 0 where
   LeftOf : ℕ → Above
   RightOf : ℕ → Above
   Within : Bound → ℕ → Above
 
--- what stands above the name in the tree, the lowest first; n and m are the numbers of its first semicolon and its first braces
+-- what is above the name in the tree, the lowest first; n and m are the numbers of its first semicolon and its first braces
 abbrev pub above : Tree → ℕ → ℕ → OpId → List Above
 above (op b) n m a = []
 above (seq s t) n m a =
@@ -34,7 +34,7 @@ above (seq s t) n m a =
 above (alt s t) n m a = if has s a then above s n m a else above t (n + semicolons s) (m + braces s) a
 above (burst bd s) n m a = above s n (m + 1) a ++ Within bd m ∷ []
 
--- what an operation does to a semaphore: directly, or through the counter (the first number) of braces; with a bound, to its semaphore too
+-- what an operation does to a semaphore: directly, or through the counter (first) of braces; with a bound, also to its semaphore
 pub data Term : Type 0 where
   Plain : ℕ → Term
   Braced : ℕ → ℕ → Term
@@ -58,14 +58,14 @@ signals (LeftOf q ∷ up) = q
 signals (RightOf q ∷ up) = signals up
 signals (Within b c ∷ up) = signals up
 
--- P, or PP where braces stand below that semicolon
+-- P, or PP if there are braces below that semicolon
 abbrev pub prologue_below : List Above → Term
 prologue_below [] = Plain 0
 prologue_below (RightOf q ∷ up) = Plain q
 prologue_below (LeftOf q ∷ up) = prologue_below up
 prologue_below (Within b c ∷ up) = through b c (waits_on up)
 
--- V, or VV where braces stand below that semicolon
+-- V, or VV if there are braces below that semicolon
 abbrev pub epilogue_below : List Above → Term
 epilogue_below [] = Plain 0
 epilogue_below (LeftOf q ∷ up) = Plain q
@@ -124,7 +124,7 @@ abbrev pub size : Bound → ℕ
 size any = 0
 size (most n) = n
 
--- the bound of the braces number c, where those of the tree have the numbers from m on; 0 for all other numbers
+-- the bound of the braces number c, if those of the tree have the numbers from m on; 0 for all other numbers
 abbrev pub bound_at : Tree → ℕ → ℕ → ℕ
 bound_at (op b) m c = 0
 bound_at (seq s t) m c = bound_at s m c + bound_at t (m + braces s) c

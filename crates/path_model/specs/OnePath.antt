@@ -10,9 +10,9 @@ use Rattle.path_model.specs.Machine.{CanPass}
 
 -- after each history of the path's behaviour, and for each operation that the path names
 pub record AdmitsItsWords (s : Tree) : Type 0 where
-  -- its prologue can pass exactly where a start of it keeps the behaviour
+  -- its prologue can pass exactly when a start of it keeps the behaviour
   pub starts : (h : List Event) (a : OpId) → Behaves s h → Names s a → CanPass s h a ↔ Behaves s (h ++ Began a ∷ [])
-  -- it is in progress exactly where a finish of it keeps the behaviour
+  -- it is in progress exactly when a finish of it keeps the behaviour
   pub finishes : (h : List Event) (a : OpId) → Behaves s h → Names s a → InProgress a h ↔ Behaves s (h ++ Ended a ∷ [])
 
 abbrev pub EachPathAdmitsItsWords : Type 0

@@ -23,7 +23,7 @@ use Rattle.path_model.specs.Contents.{contents_after}
 abbrev pub taken : List Line → ℕ
 taken ls = length ls + length (live ls)
 
--- a judge: which path, if any, is against a start of the operation after the history
+-- a judge: which path, if any, forbids a start of the operation after the history
 abbrev pub Judge : Type 1
 Judge = List Event → OpId → Option PathId → Type 0
 
@@ -45,7 +45,7 @@ pub data OwedToStart (judge : Judge) (d : Declaration) (room : ℕ) (ls : List L
   blocked :
       (p : PathId) → taken ls + 2 ≤ room → a.0 < length d.operations → judge (admitted_history ls) a (Some p)
       → OwedToStart judge d room ls a (Blocked p)
-  -- where it names none, the number of starts before this one
+  -- if the judge names none: the number of starts before this one
   started :
       (n : ActId) → taken ls + 2 ≤ room → a.0 < length d.operations → judge (admitted_history ls) a None → n.0 ≡ begun_in ls
       → OwedToStart judge d room ls a (Started n)
@@ -55,7 +55,7 @@ pub record IsOwn (ls : List Line) (w : ℕ) (n : ActId) (a : Activation) : Type 
   pub found : activation_of n (live ls) ≡ Some a
   pub own : a.worker ≡ w
 
--- what the device of the activation's resource does with the verb
+-- what the table says for the verb and the device of the activation's resource
 abbrev pub outcome_for : Declaration → List (List ℕ) → List Line → Verb → Activation → Outcome
 outcome_for d openings ls verb a =
     outcome_of (law_of d (resource_of d a.op.0)) verb (contents_after d openings ls (resource_of d a.op.0))
@@ -73,12 +73,12 @@ pub data OwedToUse (d : Declaration) (room : ℕ) (openings : List (List ℕ)) (
   served :
       (a : Activation) (x : ℕ) (rest : List ℕ) → taken ls + 1 ≤ room → IsOwn ls w n a → outcome_for d openings ls verb a ≡ serves x rest
       → OwedToUse d room openings ls w n verb (Used x)
-  -- a device may fail where its law would serve
+  -- a device may fail although its law would serve
   failed :
       (a : Activation) (x : ℕ) (rest : List ℕ) → taken ls + 1 ≤ room → IsOwn ls w n a → outcome_for d openings ls verb a ≡ serves x rest
       → OwedToUse d room openings ls w n verb DeviceFailed
 
--- the finish of a live activation of the worker's own needs no room: its start has taken the place
+-- the finish of the worker's own live activation needs no room: its start has taken the place
 pub data OwedToFinish (d : Declaration) (room : ℕ) (ls : List Line) (w : ℕ) (n : ActId) : Reply → Type 0 where
   finished : (a : Activation) → IsOwn ls w n a → OwedToFinish d room ls w n Finished
   no_room : ((a : Activation) → IsOwn ls w n a → ⊥) → room < taken ls + 1 → OwedToFinish d room ls w n NoRoom
@@ -87,25 +87,25 @@ pub data OwedToFinish (d : Declaration) (room : ℕ) (ls : List Line) (w : ℕ) 
       (a : Activation) → taken ls + 1 ≤ room → activation_of n (live ls) ≡ Some a → a.worker ≢ w
       → OwedToFinish d room ls w n NotYours
 
--- the reply is owed to the worker's attempt after these lines, in a journal of this room, starts being judged by the judge
+-- the reply is owed to the worker's attempt after these lines, in a journal of this room, with starts judged by the judge
 abbrev pub OwedBy : Judge → Declaration → ℕ → List (List ℕ) → List Line → ℕ → Attempt → Reply → Type 0
 OwedBy judge d room openings ls w (Start a) reply = OwedToStart judge d room ls a reply
 OwedBy judge d room openings ls w (Apply n verb) reply = OwedToUse d room openings ls w n verb reply
 OwedBy judge d room openings ls w (Finish n) reply = OwedToFinish d room ls w n reply
 
--- by the words of the paths
+-- owed by the words of the paths
 abbrev pub Owed : Declaration → ℕ → List (List ℕ) → List Line → ℕ → Attempt → Reply → Type 0
 Owed d room openings ls w attempt reply = OwedBy (by_words d) d room openings ls w attempt reply
 
--- by their semaphores
+-- owed by their semaphores
 abbrev pub OwedByMachine : Declaration → ℕ → List (List ℕ) → List Line → ℕ → Attempt → Reply → Type 0
 OwedByMachine d room openings ls w attempt reply = OwedBy (by_machine d) d room openings ls w attempt reply
 
--- two replies are one; or the law serves, and one of them says that the device failed
+-- the replies are equal; or the law serves, and one of them says that the device failed
 abbrev pub AreSame : Reply → Reply → Type 0
 AreSame r s = (r ≡ s) ⊎ ((x : ℕ) × (r ≡ Used x) × (s ≡ DeviceFailed)) ⊎ ((x : ℕ) × (r ≡ DeviceFailed) × (s ≡ Used x))
 
--- no two different replies are owed to one attempt, but for a device that fails
+-- no two different replies are owed to one attempt, except when one says that a device failed
 abbrev pub OneReplyIsOwed : Type 0
 OneReplyIsOwed =
     (d : Declaration) (room : ℕ) (openings : List (List ℕ)) (ls : List Line) (w : ℕ) (attempt : Attempt) (r s : Reply)

@@ -1,4 +1,4 @@
--- Stuck states: what stays blocked, and until when.
+-- Stuck states: what stays blocked, and how long.
 use Rattle.std.specs.Prelude.{◌≡◌, ◌<◌, ◌≤◌, ◌+◌, ◌⊎◌, ℕ, List, [], ◌∷◌, ◌++◌, length, All, Some}
 use Rattle.path_model.specs.declared.ids.OpId.{OpId}
 use Rattle.path_model.specs.declared.ids.ActId.{ActId}
@@ -33,14 +33,14 @@ IsAdmission (Used x) = Unit {0}
 IsAdmission Finished = Unit {0}
 IsAdmission reply = ⊥
 
--- after a frozen journal nothing is admitted any more
+-- after a frozen journal nothing is ever admitted again
 abbrev pub FrozenStaysFrozen : Type 0
 FrozenStaysFrozen =
     (d : Declaration) (room : ℕ) (openings : List (List ℕ)) → Every WellFormed (paths_of d)
     → (ls more : List Line) → IsHonest d room openings (ls ++ more) → IsFrozen d ls
     → All (λ l. IsAdmission l.reply → ⊥) more
 
--- what is startable is owed its start, where there is room
+-- an operation that is startable is owed its start if there is room
 abbrev pub StartablesMayStart : Type 0
 StartablesMayStart =
     (d : Declaration) (room : ℕ) (openings : List (List ℕ)) → Every WellFormed (paths_of d)
@@ -48,7 +48,7 @@ StartablesMayStart =
     → (w : ℕ) (a : OpId) (n : ActId) → IsStartable d ls a → taken ls + 2 ≤ room → n.0 ≡ begun_in ls
     → Owed d room openings ls w (Start a) (Started n)
 
--- what is live is owed its finish, by its own worker
+-- a live activation is owed its finish by its own worker
 abbrev pub LiveActivationsMayFinish : Type 0
 LiveActivationsMayFinish =
     (d : Declaration) (room : ℕ) (openings : List (List ℕ)) (ls : List Line) (n : ActId) (a : Activation)
@@ -65,7 +65,7 @@ blocked_line w a p = record { worker = w; attempt = Start a; reply = Blocked p }
 abbrev pub started_line : ℕ → OpId → ActId → Line
 started_line w a n = record { worker = w; attempt = Start a; reply = Started n }
 
--- between a blocked start of an operation and a later admitted one stands an admitted finish
+-- between a blocked start of an operation and a later admitted one there is an admitted finish
 abbrev pub FinishesComeBetween : Type 0
 FinishesComeBetween =
     (d : Declaration) (room : ℕ) (openings : List (List ℕ)) → Every WellFormed (paths_of d)

@@ -4,17 +4,17 @@ use Rattle.path_model.specs.declared.ids.OpId.{OpId}
 use Rattle.path_model.specs.declared.tree.Expr.{Expr}
 use Rattle.path_model.specs.declared.tree.Expr.TheVariants.{Op, Seq', Alt', Burst', Counted'}
 
--- how many executions may overlap within braces
+-- how many executions may overlap inside braces
 pub data Bound : Type 0 where
   any : Bound
   most : ℕ → Bound
 
--- where c executions aren't over, one more may begin
+-- one more execution may begin when c aren't over
 abbrev pub Room : Bound → ℕ → Type 0
 Room any c = Unit {0}
 Room (most n) c = c < n
 
--- a tree without the places of its boxes in memory
+-- a tree, apart from where its boxes are in memory
 pub data Tree : Type 0 where
   op : OpId → Tree
   seq : Tree → Tree → Tree
@@ -35,11 +35,11 @@ Names (seq s t) a = Names s a ⊎ Names t a
 Names (alt s t) a = Names s a ⊎ Names t a
 Names (burst bd s) a = Names s a
 
--- no operation stands in both trees
+-- no operation is in both trees
 abbrev pub Apart : Tree → Tree → Type 0
 Apart s t = (a : OpId) → Names s a → Names t a → ⊥
 
--- no name stands twice
+-- no name occurs twice
 abbrev pub NoRepeats : Tree → Type 0
 NoRepeats (op a) = Unit {0}
 NoRepeats (seq s t) = NoRepeats s × NoRepeats t × Apart s t
@@ -53,14 +53,14 @@ NoBraces (seq s t) = NoBraces s × NoBraces t
 NoBraces (alt s t) = NoBraces s × NoBraces t
 NoBraces (burst bd s) = ⊥
 
--- no braces stand inside braces, and one execution at least has room in each pair
+-- no braces are inside braces, and each pair has room for at least one execution
 abbrev pub NoNesting : Tree → Type 0
 NoNesting (op a) = Unit {0}
 NoNesting (seq s t) = NoNesting s × NoNesting t
 NoNesting (alt s t) = NoNesting s × NoNesting t
 NoNesting (burst bd s) = NoBraces s × Room bd 0
 
--- no braces let more than 65,535 executions overlap by their bound
+-- each bound is at most 65,535
 abbrev pub FewAtOnce : Tree → Type 0
 FewAtOnce (op a) = Unit {0}
 FewAtOnce (seq s t) = FewAtOnce s × FewAtOnce t

@@ -18,13 +18,13 @@ is_burst (seq s t) = false
 is_burst (alt s t) = false
 is_burst (burst bd s) = true
 
--- a term of the trimmed table: none, a whole one, or that of the bound's semaphore alone
+-- a term of the trimmed table: none, a whole one, or only that of the bound's semaphore
 pub data LeanTerm : Type 0 where
   nothing : LeanTerm
   does : Term → LeanTerm
   limits : ℕ → LeanTerm
 
--- where the braces are the whole path, their counter and the path's own semaphore are gone
+-- if one pair of braces is the whole path, its counter and the path's own semaphore are gone
 abbrev pub lean : Bool → Term → LeanTerm
 lean whole (Plain q) = does (Plain q)
 lean whole (Braced c q) = if whole then nothing else does (Braced c q)
@@ -118,15 +118,15 @@ lean_after xs h = lean_run (lean_opened (kept [] xs)) h
 abbrev pub LeanBlocks : OpId → Running → Type 0
 LeanBlocks a r = Names r.tree a × (LeanPasses (lean_prologue r.tree a) r.values → ⊥)
 
--- after every history
+-- what holds of the trimmed path after every history
 pub record Trims (s : Tree) (h : List Event) : Type 0 where
   pub kept_values : SameKept s (lean_among s (opening s) h) (values_among s (opening s) h)
   -- each check that is removed always passes
   pub removed_passes : (a : OpId) → lean_prologue s a ≡ nothing → Passes (prologue s a) (values_among s (opening s) h)
-  -- beside a bound's semaphore too
+  -- also next to a bound's semaphore
   pub removed_part :
       (a : OpId) (c q : ℕ) → is_burst s ≡ true → prologue s a ≡ Counted c q → Passes (Braced c q) (values_among s (opening s) h)
-  -- and each that is kept asks the same
+  -- each check that is kept passes exactly when the whole one does
   pub same_passes :
       (a : OpId) → LeanPasses (lean_prologue s a) (lean_among s (opening s) h) ↔ Passes (prologue s a) (values_among s (opening s) h)
 
@@ -140,10 +140,10 @@ pub record SameAnswers (xs : List (ℕ × Tree)) (h : List Event) (a : OpId) : T
 abbrev pub TrimmingKeepsAnswers : Type 0
 TrimmingKeepsAnswers = (xs : List (ℕ × Tree)) → Every WellFormed xs → (h : List Event) (a : OpId) → SameAnswers xs h a
 
--- after a legal history the trimmed semaphores name the first path whose words forbid a start, and admit it where none does
+-- after a legal history the trimmed semaphores name the first path whose words forbid a start, and admit it if none does
 pub record LeanJudged (xs : List (ℕ × Tree)) (h : List Event) (a : OpId) : Type 0 where
   pub first : (p : ℕ) → First (LeanBlocks a) (lean_after xs h) p ↔ First (Forbids h a) xs p
-  -- each path that is kept blocks exactly where it forbids
+  -- each path that is kept blocks exactly when it forbids
   pub each : Every (λ r. LeanBlocks a r ↔ Forbids h a r.tree) (lean_after xs h)
   pub starts : NoneOf (LeanBlocks a) (lean_after xs h) ↔ Legal xs (h ++ Began a ∷ [])
   pub decided : NoneOf (LeanBlocks a) (lean_after xs h) ⊎ ((p : ℕ) × First (LeanBlocks a) (lean_after xs h) p)

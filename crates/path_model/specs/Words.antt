@@ -5,7 +5,7 @@ use Rattle.path_model.specs.declared.history.Event.TheVariants.{Began, Ended}
 use Rattle.path_model.specs.Trees.{Bound, Tree, op, seq, alt, burst}
 use Rattle.path_model.specs.Labellings.{Language, events_of, EachLabel, IsShuffle, WithinBound}
 
--- a shuffle, by labels within the bound, that is not empty, and of which no shorter front that is not empty is a shuffle
+-- a nonempty shuffle, by labels within the bound, of which no shorter nonempty front is a shuffle
 pub record IsBurst (b : Bound) (L : Language) (w : List Event) : Type 0 where
   pub shuffle : (ls : List (ℕ × Event)) × (events_of ls ≡ w) × EachLabel L ls × WithinBound b ls
   pub some : w ≢ []

@@ -1,4 +1,4 @@
-//! What happens to operations.
+//! Events: an execution of an operation begins or ends.
 
 use crate::ids::OpId;
 

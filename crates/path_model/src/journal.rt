@@ -1,4 +1,4 @@
-//! What workers attempt, what they are told, and the lines that record it.
+//! Attempts of workers, their replies, and the lines that record them.
 
 use crate::ids::{ActId, OpId, PathId};
 use std::alloc::{Allocator, Global};
@@ -6,7 +6,7 @@ use std::alloc::{Allocator, Global};
 /// The most lines that a journal may have room for.
 pub const MOST_LINES: u32 = 1048576;
 
-/// What is asked of the device of a resource.
+/// A request to the device of a resource.
 #[derive(Clone, Copy, Debug, PartialEq, Eq)]
 pub enum Verb {
     /// Puts a number in.
@@ -19,7 +19,7 @@ pub enum Verb {
     Add(u64),
 }
 
-/// What a worker attempts.
+/// An attempt of a worker.
 #[derive(Clone, Copy, Debug, PartialEq, Eq)]
 pub enum Attempt {
     /// To start an operation.
@@ -30,7 +30,7 @@ pub enum Attempt {
     Finish(ActId),
 }
 
-/// What a worker is told.
+/// The reply to an attempt.
 #[derive(Clone, Copy, Debug, PartialEq, Eq)]
 pub enum Reply {
     /// The start is admitted as this activation.
@@ -39,7 +39,7 @@ pub enum Reply {
     Blocked(PathId),
     /// The operation isn't declared.
     UnknownOperation,
-    /// The device answered this number.
+    /// The device answered with this number.
     Used(u64),
     /// The law of the device doesn't offer the verb.
     NotOffered,
@@ -47,9 +47,9 @@ pub enum Reply {
     Empty,
     /// The queue is full.
     Full,
-    /// The total would pass the largest number.
+    /// The total would pass `u64::MAX`.
     Overflow,
-    /// The device failed where its law would serve.
+    /// The device failed although its law would have served.
     DeviceFailed,
     /// The activation is over.
     Finished,
@@ -61,18 +61,18 @@ pub enum Reply {
     NoRoom,
 }
 
-/// A line of a journal: who attempted what, and the reply.
+/// A line of a journal: the worker, the attempt and the reply.
 #[derive(Clone, Copy, Debug, PartialEq, Eq)]
 pub struct Line {
-    /// Who attempted it.
+    /// The worker.
     pub worker: u32,
-    /// What was attempted.
+    /// The worker's attempt.
     pub attempt: Attempt,
-    /// What the worker was told.
+    /// The reply that the worker got.
     pub reply: Reply,
 }
 
-/// What the text of a journal tells: its lines and, in version 2, how many lines the journal has room for.
+/// The journal in a text: its lines and, in version 2, how many lines the journal has room for.
 #[derive(Drop)]
 pub struct JournalText<A: Allocator + Copy = Global> {
     /// The room that the text names, 1 to [`MOST_LINES`]; `None` in version 1, which names none.
@@ -86,8 +86,8 @@ pub struct JournalText<A: Allocator + Copy = Global> {
 pub struct Activation {
     /// Its number.
     pub act: ActId,
-    /// Whose it is.
+    /// The worker that started it.
     pub worker: u32,
-    /// What was started.
+    /// The operation that was started.
     pub op: OpId,
 }

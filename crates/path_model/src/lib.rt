@@ -1,7 +1,7 @@
-//! The types of path expressions, and what they mean.
+//! The types of path expressions, and their meaning.
 //!
-//! The types here are plain. Beside them stand all definitions of the subject: what a history, a word, a burst and
-//! the behaviour of a path are, what a journal owes to an attempt, and how semaphores keep the meaning of paths
+//! The types are plain data. The specs next to them have all definitions of the subject: histories, words, bursts and the
+//! behaviour of a path, the replies that a journal owes to attempts, and how semaphores keep the meaning of paths
 //! (Campbell and Habermann, 1974). The laws of [`theorems`] say that the semaphores admit exactly what the words allow.
 #![tactic(auto)]
 

@@ -1,11 +1,11 @@
-//! Want of memory.
+//! The error of a failed allocation.
 
 ghost use Rattle.std.specs.Prelude.{Some, codes};
 
 use std::alloc::{AllocError, AllocFailed};
 use std::fmt;
 
-/// A growth of memory was refused.
+/// An allocation failed.
 #[derive(Clone, Copy, Debug, PartialEq, Eq)]
 pub struct OutOfMemory;
 

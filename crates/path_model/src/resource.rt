@@ -1,12 +1,12 @@
-//! What a resource holds.
+//! The laws of resources.
 
-/// How the device of a resource treats its verbs.
+/// How the device of a resource serves its verbs.
 #[derive(Clone, Copy, Debug, PartialEq, Eq)]
 pub enum Law {
-    /// One number, which is put and looked at.
+    /// One number, which can be put and looked at.
     Cell,
-    /// A total, which is added to and looked at.
+    /// A total, which can be added to and looked at.
     Tally,
-    /// At most so many numbers, first in, first out.
+    /// At most this many numbers, first in, first out.
     Queue(u32),
 }

@@ -1,4 +1,4 @@
-//! The laws of the subject. Each function does nothing: what it ensures is the law, and the contracts above cite it.
+//! The laws of the subject. Each function does nothing: its `ensures` clause is the law, and the contracts above cite it.
 
 ghost use Rattle.path_model.specs.OnePath.{EachPathAdmitsItsWords};
 ghost use Rattle.path_model.specs.AmongOthers.{EachPathGuards};
@@ -18,7 +18,7 @@ ghost use Rattle.path_model.specs.Owed.{OneReplyIsOwed};
 ghost use Rattle.path_model.specs.Asked.{UnaskedDevicesMayBeReplaced};
 ghost use Rattle.path_model.specs.Stuck.{FrozenStaysFrozen, StartablesMayStart, LiveActivationsMayFinish, FinishesComeBetween};
 
-/// After every history of a path's behaviour the semaphores let an operation begin or end exactly where the behaviour does.
+/// After every history of a path's behaviour the semaphores let an operation begin or end exactly when the behaviour does.
 pub fn each_path_admits_its_words()
     ensures { EachPathAdmitsItsWords }
 {}
@@ -43,7 +43,7 @@ pub fn all_paths_judge()
     ensures { AllPathsJudge }
 {}
 
-/// A path sees as much in progress of what it names as there is.
+/// A path sees an operation that it names as in progress exactly when the whole history has it in progress.
 pub fn projections_keep_progress()
     ensures { ProjectionsKeepProgress }
 {}
@@ -58,12 +58,12 @@ pub fn first_is_one()
     ensures { FirstIsOne }
 {}
 
-/// What is blocked stays so through admitted starts; the path that is named may become an earlier one.
+/// What is blocked stays blocked through admitted starts; the first path that blocks it may become an earlier one.
 pub fn starts_only_block()
     ensures { StartsOnlyBlock }
 {}
 
-/// Each path that forbade a start still does after another start.
+/// Each path that forbade a start still forbids it after another start.
 pub fn each_block_stays()
     ensures { EachBlockStays }
 {}
@@ -73,7 +73,7 @@ pub fn finishes_unblock()
     ensures { FinishesUnblock }
 {}
 
-/// What is trimmed from a path answers nothing.
+/// Trimming a path keeps the other values as they are, and removes only checks that always pass.
 pub fn each_path_trims()
     ensures { EachPathTrims }
 {}
@@ -88,12 +88,12 @@ pub fn trimmed_admits_the_words()
     ensures { TrimmedAdmitsTheWords }
 {}
 
-/// The substitution from the root of a tree downwards puts round each name what is read upwards from it.
+/// The substitution from the root of a tree downwards puts around each name what is read upwards from it.
 pub fn substitution_reads_upwards()
     ensures { SubstitutionReadsUpwards }
 {}
 
-/// One table, with numbers that count through the paths, holds the values of each path.
+/// One table, with numbers that count through the paths, has the values of each path.
 pub fn one_table_shows_all()
     ensures { OneTableShowsAll }
 {}
@@ -103,7 +103,7 @@ pub fn the_machines_agree()
     ensures { TheMachinesAgree }
 {}
 
-/// No semaphore passes the number of starts by more than one, no counter passes it, and no bound's semaphore passes the bound.
+/// No semaphore exceeds the number of starts by more than 1, no counter exceeds that number, and no bound's semaphore exceeds the bound.
 pub fn each_value_is_bounded()
     ensures { EachValueIsBounded }
 {}
@@ -123,12 +123,12 @@ pub fn trimmed_terms_touch_the_kept()
     ensures { TrimmedTermsTouchTheKept }
 {}
 
-/// A finish that keeps the history legal finds each counter from which it takes one above 0.
+/// A finish that keeps the history legal finds each counter that it lowers above 0.
 pub fn finishes_find_their_counters()
     ensures { FinishesFindTheirCounters }
 {}
 
-/// What comes first in an honest journal is an honest journal.
+/// A front of an honest journal is an honest journal.
 pub fn fronts_are_honest()
     ensures { FrontsAreHonest }
 {}
@@ -168,32 +168,32 @@ pub fn each_attempt_is_owed_a_reply()
     ensures { EachAttemptIsOwedAReply }
 {}
 
-/// One reply at most is owed to an attempt, but that a device may fail where its law would serve.
+/// At most one reply is owed to an attempt, except that a device may fail although its law would serve.
 pub fn one_reply_is_owed()
     ensures { OneReplyIsOwed }
 {}
 
-/// While no line asked the device of a resource, its opening contents may be others.
+/// While no line asked the device of a resource, the resource may have other opening contents.
 pub fn unasked_devices_may_be_replaced()
     ensures { UnaskedDevicesMayBeReplaced }
 {}
 
-/// After a journal where nothing is live and nothing can be started, nothing is admitted any more.
+/// After a journal with nothing live and nothing to start, nothing is ever admitted again.
 pub fn frozen_stays_frozen()
     ensures { FrozenStaysFrozen }
 {}
 
-/// What can be started is owed its start, where there is room.
+/// An operation that can be started is owed its start if there is room.
 pub fn startables_may_start()
     ensures { StartablesMayStart }
 {}
 
-/// What is live is owed its finish, by its own worker.
+/// A live activation is owed its finish by its own worker.
 pub fn live_activations_may_finish()
     ensures { LiveActivationsMayFinish }
 {}
 
-/// Between a blocked start of an operation and a later admitted one stands an admitted finish.
+/// Between a blocked start of an operation and a later admitted one there is an admitted finish.
 pub fn finishes_come_between()
     ensures { FinishesComeBetween }
 {}

@@ -3,7 +3,7 @@
 use crate::ids::OpId;
 use std::alloc::{Allocator, Global};
 
-/// A path expression (Campbell and Habermann, 1974). Parentheses leave no trace in it.
+/// A path expression (Campbell and Habermann, 1974). It has no trace of parentheses.
 #[derive(Drop)]
 pub enum Expr<A: Allocator + Copy = Global> {
     /// One execution of the operation.
@@ -12,8 +12,8 @@ pub enum Expr<A: Allocator + Copy = Global> {
     Seq(Box<Expr<A>, A>, Box<Expr<A>, A>),
     /// `S , T`: one of the two.
     Alt(Box<Expr<A>, A>, Box<Expr<A>, A>),
-    /// `{ S }`: executions that overlap, as many as are asked for.
+    /// `{ S }`: executions that overlap, any number of them.
     Burst(Box<Expr<A>, A>),
-    /// `{ S : n }`: executions that overlap, at most so many at any time.
+    /// `{ S : n }`: executions that overlap, at most n at any time.
     Counted(Box<Expr<A>, A>, u32),
 }

@@ -1,4 +1,4 @@
--- How forms are printed, and that a tree with the numbers of their names is printed so.
+-- How forms are printed, and that a tree with the numbers of their names has the same print.
 use Rattle.std.proofs.Common.{◌≡◌, ℕ, List, [], ◌∷◌, ◌++◌, map, slice_get, Option, Some, None, option_map, unwrap_or, refl, sym, ap, ◌∙◌}
 use Rattle.std.proofs.lemmas.Option.{slice_get-map}
 use Rattle.path_model.specs.declared.resource.Law.{Law}

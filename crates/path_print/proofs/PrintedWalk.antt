@@ -1,4 +1,4 @@
--- What stands at a place of the operations and of the paths, and what follows.
+-- The operation and the path at an index, and what follows them.
 use Rattle.std.proofs.Common.{◌≡◌, ℕ, zero, suc, ◌+◌, ◌<◌, ◌≤◌, ◌==◌, Bool, true, false, List, [], ◌∷◌, ◌++◌, length, drop, nat_lt, Option, Some, None, slice_get, option_map, unwrap_or, refl, sym, ap, ◌∙◌, subst, arith, add-one, append_assoc, append-nil, codes, inl, inr, if◌then◌else◌}
 use Rattle.std.proofs.Math.Seq.{drop-nil}
 use Rattle.std.proofs.lemmas.List.{drop_all}
@@ -55,7 +55,7 @@ pub stops_at : {X Y : Type 0} (r : X → ℕ) (v : X → Y) (k : ℕ) (xs : List
 stops_at r v k [] e = record { shown = refl; left = refl }
 stops_at r v k (x ∷ xs) e = let t = by_none (r x == k) (v x) (here r v k xs) (after r k xs) (x ∷ xs) e in record { shown = t.0; left = t.1 }
 
--- what a look at a place tells
+-- what a look at an index says
 test_true : {Y : Type 0} (b : Bool) (z : Y) (ys : List Y) → b ≡ true → Some z ≡ slice_get (if b then z ∷ ys else []) 0
 test_true true z ys e = refl
 test_true false z ys e = absurd (cc)

@@ -1,4 +1,4 @@
--- The text that a declaration is printed as.
+-- The printed text of a declaration.
 use Rattle.std.specs.Prelude.{ℕ, ◌+◌, ◌==◌, Bool, true, false, List, [], ◌∷◌, ◌++◌, map, filter, slice_get, option_map, unwrap_or, codes}
 use Rattle.std.specs.Fmt.{decimal}
 use Rattle.path_model.specs.declared.ids.OpId.{OpId}
@@ -41,7 +41,7 @@ piece_text (reserved r) = reserved_text r
 piece_text (name n) = n
 piece_text (number n) = n
 
--- what stands between a sign and the token before it: nothing where it is `,`, `;` or `:`, and else a space
+-- what precedes a sign: nothing before `,`, `;` or `:`, else a space
 abbrev pub sign_gap : Sign → List ℕ
 sign_gap signs.Semicolon = []
 sign_gap signs.Comma = []
@@ -51,19 +51,19 @@ sign_gap signs.CloseParen = 32 ∷ []
 sign_gap signs.OpenBrace = 32 ∷ []
 sign_gap signs.CloseBrace = 32 ∷ []
 
--- what stands between a token and the one before it
+-- what precedes a token that isn't the first
 abbrev pub gap : Piece → List ℕ
 gap (sign s) = sign_gap s
 gap (reserved r) = 32 ∷ []
 gap (name n) = 32 ∷ []
 gap (number n) = 32 ∷ []
 
--- the tokens that follow another
+-- tokens that aren't the first
 abbrev pub spaced : List Piece → List ℕ
 spaced [] = []
 spaced (p ∷ ps) = gap p ++ (piece_text p ++ spaced ps)
 
--- the text of these tokens: nothing stands before the first, and a line feed at the end
+-- the text of these tokens: nothing before the first, and a line feed at the end
 abbrev pub laid : List Piece → List ℕ
 laid [] = 10 ∷ []
 laid (p ∷ ps) = piece_text p ++ (spaced ps ++ 10 ∷ [])
@@ -74,13 +74,13 @@ wraps_seq InSeq = false
 wraps_seq InAlt = true
 wraps_seq InUnit = true
 
--- a selection needs them at the right of a selection
+-- a selection needs parentheses at the right of a selection
 abbrev pub wraps_alt : Place → Bool
 wraps_alt InSeq = false
 wraps_alt InAlt = false
 wraps_alt InUnit = true
 
--- the tokens, in parentheses or not
+-- the tokens, with parentheses if asked
 abbrev pub wrapped : Bool → List Piece → List Piece
 wrapped true ps = sign signs.OpenParen ∷ (ps ++ sign signs.CloseParen ∷ [])
 wrapped false ps = ps
@@ -89,7 +89,7 @@ wrapped false ps = ps
 abbrev pub name_of : List Operation → OpId → List ℕ
 name_of os a = unwrap_or (option_map (λ o. o.name) (slice_get os a.0)) []
 
--- the tokens of a bound, within its braces
+-- the tokens of a bound, inside its braces
 abbrev pub bound_pieces : Bound → List Piece
 bound_pieces any = []
 bound_pieces (most n) = sign signs.Colon ∷ number (decimal n) ∷ []
@@ -105,7 +105,7 @@ tree_pieces os (burst b s) place = sign signs.OpenBrace ∷ (tree_pieces os s In
 abbrev pub path_pieces : List Operation → Tree → List Piece
 path_pieces os t = reserved words.Path ∷ (tree_pieces os t InSeq ++ reserved words.End ∷ [])
 
--- the tokens of paths, one after the other
+-- the tokens of paths, in order
 abbrev pub paths_pieces : List Operation → List Tree → List Piece
 paths_pieces os [] = []
 paths_pieces os (t ∷ ts) = path_pieces os t ++ paths_pieces os ts
@@ -115,7 +115,7 @@ abbrev pub more_names : List (List ℕ) → List Piece
 more_names [] = []
 more_names (n ∷ ns) = sign signs.Comma ∷ name n ∷ more_names ns
 
--- names, with a comma between two
+-- names, with commas between them
 abbrev pub names_pieces : List (List ℕ) → List Piece
 names_pieces [] = []
 names_pieces (n ∷ ns) = name n ∷ more_names ns
@@ -142,7 +142,7 @@ head_pieces r = reserved words.Resource ∷ name r.name ∷ (law_pieces r.law ++
 abbrev pub resource_pieces : List Operation → Resource → List (List ℕ) → List Tree → List Piece
 resource_pieces os r ns ts = head_pieces r ++ (names_pieces ns ++ (paths_pieces os ts ++ reserved words.End ∷ []))
 
--- the tokens of resources, of which the first is k
+-- the tokens of resources; the first one has the number k
 unfoldable pub resources_pieces : List Operation → List Path → ℕ → List Resource → List Piece
 resources_pieces os ps k [] = []
 resources_pieces os ps k (r ∷ rs) = resource_pieces os r (names_at k os) (trees_at k ps) ++ resources_pieces os ps (k + 1) rs

@@ -14,14 +14,14 @@ use path_decl::{
 use path_model::{Expr, Law, OpId, OutOfMemory, PathId, ResId};
 use std::alloc::Allocator;
 
-/// Where an expression stands, which says what needs parentheses there.
+/// The place of an expression, which says what needs parentheses there.
 #[derive(Clone, Copy, Debug, PartialEq, Eq)]
 pub(crate) enum Place {
-    /// At the left of a `;`, or alone: nothing needs them.
+    /// At the left of a `;`, or alone: nothing needs parentheses.
     InSeq,
-    /// At the right of a `;`, or at the left of a `,`: a sequence does.
+    /// At the right of a `;`, or at the left of a `,`: a sequence needs them.
     InAlt,
-    /// At the right of a `,`: a sequence and a selection do.
+    /// At the right of a `,`: a sequence and a selection need them.
     InUnit,
 }
 
@@ -34,7 +34,7 @@ fn put<B: Allocator + Copy>(out: &mut String<B>, token: &str) -> Result<(), OutO
     Ok(())
 }
 
-/// Writes the text where it is wanted, and else nothing.
+/// Writes the text if it is wanted, else nothing.
 fn put_if<B: Allocator + Copy>(
     out: &mut String<B>,
     wanted: bool,
@@ -91,7 +91,7 @@ fn put_tree<A: Allocator + Copy, B: Allocator + Copy>(
     Ok(())
 }
 
-/// The name of the operation, if it is one of that resource.
+/// The name of the operation if it belongs to that resource.
 fn own_name<A: Allocator + Copy>(decl: &Decl<A>, resource: ResId, op: OpId) -> Option<&str>
     ensures { let own = names_here resource.0 (drop op.0 decl.now.declaration.operations) in
         option_map (λ s. s.now) result ≡ slice_get own 0 }
@@ -103,7 +103,7 @@ fn own_name<A: Allocator + Copy>(decl: &Decl<A>, resource: ResId, op: OpId) -> O
     }
 }
 
-/// The tree of the path, if it is one of that resource.
+/// The tree of the path if it belongs to that resource.
 fn own_tree<A: Allocator + Copy>(decl: &Decl<A>, resource: ResId, path: PathId) -> Option<&Expr<A>>
     ensures { let own = trees_here resource.0 (drop path.0 decl.now.declaration.paths) in
         option_map (λ t. shape t.now) result ≡ slice_get own 0 }
@@ -115,7 +115,7 @@ fn own_tree<A: Allocator + Copy>(decl: &Decl<A>, resource: ResId, path: PathId) 
     }
 }
 
-/// Writes the names of the resource's operations, of which the first is `first`. Answers where the next resource begins.
+/// Writes the names of the resource's operations; the first one is `first`. Returns the first operation of the next resource.
 fn put_names<A: Allocator + Copy, B: Allocator + Copy>(
     out: &mut String<B>,
     decl: &Decl<A>,
@@ -138,7 +138,7 @@ fn put_names<A: Allocator + Copy, B: Allocator + Copy>(
     Ok(total)
 }
 
-/// Writes the resource's paths, of which the first is `first`. Answers where the next resource begins.
+/// Writes the resource's paths; the first one is `first`. Returns the first path of the next resource.
 fn put_paths<A: Allocator + Copy, B: Allocator + Copy>(
     out: &mut String<B>,
     decl: &Decl<A>,
@@ -174,7 +174,7 @@ fn put_law<B: Allocator + Copy>(out: &mut String<B>, law: Law) -> Result<(), Out
     Ok(())
 }
 
-/// Writes the tokens of the resource before the names of its operations. Nothing stands before the first resource.
+/// Writes the tokens of the resource before the names of its operations. Writes no space before the first resource.
 fn put_head<A: Allocator + Copy, B: Allocator + Copy>(
     out: &mut String<B>,
     decl: &Decl<A>,
@@ -192,19 +192,18 @@ fn put_head<A: Allocator + Copy, B: Allocator + Copy>(
     Ok(())
 }
 
-/// The text of the declaration: its tokens in order, a space between two of them but none before `,`, `;` and `:`,
-/// and a line feed at the end. Parentheses stand only where a tree needs them: round a sequence at the right of a `;` or
-/// beside a `,`, and round a selection at the right of a `,`. Where the text has at most 65,536 bytes, it is read as
-/// the same declaration.
+/// The text of the declaration: its tokens in order, with a space between two of them but none before `,`, `;` and `:`,
+/// and a line feed at the end. Has parentheses only where a tree needs them: around a sequence at the right of a `;` or
+/// beside a `,`, and around a selection at the right of a `,`. If the text has at most 65,536 bytes, it is a text of the same
+/// declaration.
 ///
-/// `OutOfMemory` comes only where a growth of the text was refused. One pass over the declaration: the cost is that of
-/// the text.
+/// Fails only if allocation fails. One pass over the declaration: the cost is that of the text.
 pub fn print<A: Allocator + Copy, B: Allocator + Copy>(
     alloc: B,
     decl: &Decl<A>,
 ) -> Result<String<B>, OutOfMemory>
     ensures text { IfOk result (λ s. string_bytes s ≡ printed decl.now.declaration) }
-    // It is a text of the same declaration.
+    // If it isn't too long, it is a text of the same declaration.
     ensures again { IfOk result (λ s. length (string_bytes s) ≤ 65536 → IsDeclarationText (string_bytes s) decl.now.declaration) }
 {
     let mut out = String::new(alloc);

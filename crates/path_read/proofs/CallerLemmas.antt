@@ -1,3 +1,3 @@
--- What callers may cite of reading, beside the contracts.
+-- What callers may cite of reading, besides the contracts.
 pub use Rattle.path_read.proofs.FormRules.{BracesFit, KeepsPathRules, PathsKeepRules}
 pub use Rattle.path_read.proofs.FromLawful.{resources_called, forms_keep_rules}

@@ -1,4 +1,4 @@
--- What follows parts that were taken.
+-- What follows after parts were taken.
 use Rattle.std.proofs.Common.{◌≡◌, List, ◌++◌, sym, ap, ◌∙◌, subst, Result, Ok, Err, IfOk, IfErr, ◌⊎◌, inl, inr}
 use Rattle.std.specs.Result.{IsErrAnd, IsErrOf}
 use Rattle.path_lex.specs.declared.fault.DeclFault.{DeclFault}
@@ -27,7 +27,7 @@ pub handed_on : {T : Type 0} (r : Result T DeclFault) (f : DeclFault) (P Q : Typ
 handed_on (Ok x) f P Q is g h = absurd is
 handed_on (Err e) f P Q is g h = subst (λ x. Fails x Q) (sym is) (fails_then f g h)
 
--- want of memory
+-- an OutOfMemory
 pub no_memory : {T : Type 0} (r : Result T DeclFault) (P : Type 0) → IsErrAnd r (λ e. e ≡ faults.OutOfMemory) → IfErr r (λ e. Fails e P)
 no_memory (Ok x) P is = absurd is
 no_memory (Err e) P is = subst (λ x. Fails x P) (sym is) tt

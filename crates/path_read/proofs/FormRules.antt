@@ -5,7 +5,7 @@ use Rattle.path_decl.specs.Lawful.{IsDistinct}
 use Rattle.path_read.specs.Building.{BoundFits, LawFits}
 use Rattle.path_decl.specs.Forms.{Form, once, sequence, selection, braced, names_in, ResourceForm, all_operations, all_paths}
 
--- within so many open braces, no braces stand within braces, and each bound is a number from 1 to 65,535
+-- inside this many open braces, no braces are inside braces, and each bound is a number from 1 to 65,535
 abbrev pub BracesFit : ℕ → Form → Type 0
 BracesFit b (once n) = Unit {0}
 BracesFit b (sequence f g) = BracesFit b f × BracesFit b g

@@ -1,4 +1,4 @@
--- What the reader reads is the grammar: in a whole file each list goes on as long as its separator follows.
+-- The reader follows the grammar: in a whole file each list goes on as long as its separator follows.
 use Rattle.std.proofs.Common.{ℕ, List, ◌∷◌, Option}
 use Rattle.path_lex.specs.declared.token.Sign.TheVariants as signs
 use Rattle.path_lex.specs.declared.token.Reserved.TheVariants as words

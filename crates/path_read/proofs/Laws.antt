@@ -1,4 +1,4 @@
--- What the tokens of a law are, and that they are one law.
+-- Which tokens are a law, and that they are one law.
 use Rattle.std.proofs.Common.{◌≡◌, ℕ, List, ◌∷◌, refl, sym, ap, ◌∙◌, subst}
 use Rattle.path_lex.specs.declared.token.Reserved.TheVariants as words
 use Rattle.path_lex.specs.Spelling.{Piece, reserved, number}

@@ -67,7 +67,7 @@ same_number a b = let u = unsigned_Decides a.0 b.0 in (λ e. ap (λ (i : ℕ). r
 pub holds_number : (xs : List OpId) (a : OpId) (r : Bool) → IsAnyAnswer (λ b t. (b.0 == a.0) ≡ t) xs r → Decides r (Contains xs a)
 holds_number xs a r h = Decides-contains xs a r (contains_decides (λ x y. x.0 == y.0) same_number xs a r h)
 
--- a name is among those of numbers exactly where its own number is among these
+-- a name is among those of numbers if and only if its own number is among these
 pub named_by : (ns : List (List ℕ)) (n : List ℕ) (a : OpId) (xs : List OpId) → slice_get ns a.0 ≡ Some n → Contains xs a → Contains (map (name_at ns) xs) n
 named_by ns n a xs e c = (c.0, simp length-map c.1, get_or-map (name_at ns) xs c.0 a n c.1 ∙ ap (name_at ns) c.2 ∙ get_or_from_slice_get ns a.0 n [] e)
 

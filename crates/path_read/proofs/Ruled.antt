@@ -1,4 +1,4 @@
--- The parts of a file are allowed exactly where its forms keep the rules.
+-- The parts of a file are allowed if and only if its forms keep the rules.
 use Rattle.std.proofs.Common.{◌≡◌, ℕ, zero, suc, ◌+◌, ◌<◌, ◌≤◌, List, [], ◌∷◌, ◌++◌, length, map, refl, sym, ap, ◌∙◌, subst, append_assoc, arith, Contains, slice_get, Some, option_map, Option, None, Bool, true, false, cond, ◌⊎◌, inl, inr}
 use Rattle.std.specs.List.{AllByRecursion}
 use Rattle.std.specs.Fmt.{decimal}

@@ -1,4 +1,4 @@
--- What each part asks of a draft, and what it makes of it.
+-- What each part needs of a draft, and how it changes it.
 use Rattle.std.specs.Prelude.{◌≡◌, ℕ, ◌+◌, ◌-◌, ◌<◌, if◌then◌else◌, List, [], ◌∷◌, ◌++◌, map, reverse, length}
 use Rattle.std.specs.Prelude.{Option, Some, None, slice_get, Contains}
 use Rattle.std.specs.Str.{bytes_eq}
@@ -48,7 +48,7 @@ resource_names d = map (λ r. r.name) d.resources
 abbrev pub operation_names : List Operation → List (List ℕ)
 operation_names os = map (λ o. o.name) os
 
--- the first place of a name, or the length
+-- the first index of a name, or the length if there is none
 abbrev pub place_of : List ℕ → List (List ℕ) → ℕ
 place_of n [] = 0
 place_of n (m ∷ ms) = if bytes_eq n m then 0 else 1 + place_of n ms
@@ -77,23 +77,23 @@ law_from a_cell = Cell
 law_from a_tally = Tally
 law_from (a_queue ds) = Queue (digits_value 10 ds)
 
--- the resources, of which the last has this law
+-- the resources, the last one with this law
 abbrev pub with_law : Law → List Resource → List Resource
 with_law l [] = []
 with_law l (r ∷ []) = record { name = r.name; law = l } ∷ []
 with_law l (r ∷ s ∷ rs) = r ∷ with_law l (s ∷ rs)
 
--- the bound that braces have
+-- the bound of braces
 abbrev pub bound_of : Option (List ℕ) → Bound
 bound_of None = any
 bound_of (Some ds) = most (digits_value 10 ds)
 
--- the last tree in braces
+-- the trees, the last one in braces
 abbrev pub enclosed : Option (List ℕ) → List Tree → List Tree
 enclosed b [] = []
 enclosed b (t ∷ ts) = burst (bound_of b) t ∷ ts
 
--- the path whose tree is the last
+-- the path with the last tree
 abbrev pub closed : ℕ → List Tree → List Path
 closed r [] = []
 closed r (t ∷ ts) = record { resource = r; tree = t } ∷ []
@@ -111,7 +111,7 @@ after an_opening d = record d { braces = d.braces + 1 }
 after (a_closing b) d = record d { open_trees = enclosed b d.open_trees; braces = d.braces - 1 }
 after an_end d = record d { paths = d.paths ++ closed d.resource d.open_trees; open_trees = []; named = [] }
 
--- a name that stands for an operation of the last resource, and is new in the path, which has room for it
+-- the name of an operation of the last resource, new in the path, which has room for it
 pub record IsUsable (d : Drafted) (n : List ℕ) : Type 0 where
   pub own : slice_get d.operations (number_of d.operations n) ≡ Some (record { name = n; resource = d.resource })
   pub new : Contains d.named n → ⊥
@@ -128,7 +128,7 @@ LawFits a_cell = Unit {0}
 LawFits a_tally = Unit {0}
 LawFits (a_queue ds) = IsUpTo 1024 ds
 
--- what a part asks of the draft
+-- what a part needs of the draft
 abbrev pub Allowed : Saying → Drafted → Type 0
 Allowed (a_resource n) d = (Contains (resource_names d) n → ⊥) × (length d.resources < 64)
 Allowed (a_law l) d = LawFits l
@@ -141,7 +141,7 @@ Allowed an_opening d = d.braces ≡ 0
 Allowed (a_closing b) d = HasOne d.open_trees × BoundFits b
 Allowed an_end d = HasOne d.open_trees
 
--- the same of many parts
+-- the same for many parts
 abbrev pub after_all : List Saying → Drafted → Drafted
 after_all [] d = d
 after_all (p ∷ ps) d = after_all ps (after p d)

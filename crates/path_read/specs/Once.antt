@@ -1,4 +1,4 @@
--- A text declares one thing at most.
+-- A text is the text of at most one declaration.
 use Rattle.std.specs.Prelude.{◌≡◌, ℕ, List}
 use Rattle.path_model.specs.Declarations.{Declaration}
 use Rattle.path_decl.specs.Text.{IsDeclarationText}

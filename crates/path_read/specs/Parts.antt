@@ -1,4 +1,4 @@
--- What forms say, part by part.
+-- The parts of forms.
 use Rattle.std.specs.Prelude.{ℕ, List, [], ◌∷◌, ◌++◌, map, Option, Some, None}
 use Rattle.path_read.specs.declared.part.Part.{Part}
 use Rattle.path_read.specs.declared.part.Part.TheVariants as parts
@@ -6,7 +6,7 @@ use Rattle.path_read.specs.declared.part.LawText.{LawText}
 use Rattle.path_read.specs.declared.part.LawText.TheVariants as laws
 use Rattle.path_decl.specs.Forms.{Form, once, sequence, selection, braced, LawForm, a_cell, a_tally, a_queue, ResourceForm}
 
--- a part without where its bytes lie in memory
+-- a part, apart from where its bytes are in memory
 pub data Saying : Type 0 where
   a_resource : List ℕ → Saying
   a_law : LawForm → Saying
@@ -19,7 +19,7 @@ pub data Saying : Type 0 where
   a_closing : Option (List ℕ) → Saying
   an_end : Saying
 
--- a law without where its digits lie in memory
+-- a law, apart from where its digits are in memory
 abbrev pub law_said : LawText → LawForm
 law_said laws.Cell = a_cell
 law_said laws.Tally = a_tally
@@ -38,7 +38,7 @@ saying parts.Closing = a_closing None
 saying (parts.Bound n) = a_closing (Some n.now)
 saying parts.End = an_end
 
--- operands, and then their operator; braces before and after what they hold
+-- operands before their operator; braces before and after their content
 abbrev pub form_parts : Form → List Saying
 form_parts (once n) = a_name n ∷ []
 form_parts (sequence s t) = form_parts s ++ (form_parts t ++ a_sequence ∷ [])

@@ -17,7 +17,7 @@ told ts = pieces (views ts)
 abbrev pub Begins : Piece → List Piece → Type 0
 Begins p ts = (rest : List Piece) × (ts ≡ p ∷ rest)
 
--- a fault other than memory says this, and is none of cutting
+-- an error but OutOfMemory means P, and isn't an error of cutting
 abbrev pub Fails : DeclFault → Type 0 → Type 0
 Fails faults.OutOfMemory P = Unit {0}
 Fails faults.TooLong P = ⊥

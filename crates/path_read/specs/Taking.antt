@@ -1,4 +1,4 @@
--- What was made of the parts so far.
+-- The state after the parts so far.
 use Rattle.std.specs.Prelude.{◌≡◌, List, Option, Some, None}
 use Rattle.path_lex.specs.declared.fault.DeclFault.{DeclFault}
 use Rattle.path_read.specs.declared.intake.Intake.{Intake}
@@ -6,7 +6,7 @@ use Rattle.path_read.specs.Parts.{Saying}
 use Rattle.path_read.specs.Reading.{Fails}
 use Rattle.path_read.specs.Building.{Drafted, drafted, AllAllowed, after_all}
 
--- a draft of parts that all were allowed, or the fault of the first that was not
+-- a draft of parts that all were allowed, or the fault of the first that wasn't
 pub data Taking : Type 0 where
   sound : Drafted → Taking
   broken : DeclFault → Taking
@@ -25,6 +25,6 @@ Follows ps (sound d) (broken e) = Fails e (AllAllowed ps d → ⊥)
 Follows ps (broken e) (sound d) = ⊥
 Follows ps (broken e) (broken f) = e ≡ f
 
--- some such item was read, and its parts were taken
+-- some item of which R holds was read, and its parts were taken
 abbrev pub Adds : {X : Type 0} → (X → List Saying) → (X → Type 0) → Taking → Taking → Type 0
 Adds {X} says R old new = (x : X) × R x × Follows (says x) old new

@@ -10,7 +10,7 @@ ghost use Rattle.path_read.specs.Reading.{told, Begins, Fails};
 use crate::part::LawText;
 use path_lex::{DeclFault, Reserved, Sign, Token};
 
-/// Where the next token stands, or the text ends.
+/// The offset of the next token, or the end of the text if there is none.
 pub(crate) fn place(tokens: &[Token<'_>], end: u32) -> u32 {
     match tokens.first() {
         Some(token) => token.at(),
@@ -18,7 +18,7 @@ pub(crate) fn place(tokens: &[Token<'_>], end: u32) -> u32 {
     }
 }
 
-/// The place of this sign and the tokens after it, if it comes first.
+/// If this sign comes first: its offset and the tokens after it.
 pub(crate) fn after_sign<'t, 'a>(
     tokens: &'t [Token<'a>],
     wanted: Sign,
@@ -38,7 +38,7 @@ pub(crate) fn after_sign<'t, 'a>(
     }
 }
 
-/// The place of this word and the tokens after it, if it comes first.
+/// If this word comes first: its offset and the tokens after it.
 pub(crate) fn after_word<'t, 'a>(
     tokens: &'t [Token<'a>],
     wanted: Reserved,
@@ -58,7 +58,7 @@ pub(crate) fn after_word<'t, 'a>(
     }
 }
 
-/// The name that comes first, its place and the tokens after it.
+/// If a name comes first: the name, its offset and the tokens after it.
 pub(crate) fn split_name<'t, 'a>(tokens: &'t [Token<'a>]) -> Option<(&'a str, u32, &'t [Token<'a>])>
     ensures some { IfSome result (λ p. told tokens.now ≡ a_name p.0.now ∷ told p.2.now) }
     ensures shorter { IfSome result (λ p. length p.2.now < length tokens.now) }
@@ -71,7 +71,7 @@ pub(crate) fn split_name<'t, 'a>(tokens: &'t [Token<'a>]) -> Option<(&'a str, u3
     Some((*name, *at, rest))
 }
 
-/// The digits of the number that comes first, their place and the tokens after them.
+/// If a number comes first: its digits, their offset and the tokens after them.
 fn split_number<'t, 'a>(tokens: &'t [Token<'a>]) -> Option<(&'a [u8], u32, &'t [Token<'a>])>
     ensures some { IfSome result (λ p. told tokens.now ≡ a_number p.0.now ∷ told p.2.now) }
     ensures shorter { IfSome result (λ p. length p.2.now < length tokens.now) }
@@ -84,7 +84,7 @@ fn split_number<'t, 'a>(tokens: &'t [Token<'a>]) -> Option<(&'a [u8], u32, &'t [
     Some((*digits, *at, rest))
 }
 
-/// The tokens after this word, which has to come first.
+/// The tokens after this word, which must come first; else `Unexpected`.
 pub(crate) fn expect_word<'t, 'a>(
     tokens: &'t [Token<'a>],
     wanted: Reserved,
@@ -100,7 +100,7 @@ pub(crate) fn expect_word<'t, 'a>(
     }
 }
 
-/// The name that has to come first, its place and the tokens after it.
+/// The name that must come first, its offset and the tokens after it; else `Unexpected`.
 pub(crate) fn expect_name<'t, 'a>(
     tokens: &'t [Token<'a>],
     end: u32,
@@ -115,7 +115,7 @@ pub(crate) fn expect_name<'t, 'a>(
     }
 }
 
-/// The digits of the number that has to come first, their place and the tokens after them.
+/// The digits of the number that must come first, their offset and the tokens after them; else `Unexpected`.
 pub(crate) fn expect_number<'t, 'a>(
     tokens: &'t [Token<'a>],
     end: u32,
@@ -130,7 +130,7 @@ pub(crate) fn expect_number<'t, 'a>(
     }
 }
 
-/// The law that has to come first, its place and the tokens after it. The place of a queue is that of its capacity.
+/// The law that must come first, its offset and the tokens after it; else `Unexpected`. The offset of a queue is that of its capacity.
 pub(crate) fn expect_law<'t, 'a>(
     tokens: &'t [Token<'a>],
     end: u32,

@@ -1,4 +1,4 @@
-//! Declarations on the way.
+//! Declarations under construction.
 
 ghost use Rattle.std.specs.Prelude.{◌≡◌, ◌<◌, ◌≤◌, ◌∷◌, ◌↔◌, All, length, Contains, Some, None, IsTrue, IfOk, OnOk, IfErr};
 ghost use Rattle.path_model.specs.Trees.{shape};
@@ -33,13 +33,13 @@ const MOST_NAMES: usize = 64;
 /// The largest bound of braces.
 const MOST_AT_ONCE: u32 = 65_535;
 
-/// What was declared so far, and what was read so far of a path.
+/// What has been declared so far, and what has been read so far of the current path.
 #[derive(Drop)]
 pub(crate) struct Draft<A: Allocator + Copy> {
     pub(crate) resources: Names<Law, A>,
     pub(crate) operations: Names<ResId, A>,
     pub(crate) paths: Vec<PathEntry<A>, A>,
-    /// The last resource, to which operations and paths belong.
+    /// The last resource. The next operations and paths belong to it.
     pub(crate) resource: ResId,
     /// The trees of the path that no operator has joined yet.
     pub(crate) open_trees: Vec<Expr<A>, A>,
@@ -47,11 +47,11 @@ pub(crate) struct Draft<A: Allocator + Copy> {
     pub(crate) named: Vec<OpId, A>,
     /// Whether braces of the path are open.
     pub(crate) in_braces: bool,
-    // Few enough for numbers of operations.
+    // Few enough that their numbers fit.
     ghost few: { length operations.entries ≤ 256 },
     // No two operations have one name.
     ghost distinct: { IsDistinct (names_of operations.entries) } by { IsDistinct-prop _ },
-    // What the path names was declared.
+    // Each operation that the path names was declared.
     ghost known: { All (λ a. a.0 < length operations.entries) named.items },
 }
 
@@ -65,7 +65,7 @@ fn has_name<V, A: Allocator + Copy>(names: &Names<V, A>, name: &str) -> bool
 impl<A: Allocator + Copy> Draft<A> {
     ghost use Rattle.path_read.specs.Building.{drafted, nothing, HasOne, Allowed, after};
 
-    /// Nothing is declared.
+    /// A draft in which nothing is declared.
     pub(crate) fn new(alloc: A) -> Draft<A>
         ensures { drafted result ≡ nothing }
     {
@@ -80,7 +80,7 @@ impl<A: Allocator + Copy> Draft<A> {
         }
     }
 
-    /// A resource has this name. It is a cell until its law comes.
+    /// Adds a resource of this name. It is a cell until its law comes.
     fn resource(&mut self, alloc: A, name: &str, at: u32) -> Result<(), DeclFault>
         ensures ok { OnOk result (Allowed (a_resource name.now) (drafted self.old)
             × (drafted self.new ≡ after (a_resource name.now) (drafted self.old))) }
@@ -98,7 +98,7 @@ impl<A: Allocator + Copy> Draft<A> {
         Ok(())
     }
 
-    /// The last resource has this law.
+    /// Gives the last resource this law.
     fn law(&mut self, text: LawText<'_>, at: u32) -> Result<(), DeclFault>
         ensures ok { OnOk result (Allowed (a_law (law_said text.entry)) (drafted self.old)
             × (drafted self.new ≡ after (a_law (law_said text.entry)) (drafted self.old))) }
@@ -111,7 +111,7 @@ impl<A: Allocator + Copy> Draft<A> {
         Ok(())
     }
 
-    /// The last resource has an operation of this name.
+    /// Adds an operation of this name to the last resource.
     fn operation(&mut self, alloc: A, name: &str, at: u32) -> Result<(), DeclFault>
         ensures ok { OnOk result (Allowed (an_operation name.now) (drafted self.old)
             × (drafted self.new ≡ after (an_operation name.now) (drafted self.old))) }
@@ -128,7 +128,7 @@ impl<A: Allocator + Copy> Draft<A> {
         Ok(())
     }
 
-    /// A path of the last resource begins.
+    /// Begins a path of the last resource.
     fn path(&mut self, at: u32) -> Result<(), DeclFault>
         ensures ok { OnOk result (Allowed a_path (drafted self.old) × (drafted self.new ≡ after a_path (drafted self.old))) }
         ensures err { IfErr result (λ e. Fails e (Allowed a_path (drafted self.old) → ⊥)) }
@@ -139,7 +139,7 @@ impl<A: Allocator + Copy> Draft<A> {
         Ok(())
     }
 
-    /// An operation of the path has this name.
+    /// Adds the operation of this name to the path.
     fn name(&mut self, name: &str, at: u32) -> Result<(), DeclFault>
         ensures ok { OnOk result (Allowed (a_name name.now) (drafted self.old)
             × (drafted self.new ≡ after (a_name name.now) (drafted self.old))) }
@@ -163,7 +163,7 @@ impl<A: Allocator + Copy> Draft<A> {
         Ok(())
     }
 
-    /// Takes the last tree of the path.
+    /// Takes the last tree off the path.
     fn operand(&mut self, alloc: A, at: u32) -> Result<Box<Expr<A>, A>, DeclFault>
         ensures ok { IfOk result (λ tree. drafted self.old
             ≡ record (drafted self.new) { open_trees = shape tree.value ∷ (drafted self.new).open_trees }) }
@@ -176,7 +176,7 @@ impl<A: Allocator + Copy> Draft<A> {
         Ok(operand)
     }
 
-    /// The last two trees of the path, one after the other.
+    /// Joins the last two trees of the path by `;`.
     fn sequence(&mut self, alloc: A, at: u32) -> Result<(), DeclFault>
         ensures ok { OnOk result (Allowed a_sequence (drafted self.old) × (drafted self.new ≡ after a_sequence (drafted self.old))) }
         ensures err { IfErr result (λ e. Fails e (Allowed a_sequence (drafted self.old) → ⊥)) }
@@ -187,7 +187,7 @@ impl<A: Allocator + Copy> Draft<A> {
         Ok(())
     }
 
-    /// One of the last two trees of the path.
+    /// Joins the last two trees of the path by `,`.
     fn selection(&mut self, alloc: A, at: u32) -> Result<(), DeclFault>
         ensures ok { OnOk result (Allowed a_selection (drafted self.old) × (drafted self.new ≡ after a_selection (drafted self.old))) }
         ensures err { IfErr result (λ e. Fails e (Allowed a_selection (drafted self.old) → ⊥)) }
@@ -198,7 +198,7 @@ impl<A: Allocator + Copy> Draft<A> {
         Ok(())
     }
 
-    /// A brace opens.
+    /// Opens a brace.
     fn opening(&mut self, at: u32) -> Result<(), DeclFault>
         ensures ok { OnOk result (Allowed an_opening (drafted self.old) × (drafted self.new ≡ after an_opening (drafted self.old))) }
         ensures err { IfErr result (λ e. Fails e (Allowed an_opening (drafted self.old) → ⊥)) }
@@ -210,7 +210,7 @@ impl<A: Allocator + Copy> Draft<A> {
         Ok(())
     }
 
-    /// Braces with no bound close.
+    /// Closes braces that have no bound.
     fn closing(&mut self, alloc: A, at: u32) -> Result<(), DeclFault>
         ensures ok { OnOk result (Allowed (a_closing None) (drafted self.old)
             × (drafted self.new ≡ after (a_closing None) (drafted self.old))) }
@@ -222,7 +222,7 @@ impl<A: Allocator + Copy> Draft<A> {
         Ok(())
     }
 
-    /// Braces with the bound of these digits close.
+    /// Closes braces whose bound has these digits.
     fn bound(&mut self, alloc: A, digits: &[u8], at: u32) -> Result<(), DeclFault>
         ensures ok { OnOk result (Allowed (a_closing (Some digits.now)) (drafted self.old)
             × (drafted self.new ≡ after (a_closing (Some digits.now)) (drafted self.old))) }
@@ -237,7 +237,7 @@ impl<A: Allocator + Copy> Draft<A> {
         Ok(())
     }
 
-    /// The path ends.
+    /// Ends the path.
     fn end(&mut self, at: u32) -> Result<(), DeclFault>
         ensures ok { OnOk result (Allowed an_end (drafted self.old) × (drafted self.new ≡ after an_end (drafted self.old))) }
         ensures err { IfErr result (λ e. Fails e (Allowed an_end (drafted self.old) → ⊥)) }
@@ -254,7 +254,7 @@ impl<A: Allocator + Copy> Draft<A> {
         Ok(())
     }
 
-    /// Takes the part whose token stands at that place. On an error the draft is of no more use.
+    /// Takes the part whose token is at this offset. After an error the draft is no longer usable.
     pub(crate) fn take(&mut self, alloc: A, part: Part<'_>, at: u32) -> Result<(), DeclFault>
         ensures ok { OnOk result (Allowed (saying part.entry) (drafted self.old)
             × (drafted self.new ≡ after (saying part.entry) (drafted self.old))) }

@@ -14,7 +14,7 @@ use crate::part::Part;
 use path_lex::{DeclFault, Sign, Token};
 use std::alloc::Allocator;
 
-/// Reads what closes braces, with their bound where a colon comes first, and takes its part. Answers the tokens after it.
+/// Reads what closes braces, with the bound if a colon comes first, and takes its part. Returns the tokens after it.
 fn closing<'t, 'a, A: Allocator + Copy>(
     out: &mut Intake<A>,
     tokens: &'t [Token<'a>],
@@ -40,7 +40,7 @@ fn closing<'t, 'a, A: Allocator + Copy>(
     Ok(rest)
 }
 
-/// Reads braces after the one that opens them at `at`, and takes their parts. Answers the tokens after them.
+/// Reads braces after the one that opens them at `at`, and takes their parts. Returns the tokens after them.
 #[cycle(grammar)]
 fn braces<'t, 'a, A: Allocator + Copy>(
     out: &mut Intake<A>,
@@ -62,8 +62,8 @@ fn braces<'t, 'a, A: Allocator + Copy>(
     closing(out, left, end)
 }
 
-/// Reads a name, or a sequence in parentheses or braces, of which at most `depth` may be open, and takes its parts.
-/// Answers the tokens after it.
+/// Reads a name, or a sequence in parentheses or braces, and takes its parts; at most `depth` parentheses and braces may open.
+/// Returns the tokens after it.
 #[cycle(grammar)]
 fn unit<'t, 'a, A: Allocator + Copy>(
     out: &mut Intake<A>,
@@ -96,7 +96,7 @@ fn unit<'t, 'a, A: Allocator + Copy>(
     Ok(rest)
 }
 
-/// Reads units of which one is chosen, and takes their parts.
+/// Reads units with `,` between them, and takes their parts. Returns the tokens after them.
 #[cycle(grammar)]
 fn alt<'t, 'a, A: Allocator + Copy>(
     out: &mut Intake<A>,
@@ -117,7 +117,7 @@ fn alt<'t, 'a, A: Allocator + Copy>(
     Ok(rest)
 }
 
-/// Reads alternatives, one after the other, and takes their parts.
+/// Reads alternatives with `;` between them, and takes their parts. Returns the tokens after them.
 #[cycle(grammar)]
 pub(crate) fn seq<'t, 'a, A: Allocator + Copy>(
     out: &mut Intake<A>,

@@ -1,4 +1,4 @@
-//! Taking the parts of a text.
+//! Takes the parts of a text.
 
 ghost use Rattle.std.specs.Prelude.{◌≡◌, [], ◌∷◌, IfOk, IfErr};
 ghost use Rattle.path_read.specs.Parts.{saying};
@@ -10,17 +10,17 @@ use crate::part::Part;
 use path_lex::DeclFault;
 use std::alloc::Allocator;
 
-/// A declaration on the way, up to the first part that breaks a rule.
+/// A declaration under construction, up to the first part that breaks a rule.
 #[derive(Drop)]
 pub(crate) struct Intake<A: Allocator + Copy> {
     pub(crate) alloc: A,
     pub(crate) draft: Draft<A>,
-    /// What the first part that was not allowed is refused for.
+    /// Why the first part that wasn't allowed was refused.
     pub(crate) fault: Option<DeclFault>,
 }
 
 impl<A: Allocator + Copy> Intake<A> {
-    /// Nothing was taken.
+    /// An intake that has taken nothing.
     pub(crate) fn new(alloc: A) -> Intake<A>
         ensures { taken result ≡ sound nothing }
     {
@@ -31,7 +31,7 @@ impl<A: Allocator + Copy> Intake<A> {
         }
     }
 
-    /// Takes the part whose token stands at that place. Once a part was refused, no other is taken.
+    /// Takes the part whose token is at this offset. After a part was refused, takes no other.
     pub(crate) fn take(&mut self, part: Part<'_>, at: u32)
         ensures { Follows (saying part.entry ∷ []) (taken self.old) (taken self.new) }
     {

@@ -13,8 +13,8 @@ use path_model::Law;
 /// The largest capacity of a queue.
 const MOST_CAPACITY: u32 = 1_024;
 
-/// The law that the text has at that place. It is a `BadCapacity` where the capacity of a queue begins with the digit 0 or is
-/// greater than 1,024.
+/// The law in the text at this offset. Fails with `BadCapacity` if the capacity of a queue begins with the digit 0 or is greater
+/// than 1,024.
 pub(crate) fn law_at(text: LawText<'_>, at: u32) -> Result<Law, DeclFault>
     ensures ok { IfOk result (λ law. LawFits (law_said text.entry) × (law ≡ law_from (law_said text.entry))) }
     ensures err { IfErr result (λ e. Fails e (LawFits (law_said text.entry) → ⊥)) }

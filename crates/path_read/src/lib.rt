@@ -1,7 +1,7 @@
 //! Reads declarations: from bytes to resources, operations and paths.
 //!
-//! [`read`] answers a [`Decl`](path_decl::Decl) exactly where the text, the rules and the limits allow one, and names the
-//! first fault otherwise. What bytes are a declaration is defined in path_decl's `specs/Text.antt`.
+//! [`read`] returns a [`Decl`](path_decl::Decl) if the text, the rules and the limits allow one, and the first fault otherwise; any
+//! error but `OutOfMemory` means that the text isn't a declaration. path_decl's `specs/Text.antt` defines which bytes are one.
 #![tactic(auto)]
 
 mod ahead;

@@ -20,7 +20,7 @@ use std::alloc::Allocator;
 /// How many parentheses and braces may be open at once.
 const DEEPEST: u32 = 32;
 
-/// Reads a path after its first word, and takes its parts. Answers the tokens after it.
+/// Reads a path after its first word, and takes its parts. Returns the tokens after it.
 fn path<'t, 'a, A: Allocator + Copy>(
     out: &mut Intake<A>,
     tokens: &'t [Token<'a>],
@@ -39,7 +39,7 @@ fn path<'t, 'a, A: Allocator + Copy>(
     Ok(rest)
 }
 
-/// Reads the names of operations, with commas between them, and takes their parts. Answers the tokens after them.
+/// Reads the names of operations, with commas between them, and takes their parts. Returns the tokens after them.
 fn operations<'t, 'a, A: Allocator + Copy>(
     out: &mut Intake<A>,
     tokens: &'t [Token<'a>],
@@ -60,7 +60,7 @@ fn operations<'t, 'a, A: Allocator + Copy>(
     Ok(rest)
 }
 
-/// Reads operations and then paths, as many as follow, and takes their parts. Answers the tokens after them.
+/// Reads operations and then paths, as many as follow, and takes their parts. Returns the tokens after them.
 fn body<'t, 'a, A: Allocator + Copy>(
     out: &mut Intake<A>,
     tokens: &'t [Token<'a>],
@@ -80,7 +80,7 @@ fn body<'t, 'a, A: Allocator + Copy>(
     Ok(rest)
 }
 
-/// Reads a law, and takes its part. Answers the tokens after it.
+/// Reads a law, and takes its part. Returns the tokens after it.
 fn law<'t, 'a, A: Allocator + Copy>(
     out: &mut Intake<A>,
     tokens: &'t [Token<'a>],
@@ -96,7 +96,7 @@ fn law<'t, 'a, A: Allocator + Copy>(
     Ok(rest)
 }
 
-/// Reads a resource, and takes its parts. Answers the tokens after it.
+/// Reads a resource, and takes its parts. Returns the tokens after it.
 fn resource<'t, 'a, A: Allocator + Copy>(
     out: &mut Intake<A>,
     tokens: &'t [Token<'a>],
@@ -132,9 +132,9 @@ fn resources<A: Allocator + Copy>(
     Ok(())
 }
 
-/// Reads the tokens of a whole file: the draft of its parts. The text ends at `end`. The first fault is named: the first
-/// token that continues no file, or the first parenthesis or brace that would be the 33rd open one; where there is none of
-/// these, the first part that breaks a rule. Takes time in proportion to the tokens, and memory in proportion to the draft.
+/// Reads the tokens of a whole file and returns the draft of its parts. The text ends at `end`. Fails with the first fault: the first
+/// token that continues no file, or the first parenthesis or brace that would be the 33rd open one; if there is none of these,
+/// the first part that breaks a rule. Takes time in proportion to the tokens, and memory in proportion to the draft.
 pub(crate) fn file<A: Allocator + Copy>(
     alloc: A,
     tokens: &[Token<'_>],
@@ -143,7 +143,7 @@ pub(crate) fn file<A: Allocator + Copy>(
     // The tokens are a file whose parts keep the rules, and the draft is made of these.
     ensures found { IfOk result (λ draft. (rs : List ResourceForm) × IsFile (told tokens.now) rs
         × AllAllowed (file_parts rs) nothing × (drafted draft ≡ after_all (file_parts rs) nothing)) }
-    // A fault other than memory: they are no such file.
+    // Any error but OutOfMemory: they aren't.
     ensures none { IfErr result (λ e.
         Fails e ((rs : List ResourceForm) → IsFile (told tokens.now) rs → AllAllowed (file_parts rs) nothing → ⊥)) }
 {

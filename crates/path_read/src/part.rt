@@ -1,17 +1,17 @@
 //! What a declaration text says, part by part.
 
-/// A law as a text has it.
+/// A law as it is in a text.
 #[derive(Clone, Copy)]
 pub(crate) enum LawText<'a> {
     /// A cell.
     Cell,
     /// A tally.
     Tally,
-    /// A queue with the capacity of these digits.
+    /// A queue; these are the digits of its capacity.
     Queue(&'a [u8]),
 }
 
-/// A part of what a text says. In a path operands come before their operator, and braces before and after what they hold.
+/// A part of a text. In a path, operands come before their operator, and braces before and after their content.
 #[derive(Clone, Copy)]
 pub(crate) enum Part<'a> {
     /// A resource has this name.
@@ -24,15 +24,15 @@ pub(crate) enum Part<'a> {
     Path,
     /// An operation in the path.
     Name(&'a str),
-    /// The last two of the path, one after the other.
+    /// The last two trees of the path are joined by `;`.
     Sequence,
-    /// One of the last two of the path.
+    /// The last two trees of the path are joined by `,`.
     Selection,
     /// A brace opens.
     Opening,
-    /// Braces with no bound close: they hold the last of the path.
+    /// Braces without a bound close around the last tree of the path.
     Closing,
-    /// Braces with the bound of these digits close: they hold the last of the path.
+    /// Braces whose bound has these digits close around the last tree of the path.
     Bound(&'a [u8]),
     /// The path ends.
     End,

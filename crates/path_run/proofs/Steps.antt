@@ -1,4 +1,4 @@
--- A script behind which some steps are.
+-- A script of which some steps have been taken.
 use Rattle.std.proofs.Common.{◌≡◌, ℕ, ◌+◌, ◌≤◌, ◌<◌, List, [], ◌∷◌, ◌++◌, length, drop, get_or, refl, sym, subst, append_assoc, drop-cons, add-one}
 use Rattle.std.proofs.lemmas.List.{at_drop_all}
 use Rattle.path_model.specs.declared.ids.ActId.{ActId}

@@ -95,7 +95,7 @@ pub tries_more : (op : OpId) (g h : List Receipt) → AreTries op g → AreTries
 tries_more op g h tries more steps held rs end run =
     subst (λ (xs : List Receipt). IsRun (Enter op ∷ steps) held xs end) (sym (append_assoc g h rs)) (tries steps held (h ++ rs) end (more steps held rs end run))
 
--- what an attempt is told is what it gains
+-- what an attempt gains, by its reply
 pub gains_then : (old new : List Receipt) (attempt : Attempt) (place : Option ℕ) (q : Reply) → new ≡ receipts_then old attempt place q → ((place ≡ None) ↔ (q ≡ NoRoom))
     → (g : List Receipt) × (new ≡ old ++ g) × Gains attempt q g
 gains_then old new attempt None q is room = ([], is ∙ sym (append-nil old), inl (room.0 refl, refl))

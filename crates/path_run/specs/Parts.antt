@@ -14,17 +14,17 @@ use Rattle.path_run.specs.declared.enter.Tried.{Tried}
 use Rattle.path_run.specs.declared.enter.Tried.TheVariants as tries
 use Rattle.path_run.specs.Runs.{note, Finishes, IsRun}
 
--- what an attempt with this reply gains: a receipt, or nothing for want of room
+-- the receipts that an attempt with this reply gains: one, or none for NoRoom
 abbrev pub Gains : Attempt → Reply → List Receipt → Type 0
 Gains attempt reply gained =
     ((reply ≡ NoRoom) × (gained ≡ [])) ⊎ ((reply ≢ NoRoom) × ((place : ℕ) × (gained ≡ note place attempt reply ∷ [])))
 
--- the step is behind the process, and these receipts are its own
+-- the step is taken, and these receipts are its own
 abbrev pub Adds : Step → List ActId → List ActId → List Receipt → Type 0
 Adds step held then gained =
     (steps : List Step) (rs : List Receipt) (end : End) → IsRun steps then rs end → IsRun (step ∷ steps) held (gained ++ rs) end
 
--- what may follow where a process has ended so: finishes of what was entered, or nothing
+-- what may follow when a process has ended this way: finishes of what was entered, or nothing
 abbrev pub After : End → List ActId → List Receipt → Type 0
 After ends.NoRoom held rs = Finishes held rs
 After (ends.Faulted reply) held rs = Finishes held rs
@@ -37,7 +37,7 @@ abbrev pub Closes : Step → List ActId → End → List Receipt → Type 0
 Closes step held end gained =
     (steps : List Step) (rs : List Receipt) → After end held rs → IsRun (step ∷ steps) held (gained ++ rs) end
 
--- an enter was tried so often and blocked each time
+-- each of these tries to enter was blocked
 abbrev pub AreTries : OpId → List Receipt → Type 0
 AreTries op gained =
     (steps : List Step) (held : List ActId) (rs : List Receipt) (end : End)

@@ -20,33 +20,33 @@ use Rattle.path_run.specs.declared.outcome.End.TheVariants as ends
 abbrev pub note : ℕ → Attempt → Reply → Receipt
 note place attempt reply = record { place = place; attempt = attempt; reply = reply }
 
--- the attempt of a step, where the activation entered last and not yet left is the first of these
+-- the attempt of a step; the first of these activations is the one entered last and not yet left
 pub data Asks : Step → List ActId → Attempt → Type 0 where
   enters : (op : OpId) (entered : List ActId) → Asks (Enter op) entered (Start op)
   uses : (verb : Verb) (act : ActId) (entered : List ActId) → Asks (Use verb) (act ∷ entered) (Apply act verb)
   leaves : (act : ActId) (entered : List ActId) → Asks Leave (act ∷ entered) (Finish act)
 
--- the reply to a step is a fault: it lets the process neither go on nor try again, and it isn't for want of room
+-- the reply to a step is a fault: the process can neither go on nor try again, and it isn't NoRoom
 abbrev pub IsFault : Step → Reply → Type 0
 IsFault (Enter op) reply = (reply ≢ NoRoom) × ((act : ActId) → reply ≢ Started act) × ((path : PathId) → reply ≢ Blocked path)
 IsFault (Use verb) reply = (reply ≢ NoRoom) × ((x : ℕ) → reply ≢ Used x)
 IsFault Leave reply = (reply ≢ NoRoom) × (reply ≢ Finished)
 
--- finishes of what was entered and not left, the last first, and nothing else
+-- only finishes of what was entered and not left, the last first
 abbrev pub Finishes : List ActId → List Receipt → Type 0
 Finishes entered [] = Unit {0}
 Finishes [] (r ∷ rs) = ⊥
 Finishes (act ∷ entered) (r ∷ rs) = (r.attempt ≡ Finish act) × Finishes entered rs
 
--- a process ends so before a step, without a receipt for it
+-- a process with this end stops before a step, without a receipt for it
 abbrev pub gives_up : End → Bool
 gives_up ends.NoRoom = true
 gives_up ends.Stopped = true
 gives_up ends.NoMemory = true
 gives_up end = false
 
--- The receipts of a process that has these steps before it, has entered these activations and not left them, the last one
--- first, and ends so.
+-- the receipts of a process that still has these steps to take, has entered these activations and not left them, the last one
+-- first, and ends this way
 pub data IsRun : List Step → List ActId → List Receipt → End → Type 0 where
   -- all steps were taken, and all that was entered was left
   done : IsRun [] [] [] ends.Done
@@ -77,7 +77,7 @@ pub data IsRun : List Step → List ActId → List Receipt → End → Type 0 wh
       (step : Step) (steps : List Step) (held : List ActId) (place : ℕ) (attempt : Attempt) (reply : Reply) (rs : List Receipt)
       → Asks step held attempt → IsFault step reply → Finishes held rs
       → IsRun (step ∷ steps) held (note place attempt reply ∷ rs) (ends.Faulted reply)
-  -- a step that wasn't taken, for want of room or memory, or because the turnstile refused it
+  -- a step that wasn't taken: no room, no memory, or refused by the turnstile
   gave_up :
       (step : Step) (steps : List Step) (held : List ActId) (rs : List Receipt) (end : End)
       → gives_up end ≡ true → Finishes held rs

@@ -11,14 +11,14 @@ use Rattle.path_run.specs.declared.outcome.End.{End}
 use Rattle.path_run.specs.Runs.{EachRuns}
 use Rattle.path_run.specs.Lines.{IsFirstDisorder}
 
--- the settlement refused these passes, which have no more receipts than there are lines; or it didn't, and the fault is a mismatch at
--- the first place at which they don't agree with the journal
+-- either the passes aren't settled, for this fault, and have no more receipts than there are lines; or they are, and the fault is a
+-- mismatch at the first place at which they don't agree with the journal
 abbrev pub IsUnsettled : ℕ → List Line → List Held → List End → SettleFault → Type 0
 IsUnsettled b lines hs es fault =
     (IsFault b lines hs fault × FewReceipts fault)
     ⊎ ((place : ℕ) × (fault ≡ Mismatch place) × IsSettled b lines hs × IsFirstDisorder lines hs es place)
 
--- and they are passes and ends of processes that ran the plans
+-- and the passes and ends are those of processes that ran the plans
 abbrev pub IsUnsettledRun : List Plan → ℕ → List Line → SettleFault → Type 0
 IsUnsettledRun plans b lines fault =
     (hs : List Held) × (es : List End) × (length hs ≡ length plans) × (length es ≡ length plans) × EachRuns plans hs es

@@ -1,4 +1,4 @@
-//! Enters, which wait where a path blocks them.
+//! Enters, which wait while a path blocks them.
 
 ghost use Rattle.std.specs.Prelude.{◌≡◌, ◌∷◌, ◌++◌, List, MatchResult};
 ghost use Rattle.path_model.specs.declared.ids.ActId.{ActId as Act};
@@ -12,18 +12,18 @@ use path_model::{ActId, Attempt, OpId, Reply};
 use path_workers::{Opening, Pass, Steps};
 use std::sync::Wait;
 
-/// What comes of one try to enter.
+/// The result of one try to enter.
 enum Tried {
     /// It was admitted.
     Entered(ActId),
-    /// It was blocked, and a finish was admitted since.
+    /// It was blocked, and a finish has been admitted since.
     Freed,
     /// The process ends.
     Ended(End),
 }
 
-/// Tries once. Where a path blocks it, it is marked as waiting in the same hold of the lock, and waits for a finish or for the mark
-/// that all wait.
+/// Tries once. If a path blocks it, marks the process as waiting before the lock is released, and then waits for a finish or for the
+/// mark that all wait.
 fn try_once<L: Opening, S: Steps, R: Wait>(
     rt: &R,
     floor: &Floor<L, S>,
@@ -58,7 +58,7 @@ fn try_once<L: Opening, S: Steps, R: Wait>(
     }
 }
 
-/// Tries to enter until it is admitted or ends the process; each further try comes after an admitted finish.
+/// Tries to enter until the start is admitted or the process ends. Each further try comes after an admitted finish.
 pub fn enter<L: Opening, S: Steps, R: Wait>(
     rt: &R,
     floor: &Floor<L, S>,

@@ -6,14 +6,14 @@ ghost use Rattle.path_model.specs.declared.ids.ActId.{ActId as Act};
 use path_model::ActId;
 use std::marker::Model;
 
-/// The most activations that a process has entered at once.
+/// The most activations that a process can have entered at once.
 const MOST: usize = 16;
 
 /// The activations that a process has entered and not left. Contracts see them as a list, the last one first.
 #[derive(Drop)]
 pub struct Entered {
     acts: [ActId; MOST],
-    /// From here on the activations stand.
+    /// The activations are from this index on.
     top: usize,
 }
 
@@ -46,7 +46,7 @@ impl Entered {
         self.acts[self.top] = act;
     }
 
-    /// The one that was entered last, which stays.
+    /// The activation that was entered last. It stays.
     pub fn last(&self) -> ActId
         requires { 0 < length self.now }
         ensures { (rest : List Act) × (self.now ≡ result ∷ rest) }
@@ -54,7 +54,7 @@ impl Entered {
         self.acts[self.top]
     }
 
-    /// Takes out the one that was entered last.
+    /// Removes the activation that was entered last, if there is one.
     pub fn pop(&mut self) -> Option<ActId>
         ensures some { IfSome result (λ act. self.old ≡ act ∷ self.new) }
         ensures none { IfNone result ((self.old ≡ []) × (self.new ≡ [])) }

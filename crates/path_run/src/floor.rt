@@ -10,22 +10,22 @@ use path_model::{Attempt, OutOfMemory, Reply};
 use path_workers::{Hall, Opening, Pass, Steps};
 use std::sync::{Condvar, Mutex, Wait};
 
-/// What lies under the lock: the system, and who waits.
+/// What is under the lock: the system, and how many processes wait.
 #[derive(Drop)]
 pub struct Shift<L: Opening, S: Steps> {
     pub hall: Hall<L, S>,
     /// How many finishes were admitted.
     pub finishes: u64,
-    /// How many processes wait, each since a try after the last admitted finish.
+    /// How many processes wait; each has tried since the last admitted finish.
     waiting: u64,
     /// How many processes haven't ended.
     left: u64,
-    /// Whether each that hasn't ended waits.
+    /// Whether it ever came to this: somebody hadn't ended, and each that hadn't was waiting.
     pub stalled: bool,
 }
 
 impl<L: Opening, S: Steps> Shift<L, S> {
-    /// A shift of so many processes, none of which waits.
+    /// A shift of `processes` processes, none of which waits.
     fn new(hall: Hall<L, S>, processes: u64) -> Shift<L, S>
         ensures hall { result.hall ≡ hall }
         ensures left { (result.left ≡ processes) × (result.waiting ≡ 0) × (result.stalled ≡ false) }
@@ -39,7 +39,7 @@ impl<L: Opening, S: Steps> Shift<L, S> {
         }
     }
 
-    /// One process more waits for a finish.
+    /// One more process waits for a finish.
     pub fn wait_one(&mut self)
         ensures same { (self.new.hall ≡ self.old.hall) × (self.new.finishes ≡ self.old.finishes) × (self.new.left ≡ self.old.left) }
         ensures waiting { self.new.waiting ≡ min 18446744073709551615 (self.old.waiting + 1) }
@@ -49,7 +49,7 @@ impl<L: Opening, S: Steps> Shift<L, S> {
         self.mark();
     }
 
-    /// One process more has ended.
+    /// One more process has ended.
     fn end_one(&mut self)
         ensures same { (self.new.hall ≡ self.old.hall) × (self.new.finishes ≡ self.old.finishes) × (self.new.waiting ≡ self.old.waiting) }
         ensures left { self.new.left ≡ self.old.left - 1 }
@@ -69,7 +69,7 @@ impl<L: Opening, S: Steps> Shift<L, S> {
         self.waiting = 0;
     }
 
-    /// Marks the desk as stalled where somebody hasn't ended and each that hasn't waits.
+    /// Sets `stalled` if somebody hasn't ended and each that hasn't waits.
     fn mark(&mut self)
         ensures same { (self.new.hall ≡ self.old.hall) × (self.new.finishes ≡ self.old.finishes) × (self.new.waiting ≡ self.old.waiting)
             × (self.new.left ≡ self.old.left) }
@@ -80,7 +80,7 @@ impl<L: Opening, S: Steps> Shift<L, S> {
         }
     }
 
-    /// The hall, once all processes have ended.
+    /// The hall, after all processes have ended.
     pub fn into_hall(self) -> Hall<L, S>
         ensures { result ≡ self.hall }
     {
@@ -95,14 +95,14 @@ impl<L: Opening, S: Steps> Shift<L, S> {
     }
 }
 
-/// The lock, and where processes wait for a finish.
+/// The lock, and the condition on which processes wait for a finish.
 pub struct Floor<L: Opening, S: Steps> {
     pub shift: Mutex<Shift<L, S>>,
     pub freed: Condvar,
 }
 
 impl<L: Opening, S: Steps> Floor<L, S> {
-    /// A floor for so many processes.
+    /// A floor for `processes` processes.
     pub fn new(hall: Hall<L, S>, processes: u64) -> Floor<L, S> {
         Floor {
             shift: Mutex::new(Shift::new(hall, processes)),
@@ -110,20 +110,21 @@ impl<L: Opening, S: Steps> Floor<L, S> {
         }
     }
 
-    /// Marks that one process more has ended.
+    /// Notes that one more process has ended, and wakes all that wait.
     pub fn end_one<R: Wait>(&self, rt: &R) {
         self.shift.lock(rt).end_one();
         self.freed.notify_all();
     }
 
-    /// The hall, once all processes have ended.
+    /// The hall, after all processes have ended.
     pub fn into_hall(self) -> Hall<L, S> {
         let Floor { shift, freed: _ } = self;
         shift.into_inner().into_hall()
     }
 }
 
-/// One attempt, while its caller holds the lock. Its receipt is gained, or none for want of room.
+/// Makes one attempt while the caller holds the lock. The pass gains its receipt, or none for `NoRoom`. Fails only if allocation
+/// fails.
 pub fn told<L: Opening, S: Steps>(
     pass: &mut Pass<L>,
     hall: &mut Hall<L, S>,

@@ -1,4 +1,4 @@
-//! Processes that run the steps of a script under one system, each in a thread of its own.
+//! Processes that run the steps of a script on one system, each in a thread of its own.
 #![tactic(auto)]
 
 mod begun;

@@ -1,4 +1,4 @@
-//! What the receipts of a process have to do with the lines of the journal.
+//! Whether the receipts of a process agree with the lines of the journal.
 
 ghost use Rattle.std.specs.Prelude.{◌≡◌, ◌+◌, ◌-◌, true, false, length, IsTrue, IsFalse, IfSome, IfNone};
 ghost use Rattle.path_run.specs.Lines.{HasFinish, HasNoFinish, is_blocked as is_blocked_reply, MayFollow};
@@ -8,7 +8,7 @@ use crate::outcome::End;
 use path_model::{Line, Reply};
 use path_workers::{Receipt, Slip};
 
-/// Whether a line from `low` on and below `high` is of an admitted finish.
+/// Whether a line from `low` on and below `high` is that of an admitted finish.
 fn has_finish(journal: &[Line], low: u64, high: u64) -> bool
     ensures yes { IsTrue result → HasFinish journal.now low high }
     ensures no { IsFalse result → HasNoFinish journal.now low high }
@@ -30,7 +30,7 @@ fn is_blocked(reply: Reply) -> bool
     }
 }
 
-/// Whether a receipt may come next: at a higher place, and if both are blocked then with an admitted finish between them.
+/// Whether a receipt may come next: its place is higher, and if both are blocked, there is an admitted finish between them.
 fn may_follow(journal: &[Line], before: Receipt, next: Receipt) -> bool
     ensures yes { IsTrue result → MayFollow journal.now before next }
     ensures no { IsFalse result → MayFollow journal.now before next → ⊥ }
@@ -57,7 +57,7 @@ fn first_out_of_order(journal: &[Line], receipts: &[Receipt]) -> Option<u64>
     None
 }
 
-/// The place of the last receipt of a stalled process, where a finish came after it.
+/// The place of the last receipt of a stalled process if a finish came after it.
 fn stale_stall(journal: &[Line], receipts: &[Receipt], end: End) -> Option<u64>
     ensures none { IfNone result (IsCurrent journal.now receipts.now end) }
     ensures some { IfSome result (λ place. IsStale journal.now receipts.now end place) }
@@ -86,7 +86,7 @@ fn disorder(journal: &[Line], receipts: &[Receipt], end: End) -> Option<u64>
     stale_stall(journal, receipts, end)
 }
 
-/// The first place, in the first such process, at which the receipts don't agree with the journal.
+/// The first place at which the receipts don't agree with the journal, of the first process that has one.
 pub fn first_disorder(journal: &[Line], slips: &[Slip], ends: &[End]) -> Option<u64>
     requires { length slips.now ≡ length ends.now }
     ensures none { IfNone result (EachIsOrderly journal.now slips.now ends.now) }

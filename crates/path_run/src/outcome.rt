@@ -1,4 +1,4 @@
-//! How processes end, and what a run answers.
+//! How processes end, and the outcome of a run.
 
 use path_model::{OpId, Reply};
 use path_workers::{SettleFault, Slip, Steps};
@@ -8,21 +8,21 @@ use path_workers::{SettleFault, Slip, Steps};
 pub enum End {
     /// It has taken all its steps.
     Done,
-    /// It waited for this operation, as all processes did that hadn't ended. It keeps what it had entered.
+    /// It waited for this operation when all processes that hadn't ended were waiting. It keeps what it had entered.
     Stalled(OpId),
     /// The journal had no room for a step.
     NoRoom,
-    /// A step was answered so.
+    /// A step got this reply.
     Faulted(Reply),
     /// The turnstile refused a step.
     Stopped,
-    /// Memory was wanting for the receipt of a step.
+    /// Allocation failed for the receipt of a step.
     NoMemory,
     /// No thread could be started for it.
     NotStarted,
 }
 
-/// What a run left: the system, and of each process in order what it holds for its lines and how it ended.
+/// The outcome of a run: the system, and for each process in order its receipts and how it ended.
 #[derive(Drop)]
 pub struct Outcome<S: Steps> {
     /// The system, as the processes left it.
@@ -36,8 +36,8 @@ pub struct Outcome<S: Steps> {
 /// Why there is no outcome.
 #[derive(Drop)]
 pub enum RunFault<S: Steps> {
-    /// A growth of memory was refused before any process began. The system is as it was.
+    /// An allocation failed before any process began. The system is as it was.
     OutOfMemory(S),
-    /// The journal isn't what the processes were told, which no process of a run causes.
+    /// The receipts of the processes don't agree with the journal. No run has shown this.
     Unsettled(SettleFault, S),
 }

@@ -17,7 +17,7 @@ use path_script::Step;
 use path_workers::{Opening, Pass, Steps};
 use std::sync::Wait;
 
-/// An attempt that waits for no finish. An admitted finish wakes all that wait.
+/// Makes an attempt without waiting for a finish. If it is an admitted finish, wakes all that wait.
 pub fn attempt<L: Opening, S: Steps, R: Wait>(
     rt: &R,
     floor: &Floor<L, S>,
@@ -61,7 +61,7 @@ fn apply<L: Opening, S: Steps, R: Wait>(
     }
 }
 
-/// Leaves an activation.
+/// Finishes an activation.
 fn leave<L: Opening, S: Steps, R: Wait>(
     rt: &R,
     floor: &Floor<L, S>,
@@ -83,7 +83,7 @@ fn leave<L: Opening, S: Steps, R: Wait>(
     }
 }
 
-/// Takes a step, with what was entered.
+/// Takes a step; a use or a leave is of what was entered last.
 pub fn take<L: Opening, S: Steps, R: Wait>(
     rt: &R,
     floor: &Floor<L, S>,

@@ -2,12 +2,12 @@
 
 ghost use Rattle.std.specs.Prelude.{◌≡◌, true};
 
-/// Asked before each step of each process whether the process may take it.
+/// Decides before each step of each process whether the process may take it.
 ///
-/// Several processes may ask at once, and none of them holds the lock of the run meanwhile.
+/// Several processes may ask at once. None of them holds the lock of the run while it asks.
 pub trait Turnstile: Sync {
-    /// Whether the process of this number may take its step of this number; both count from 0. It is asked once for a step, and not
-    /// again where a blocked enter is tried again. A process that is refused ends.
+    /// Whether the process of this number may take its step of this number; both count from 0. Called once for each step, and not again
+    /// when a blocked enter is tried again. A process that is refused ends.
     fn before(&self, worker: u32, step: u32) -> bool;
 }
 

@@ -1,4 +1,4 @@
-//! What one process does.
+//! The work of one process.
 
 ghost use Rattle.std.specs.Prelude.{◌≡◌, ◌≤◌, [], ◌++◌, List, true, false, length, IsTrue, IsFalse};
 ghost use Rattle.path_model.specs.declared.ids.ActId.{ActId as Act};
@@ -61,7 +61,7 @@ fn finish_all<L: Opening, S: Steps, R: Wait>(
     }
 }
 
-/// Whether a process that ends so first finishes what it had entered.
+/// Whether a process with this end first finishes what it had entered.
 fn gives_up(end: End) -> bool
     ensures yes { IsTrue result → (held : List Act) (rs : List Note) → Finishes held rs → After end held rs }
     ensures no { IsFalse result → (held : List Act) → After end held [] }
@@ -72,7 +72,7 @@ fn gives_up(end: End) -> bool
     }
 }
 
-/// Takes the steps, up to the one that ends the process, and then leaves nothing behind that nobody waits for.
+/// Takes the steps, up to the one that ends the process; then, unless it stalled, finishes what it had entered and not left.
 pub fn work<L: Opening, S: Steps, T: Turnstile, R: Wait>(
     rt: &R,
     floor: &Floor<L, S>,

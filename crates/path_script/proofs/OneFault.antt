@@ -100,7 +100,7 @@ fault_once d text n m c e names f g =
         let here = subst (λ x. Stops d (standing_of g.beginning) x c) end (subst (λ s. Stops d s f.rest c) stand f.stops) in
         (sym f.count ∙ ap length is ∙ g.count, stops_once d (standing_of g.beginning) g.rest c e names here g.stops)
 
--- what is said of a text that isn't too long, but for want of memory
+-- what is said of a text that isn't too long, OutOfMemory aside
 line_said : (d : Declaration) (text : List ℕ) (e : ScriptFault) → length text ≤ 262144 → e ≢ faults.OutOfMemory → IsScriptFault d text e → (n : ℕ) × (c : Cause) × (e ≡ fault_of n c) × IsFaultAt d text n c
 line_said d text faults.TooLong short memory f = absurd (omega (arith, short, f))
 line_said d text (faults.BadLine n) short memory f = (n, causes.Bad, refl, f)

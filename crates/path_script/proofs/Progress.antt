@@ -33,7 +33,7 @@ pub more_read : (text rest after line : List ℕ) (ls : List ScriptLine) (l : Sc
 more_read text rest after line ls l some fit is first left r =
     reads_joined text rest after ls (l ∷ []) r (reads_first rest after l (length line) some fit (subst (λ x. IsFirstLine x rest) is first) (ap length is) left)
 
--- some steps of a process were read, behind so many steps of others
+-- some steps of a process were read, after a number of steps of others
 pub record ReadSteps (d : Declaration) (text : List ℕ) (before : ℕ) (steps : List Step) (entered : ℕ) (rest : List ℕ) : Type 0 where
   pub reads : Reads text (map (step_line d) steps) rest
   pub fits : All (StepFits d) steps
@@ -101,7 +101,7 @@ says_map short long from to (faults.TooDeep n) f g h = g n causes.TooDeep h
 says_map short long from to (faults.TooMany n) f g h = g n causes.TooMany h
 says_map short long from to faults.OutOfMemory f g h = tt
 
--- some processes were read, with so many steps
+-- some processes were read, with their number of steps
 pub record ReadProcesses (d : Declaration) (text : List ℕ) (ps : List Plan) (told : ℕ) (rest : List ℕ) : Type 0 where
   pub script : IsScript d ps
   pub reads : Reads text (script_lines d ps) rest

@@ -1,4 +1,4 @@
--- A text with a fault is the text of no script, and a text is that of one script.
+-- A text with a fault isn't a script, and a text has one script.
 use Rattle.std.proofs.Common.{◌≡◌, ◌≢◌, ℕ, List, [], ◌∷◌, ◌++◌, length, ap, Result, Ok, Err, IfErr, All, map, refl, sym, ◌∙◌, subst, arith}
 use Rattle.std.proofs.lemmas.List.Elements.{All-head, All-tail, All-nil, All-cons, All-append}
 use Rattle.path_model.specs.Declarations.{Declaration}
@@ -57,7 +57,7 @@ pub refused : (d : Declaration) (s t : State) (line : List ℕ) (c : Cause) (l :
 refused d s t line c l fit is h (no_form none) = none l fit (stands d s t l h) is
 refused d s t line c l fit is h (no_rule m fits same breaks) = keeps d s t m c (subst (λ x. Next d s x t) (line_once l m fit fits (sym is ∙ same)) h) breaks
 
--- the lines of a script can be told
+-- the lines of a script fit
 steps_fit : (d : Declaration) (ss : List Step) → Names d → All (StepFits d) ss → All LineFits (map (step_line d) ss)
 steps_fit d [] names h = All-nil LineFits
 steps_fit d (s ∷ ss) names h = All-cons LineFits (step_line d s) (map (step_line d) ss) (step_fits d s names.distinct.each (All-head (StepFits d) s ss h)) (steps_fit d ss names (All-tail (StepFits d) s ss h))
@@ -100,12 +100,12 @@ no_text d text n c names f ps t =
     clash (level e end) = not_whole d f.beginning ps (standing_of f.beginning) f.rest c f.kept t.script (standing_is f.beginning) f.stops e end
     clash (behind l more e some fit first) = some refl
 
--- a text tells one script
+-- a text has one script
 pub one_text : (d : Declaration) (text : List ℕ) (ps qs : List Plan) → Names d → IsScriptText d text ps → IsScriptText d text qs → ps ≡ qs
 one_text d text ps qs names s t =
     script_once d ps qs names s.script.fits t.script.fits (reads_once text (script_lines d ps) (script_lines d qs) (lines_fit d ps names s.script.fits) (lines_fit d qs names t.script.fits) s.spelled t.spelled)
 
--- a refusal but for length or want of memory says that the text is of no script
+-- any error but TooLong and OutOfMemory says that the text isn't a script
 pub none_said : (d : Declaration) (text : List ℕ) (e : ScriptFault) → Names d → IsScriptFault d text e → e ≢ faults.TooLong → e ≢ faults.OutOfMemory → IsNoScriptText d text
 none_said d text faults.TooLong names f long memory = absurd (long refl)
 none_said d text (faults.BadLine n) names f long memory = no_text d text n causes.Bad names f

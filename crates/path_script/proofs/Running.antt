@@ -1,4 +1,4 @@
--- The lines of a script as turns of a machine: where it stands behind some lines is one place, so what follows them keeps every rule.
+-- The lines of a script as turns of a machine: after some lines it is at one place, so what follows them keeps every rule.
 use Rattle.std.proofs.Common.{◌≡◌, ℕ, ◌+◌, ◌-◌, ◌<◌, ◌≤◌, List, [], ◌∷◌, ◌++◌, length, All, Contains, map, refl, sym, ap, ◌∙◌, subst, arith}
 use Rattle.std.proofs.lemmas.List.Elements.{All-head, All-tail}
 use Rattle.std.proofs.lemmas.List.Sums.{sum_by-cons}
@@ -12,7 +12,7 @@ use Rattle.path_script.specs.ScriptLines.{ScriptLine, begins, enters, uses, leav
 use Rattle.path_script.specs.ScriptTexts.{step_line, StepFits, opening_lines, plan_lines, script_lines, PlanFits, IsScript}
 use Rattle.path_script.specs.ScriptFaults.{Standing, between, within, Beginning, whole, part, beginning_lines, standing_of, IsBeginning}
 
--- so many processes have ended, with so many steps in all; inside a process, so many operations are entered
+-- how many processes have ended, with how many steps in all; inside a process, how many operations are entered
 pub data State : Type 0 where
   outside : ℕ → ℕ → State
   inside : ℕ → ℕ → ℕ → State

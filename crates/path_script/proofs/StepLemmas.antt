@@ -1,4 +1,4 @@
--- Steps, one behind another: what they lead to, and how many lines they have.
+-- Steps, one after another: what they lead to, and how many lines they have.
 use Rattle.std.proofs.Common.{◌≡◌, ℕ, ◌+◌, ◌*◌, List, [], ◌∷◌, ◌++◌, length, refl, sym, ap, subst, arith, length-append, map}
 use Rattle.std.proofs.lemmas.List.{length-map}
 use Rattle.std.proofs.lemmas.List.Sums.{sum_by-cons}

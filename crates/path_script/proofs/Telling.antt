@@ -1,4 +1,4 @@
--- What one line tells: a step, or why it can't follow.
+-- What one line is: a step, or why it can't follow.
 use Rattle.std.proofs.Common.{◌≡◌, ℕ, Some, None, length, List, inl, inr, sym, ap, ◌∙◌, refl, subst, arith, All}
 use Rattle.std.specs.Prelude.{slice_get}
 use Rattle.std.proofs.lemmas.List.{length-map}
@@ -38,7 +38,7 @@ enter_told d line name a is found =
       ],
     )
 
--- the line of a step that can be told fits
+-- the line of a step fits
 pub step_fits : (d : Declaration) (s : Step) → All IsName (operation_names d) → StepFits d s → LineFits (step_line d s)
 step_fits d (Enter a) names lt = All-contains IsName (operation_names d) (operation_text d a) names (named d a lt).1
 step_fits d (Apply v) names fit = fit

@@ -16,7 +16,7 @@ Leads-prop : (n : ℕ) (steps : List Step) (m : ℕ) → IsProp (Leads n steps m
 Leads-prop n [] m = Coded-set coded_ℕ _ _
 Leads-prop n (s ∷ rest) m = ×_prop (MayStep-prop n s) (Leads-prop (entered_after n s) rest m)
 
--- that a script is lawful is shown in one way at most
+-- there is at most one proof that a script is lawful
 pub LawfulScript-prop : (ps : List Plan) → IsProp (LawfulScript ps)
 LawfulScript-prop ps x y i = record {
   balanced = λ k p lt. Leads-prop 0 (slice_index_or ps k p).steps 0 (x.balanced k p lt) (y.balanced k p lt) i;

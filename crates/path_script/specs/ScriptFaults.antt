@@ -1,4 +1,4 @@
--- Where a text is at fault, and why: the first line that can't follow the lines before it in any script.
+-- Faults of a text: the first line that can't follow the lines before it in any script, and why.
 use Rattle.std.specs.Prelude.{◌≡◌, ◌≢◌, ℕ, ◌+◌, ◌<◌, ◌≤◌, List, [], ◌++◌, map, length, All, Contains}
 use Rattle.path_model.specs.declared.ids.OpId.{OpId}
 use Rattle.path_model.specs.declared.journal.Verb.{Verb}
@@ -17,12 +17,12 @@ use Rattle.path_script.specs.ScriptTexts.{step_line, StepFits, opening_lines, sc
 
 -- what decides which lines can follow
 pub data Standing : Type 0 where
-  -- so many processes were told, and all have ended
+  -- this number of processes has come, and all have ended
   between : ℕ → Standing
-  -- a process hasn't ended; so many steps were told in all, and so many operations are entered
+  -- a process hasn't ended; in all this number of steps has come, and this number of operations is entered
   within : ℕ → ℕ → Standing
 
--- a line of a form that may stand here
+-- a line of a form that can come here
 abbrev pub MayStand : Standing → ScriptLine → Type 0
 MayStand (between m) (begins name) = Unit {0}
 MayStand (between m) (enters name) = ⊥
@@ -35,33 +35,33 @@ MayStand (within k n) (uses v) = Unit {0}
 MayStand (within k n) leaves = Unit {0}
 MayStand (within k n) ends = Unit {0}
 
--- the step can't be taken behind k steps of all processes, where n operations are entered
+-- the step can't be taken after k steps of all processes, when n operations are entered
 pub data Bars : ℕ → ℕ → Step → Cause → Type 0 where
-  -- nothing is entered that could be used, or left
+  -- nothing is entered that could be used or left
   uses_nothing : {k n : ℕ} {v : Verb} → n ≡ 0 → Bars k n (Apply v) causes.Unbalanced
   leaves_nothing : {k n : ℕ} → n ≡ 0 → Bars k n Leave causes.Unbalanced
-  -- 16 are entered
+  -- 16 operations are entered
   enters_deep : {k n : ℕ} {a : OpId} → 16 ≤ n → Bars k n (Enter a) causes.TooDeep
   -- it would be the 4,097th step
   many_steps : {k n : ℕ} {s : Step} → MayStep n s → 4096 ≤ k → Bars k n s causes.TooMany
 
 -- a line breaks a rule, and no rule that counts before it
 pub data Breaks (d : Declaration) : Standing → ScriptLine → Cause → Type 0 where
-  -- what is entered isn't declared
+  -- it enters what isn't declared
   unknown : {k n : ℕ} {name : List ℕ} → (Contains (operation_names d) name → ⊥) → Breaks d (within k n) (enters name) causes.Undeclared
   -- the step can't be taken
   barred : {k n : ℕ} {l : ScriptLine} {c : Cause} (s : Step) → StepFits d s → l ≡ step_line d s → Bars k n s c → Breaks d (within k n) l c
-  -- something wasn't left
+  -- something hasn't been left
   ends_inside : {k n : ℕ} → 0 < n → Breaks d (within k n) ends causes.Unbalanced
   -- it would be the 17th process
   many_processes : {m : ℕ} {name : List ℕ} → 16 ≤ m → Breaks d (between m) (begins name) causes.TooMany
 
 -- this line can't follow, for this cause
 pub data Refuses (d : Declaration) : Standing → List ℕ → Cause → Type 0 where
-  -- it has none of the forms that may stand here
+  -- it has none of the forms that can come here
   no_form : {s : Standing} {line : List ℕ} → ((l : ScriptLine) → LineFits l → MayStand s l → line ≢ line_text l)
       → Refuses d s line causes.Bad
-  -- it has one, and breaks a rule
+  -- it has a form, and breaks a rule
   no_rule : {s : Standing} {line : List ℕ} {c : Cause} (l : ScriptLine) → LineFits l → line ≡ line_text l → Breaks d s l c
       → Refuses d s line c
 
@@ -77,7 +77,7 @@ pub data Stops (d : Declaration) : Standing → List ℕ → Cause → Type 0 wh
 pub data Beginning : Type 0 where
   -- these processes
   whole : List Plan → Beginning
-  -- these processes, and then one that hasn't ended, with so many operations entered
+  -- these processes, and then one that hasn't ended, with this number of operations entered
   part : List Plan → Plan → ℕ → Beginning
 
 abbrev pub beginning_lines : Declaration → Beginning → List ScriptLine
@@ -88,7 +88,7 @@ abbrev pub standing_of : Beginning → Standing
 standing_of (whole ps) = between (length ps)
 standing_of (part ps p n) = within (steps_in ps + length p.steps) n
 
--- a process that hasn't ended, behind others
+-- a process that hasn't ended, after others
 pub record IsPart (d : Declaration) (ps : List Plan) (p : Plan) (n : ℕ) : Type 0 where
   pub script : IsScript d ps
   pub fits : PlanFits d p
@@ -110,7 +110,7 @@ pub record IsFaultAt (d : Declaration) (text : List ℕ) (n : ℕ) (c : Cause) :
   pub count : length (beginning_lines d beginning) ≡ n
   pub stops : Stops d (standing_of beginning) rest c
 
--- behind the line that begins a process, with so many lines and steps before its steps, line n is the first that can't follow
+-- after the line that begins a process, with `lines` lines and `steps` steps before its own, line n is the first that can't follow
 pub record IsStepFault (d : Declaration) (text : List ℕ) (lines steps : ℕ) (n : ℕ) (c : Cause) : Type 0 where
   pub taken : List Step
   pub entered : ℕ
@@ -130,7 +130,7 @@ fault_of n causes.Unbalanced = faults.Unbalanced n
 fault_of n causes.TooDeep = faults.TooDeep n
 fault_of n causes.TooMany = faults.TooMany n
 
--- what a fault says: a fact of its own for a text that is too long, else one of a line and a cause
+-- what a fault means: one fact if the text is too long, else a fact about a line and a cause
 abbrev pub Says : Type 0 → (ℕ → Cause → Type 0) → ScriptFault → Type 0
 Says long at faults.TooLong = long
 Says long at (faults.BadLine n) = at n causes.Bad
@@ -140,6 +140,6 @@ Says long at (faults.TooDeep n) = at n causes.TooDeep
 Says long at (faults.TooMany n) = at n causes.TooMany
 Says long at faults.OutOfMemory = Unit {0}
 
--- a text is refused so: it is too long, or its first faulty line is at fault so
+-- the fault of a text: it is too long, or its first faulty line has this fault
 abbrev pub IsScriptFault : Declaration → List ℕ → ScriptFault → Type 0
 IsScriptFault d text e = Says (262144 < length text) (IsFaultAt d text) e

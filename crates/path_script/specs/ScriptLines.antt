@@ -7,7 +7,7 @@ use Rattle.path_lines.specs.LineTexts.{verb_text, VerbFits}
 use Rattle.path_script.specs.declared.line.Form.{Form}
 use Rattle.path_script.specs.declared.line.Form.TheVariants.{Process, Enter, Use, Leave, End}
 
--- what a line of a script says
+-- a line of a script
 pub data ScriptLine : Type 0 where
   -- a process of this name begins
   begins : List ℕ → ScriptLine
@@ -27,7 +27,7 @@ line_text (uses v) = codes "use " ++ verb_text v
 line_text leaves = codes "leave"
 line_text ends = codes "end"
 
--- a name is a name, declared or not, and a number has at most 64 bits
+-- a name is well formed, declared or not, and a number has at most 64 bits
 abbrev pub LineFits : ScriptLine → Type 0
 LineFits (begins name) = IsName name
 LineFits (enters name) = IsName name
@@ -43,10 +43,10 @@ line_of (Use v) = uses v
 line_of Leave = leaves
 line_of End = ends
 
--- the lines in order, a line feed behind each
+-- the lines in order, a line feed after each
 abbrev pub lines_text : List ScriptLine → List ℕ
 lines_text ls = flat_map (λ l. line_text l ++ 10 ∷ []) ls
 
--- the text begins with these lines and goes on with the rest; where nothing follows, the last line feed may be missing
+-- the text begins with these lines and goes on with the rest; if nothing follows, the last line feed may be missing
 abbrev pub Reads : List ℕ → List ScriptLine → List ℕ → Type 0
 Reads text ls rest = (text ≡ lines_text ls ++ rest) ⊎ ((rest ≡ []) × (text ++ 10 ∷ [] ≡ lines_text ls))

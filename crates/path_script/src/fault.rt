@@ -1,4 +1,4 @@
-//! Why a text is no script.
+//! Why a text isn't a script.
 
 ghost use Rattle.std.specs.Prelude.{◌≡◌};
 ghost use Rattle.path_script.specs.declared.fault.ScriptFault.TheVariants.{OutOfMemory};
@@ -7,29 +7,29 @@ ghost use Rattle.path_script.specs.ScriptFaults.{fault_of};
 use std::alloc::{AllocError, AllocFailed};
 use thiserror::Error;
 
-/// Why a text is no script. Lines count from 0. Where several faults stand in one line, the first of this list counts.
+/// Why a text isn't a script. Lines count from 0. If a line has several faults, the first of this list counts.
 #[derive(Clone, Copy, Debug, PartialEq, Eq, Error)]
 pub enum ScriptFault {
     /// It has more than 262,144 bytes.
     #[error("too long")]
     TooLong,
-    /// The first faulty line has none of the forms, or one that can't stand there. Where the text ends inside a process, the number is
+    /// The first faulty line has none of the forms, or one that can't come there. If the text ends inside a process, the number is
     /// that of all lines.
     #[error("bad line {0}")]
     BadLine(u32),
-    /// The first faulty line enters a name that is no operation's.
+    /// The first faulty line enters a name that isn't a declared operation.
     #[error("undeclared in line {0}")]
     Undeclared(u32),
-    /// The first faulty line uses or leaves where nothing is entered, or ends a process that hasn't left all.
+    /// The first faulty line uses or leaves when nothing is entered, or ends a process that hasn't left everything.
     #[error("unbalanced in line {0}")]
     Unbalanced(u32),
-    /// The first faulty line would be the 17th entered at once.
+    /// The first faulty line would enter a 17th operation at once.
     #[error("too deep in line {0}")]
     TooDeep(u32),
-    /// The first faulty line would be the 17th process, or the 4,097th step of all.
+    /// The first faulty line would be the 17th process, or the 4,097th step of all processes.
     #[error("too many in line {0}")]
     TooMany(u32),
-    /// A growth of memory was refused.
+    /// An allocation failed.
     #[error("out of memory")]
     OutOfMemory,
 }
@@ -37,15 +37,15 @@ pub enum ScriptFault {
 /// Why a line can't follow the lines before it.
 #[derive(Clone, Copy, Debug, PartialEq, Eq)]
 pub enum Cause {
-    /// It has no form that may stand there.
+    /// It has no form that can come there.
     Bad,
-    /// It enters a name that is no operation's.
+    /// It enters a name that isn't a declared operation.
     Undeclared,
-    /// It uses or leaves nothing, or ends inside something.
+    /// It uses or leaves when nothing is entered, or ends when something is.
     Unbalanced,
-    /// It enters where 16 are entered.
+    /// It enters when 16 operations are entered.
     TooDeep,
-    /// There are 16 processes, or 4,096 steps.
+    /// There are 16 processes, or 4,096 steps, already.
     TooMany,
 }
 
@@ -65,7 +65,7 @@ impl<T: Drop> From<AllocFailed<T>> for ScriptFault {
     }
 }
 
-/// The fault of a line.
+/// The fault of a text whose first faulty line is this one.
 pub fn fault_at(line: u32, cause: Cause) -> ScriptFault
     ensures { result ≡ fault_of line cause }
 {

@@ -1,4 +1,4 @@
-//! Scripts: what processes do one step after another, and the texts that say so.
+//! Scripts: the steps of processes, and the texts of scripts.
 #![tactic(auto)]
 
 mod fault;

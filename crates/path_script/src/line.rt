@@ -9,7 +9,7 @@ use path_lex::is_name;
 use path_lines::read_verb;
 use path_model::Verb;
 
-/// What a line says.
+/// A line of a script.
 #[derive(Clone, Copy, Debug)]
 pub enum Form<'a> {
     /// A process of this name begins.
@@ -24,7 +24,7 @@ pub enum Form<'a> {
     End,
 }
 
-/// What a line says, where it has one of the forms. A name is looked up nowhere.
+/// The form of a line, if it has one. Names aren't looked up.
 pub fn read_form(line: &[u8]) -> Option<Form<'_>>
     requires { HasNone 10 line.now }
     ensures some { IfSome result (λ f. (line.now ≡ line_text (line_of f)) × LineFits (line_of f)) }

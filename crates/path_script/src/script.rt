@@ -1,4 +1,4 @@
-//! Scripts, and what they answer.
+//! Scripts, their processes and steps.
 
 ghost use Rattle.path_script.specs.Scripts.{LawfulScript};
 ghost use Rattle.path_script.specs.Known.{LawfulScript-prop};
@@ -7,7 +7,7 @@ use path_model::{OpId, Verb};
 use std::alloc::{Allocator, Global};
 use std::marker::Model;
 
-/// What a process does next.
+/// One step of a process.
 #[derive(Clone, Copy, Debug, PartialEq, Eq)]
 pub enum Step {
     /// It enters an operation.
@@ -18,7 +18,7 @@ pub enum Step {
     Leave,
 }
 
-/// A process: a name, which others may have too, and what it does in order. Contracts see its `name` and `steps`.
+/// A process: a name, which others may have too, and its steps in order. Contracts see its `name` and `steps`.
 #[derive(Drop)]
 pub struct Process<A: Allocator + Copy = Global> {
     pub(crate) name: String<A>,
@@ -40,14 +40,14 @@ impl<A: Allocator + Copy> Model for Process<A> {
 impl<A: Allocator + Copy> Process<A> {
     ghost use Rattle.std.specs.Prelude.{◌≡◌};
 
-    /// Its name. Takes the same time for any process, as all readers here do.
+    /// The process's name. Takes constant time, as do all methods of this module.
     pub fn name(&self) -> &str
         ensures { result.now ≡ self.now.name }
     {
         self.name.as_str()
     }
 
-    /// What it does, in order.
+    /// The process's steps, in order.
     pub fn steps(&self) -> &[Step]
         ensures { result.now ≡ self.now.steps }
     {
@@ -55,9 +55,9 @@ impl<A: Allocator + Copy> Process<A> {
     }
 }
 
-/// A script: at most 16 processes, with at most 4,096 steps in all. Each uses and leaves only what it has entered, enters at most 16
-/// operations at once, and in the end has left all. Contracts see the processes in order, and beside them what always holds of
-/// them, `lawful`.
+/// A script: at most 16 processes, with at most 4,096 steps in all. Each process uses and leaves only what it has entered, enters at
+/// most 16 operations at once, and at the end has left all. Contracts see the processes in order, and what always holds of them as
+/// `lawful`.
 #[derive(Drop)]
 pub struct Script<A: Allocator + Copy = Global> {
     pub(crate) processes: Vec<Process<A>, A>,
@@ -77,7 +77,7 @@ impl<A: Allocator + Copy> Model for Script<A> {
 impl<A: Allocator + Copy> Script<A> {
     ghost use Rattle.std.specs.Prelude.{◌≡◌};
 
-    /// The processes, in the order of the text: the place of each is its number.
+    /// The processes, in the order of the text; the index of each is its number.
     pub fn processes(&self) -> &[Process<A>]
         ensures { result.now ≡ self.now.processes }
     {

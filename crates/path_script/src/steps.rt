@@ -21,7 +21,7 @@ const MOST_ENTERED: u32 = 16;
 /// The most steps of all processes.
 const MOST_STEPS: u32 = 4_096;
 
-/// Whether a step can be taken where so many steps were told, and so many operations are entered.
+/// Whether a step can be taken after `steps` steps of all processes, when `entered` operations are entered.
 fn check(step: Step, steps: u32, entered: u32) -> Result<(), Cause>
     ensures ok { OnOk result (MayStep entered step × (steps < 4096)) }
     ensures err { IfErr result (λ cause. Bars steps entered step cause) }
@@ -44,7 +44,7 @@ fn check(step: Step, steps: u32, entered: u32) -> Result<(), Cause>
     Ok(())
 }
 
-/// What a line tells inside a process, behind so many steps and where so many operations are entered: a step, or nothing where the
+/// A line inside a process, after `steps` steps of all processes and with `entered` operations entered: a step, or `None` if the
 /// process ends.
 fn read_step<A: Allocator + Copy>(
     decl: &Decl<A>,
@@ -88,8 +88,8 @@ fn after_step(entered: u32, step: Step) -> u32
     }
 }
 
-/// The steps of a process, up to its line `end`, and the text behind that line. The text begins behind the line `process`; before it
-/// stand so many lines, and so many steps of other processes.
+/// The steps of a process, up to its line `end`, and the text after that line. The text begins after the line `process`; `lines`
+/// lines precede it, and `before` steps of other processes.
 pub fn read_steps<'a, A: Allocator + Copy, B: Allocator + Copy>(
     alloc: B,
     decl: &Decl<A>,

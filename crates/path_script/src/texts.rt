@@ -26,7 +26,7 @@ pub const LIMIT: usize = 262_144;
 /// The most processes of a script.
 const MOST_PROCESSES: u32 = 16;
 
-/// The name of the process that a line begins, behind so many processes.
+/// The name of the process that a line begins, after `processes` processes.
 fn read_begin(line: &[u8], processes: u32) -> Result<&[u8], Cause>
     requires { HasNone 10 line.now }
     ensures ok { IfOk result (λ name. (line.now ≡ line_text (begins name.now)) × IsName name.now × (processes < 16)) }
@@ -45,7 +45,7 @@ fn read_begin(line: &[u8], processes: u32) -> Result<&[u8], Cause>
     Ok(name)
 }
 
-/// A name as a text of its own.
+/// A copy of a name.
 fn own_name<A: Allocator + Copy>(alloc: A, name: &[u8]) -> Result<String<A>, AllocError>
     requires { IsName name.now }
     ensures { IfOk result (λ text. string_bytes text ≡ name.now) }
@@ -54,13 +54,13 @@ fn own_name<A: Allocator + Copy>(alloc: A, name: &[u8]) -> Result<String<A>, All
     String::from_str(alloc, name)
 }
 
-/// The script of a text, over the operations of the declaration. Each process is a line `process NAME`, its steps, one a line, and
-/// a line `end`; a step is `enter NAME`, `use put X`, `use take`, `use look`, `use add X` or `leave`. The line feed after the last
+/// Reads the script of a text, over the operations of the declaration. Each process is a line `process NAME`, its steps, one a line,
+/// and a line `end`; a step is `enter NAME`, `use put X`, `use take`, `use look`, `use add X` or `leave`. The line feed after the last
 /// line may be missing, and an empty text has no processes.
 ///
-/// `TooLong` exactly where the text has more than [`LIMIT`] bytes; else another fault names the first line that can't follow the
-/// lines before it, counted from 0, and why: the first of `BadLine`, `Undeclared`, `Unbalanced`, `TooDeep` and `TooMany` that
-/// applies to it. `OutOfMemory` where a growth of memory is refused.
+/// Fails with `TooLong` exactly when the text has more than [`LIMIT`] bytes; else with the number of the first line that can't follow
+/// the lines before it, counted from 0, and the reason: the first of `BadLine`, `Undeclared`, `Unbalanced`, `TooDeep` and `TooMany`
+/// that applies to it. Fails with `OutOfMemory` if allocation fails.
 ///
 /// One pass over the text, with a look-up of each name that is entered; memory for each name and each step.
 pub fn read_script<A: Allocator + Copy, B: Allocator + Copy>(
@@ -69,14 +69,14 @@ pub fn read_script<A: Allocator + Copy, B: Allocator + Copy>(
     text: &[u8],
 ) -> Result<Script<B>, ScriptFault>
     ensures ok { IfOk result (λ s. IsScriptText decl.now.declaration text.now s.processes) }
-    // A text tells one script.
+    // A text has one script.
     ensures one { IfOk result (λ s. (ps : List Plan) → IsScriptText decl.now.declaration text.now ps → ps ≡ s.processes) }
     ensures err { IfErr result (λ e. IsScriptFault decl.now.declaration text.now e) }
-    // A text that isn't too long has one fault at most, but for want of memory.
+    // A text that isn't too long has at most one fault, OutOfMemory aside.
     ensures one_fault { IfErr result (λ e. (f : ScriptFault) → length text.now ≤ 262144
         → e ≢ faults.OutOfMemory → f ≢ faults.OutOfMemory → IsScriptFault decl.now.declaration text.now f → f ≡ e) }
     ensures too_long { IsErrOf result faults.TooLong ↔ (262144 < length text.now) }
-    // What is refused, but for its length or want of memory, is the text of no script.
+    // Any error but TooLong and OutOfMemory: the text isn't a script.
     ensures none { IfErr result (λ e. e ≢ faults.TooLong → e ≢ faults.OutOfMemory → IsNoScriptText decl.now.declaration text.now) }
 {
     if text.len() > LIMIT {

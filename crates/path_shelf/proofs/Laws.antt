@@ -1,4 +1,4 @@
--- What a verb, and another device of the same law, leave of a shelf: its laws, how many devices there are, and all others.
+-- What a verb, and a replacement by a device of the same law, leave of a shelf: its laws, its number of devices, and all other devices.
 use Rattle.std.proofs.Common.{◌≡◌, ◌≢◌, ℕ, ◌<◌, List, length, get_or, refl, sym, ap, ◌∙◌, Result, Err, arith}
 use Rattle.std.proofs.Math.ListN.{set}
 use Rattle.std.proofs.Math.Seq.{map-set_same}

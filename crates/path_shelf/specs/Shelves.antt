@@ -10,13 +10,13 @@ use Rattle.path_shelf.specs.States.{State, state_at, laws_of}
 abbrev pub declared_laws : Declaration → List Law
 declared_laws d = map (λ r. r.law) d.resources
 
--- r is the first resource whose law its device doesn't have
+-- r is the first resource whose device has another law
 pub record IsFirstOther (states : List State) (d : Declaration) (r : ℕ) : Type 0 where
   pub declared : r < length d.resources
   pub same_before : take r (laws_of states) ≡ take r (declared_laws d)
   pub other : (state_at states r).law ≢ law_of d r
 
--- there isn't one device for each resource; or there is, and r is the first resource whose law its device doesn't have
+-- there isn't one device for each resource; or there is, and r is the first resource whose device has another law
 abbrev pub IsShelfFault : List State → Declaration → ShelfFault → Type 0
 IsShelfFault states d WrongCount = length states ≢ length d.resources
 IsShelfFault states d (WrongDevice r) = (length states ≡ length d.resources) × IsFirstOther states d r.0

@@ -1,4 +1,4 @@
-//! A box is the device that it holds.
+//! A boxed device is a device.
 
 ghost use Rattle.std.specs.Prelude.{◌≡◌};
 

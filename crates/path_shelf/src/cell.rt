@@ -6,7 +6,7 @@ ghost use Rattle.path_model.specs.declared.resource.Law.TheVariants as laws;
 use crate::device::{ActFault, Device};
 use path_model::{Law, Verb};
 
-/// One number, which is put and looked at. It never fails.
+/// One number, which can be put and looked at. Never fails.
 #[derive(Drop)]
 pub struct Cell {
     number: u64,

@@ -1,4 +1,4 @@
-//! What a device is.
+//! Devices, and their contract.
 
 ghost use Rattle.std.specs.Prelude.{◌≡◌, slice_get};
 ghost use Rattle.path_model.specs.Devices.{Fits};
@@ -15,14 +15,14 @@ pub enum ActFault {
     Empty,
     /// The queue is full.
     Full,
-    /// The total would pass the largest number.
+    /// The total would pass `u64::MAX`.
     Overflow,
-    /// The device failed where its law would serve.
+    /// The device failed although its law would have served.
     Failed,
 }
 
-/// What stands behind a resource. It has a law, contents, which are numbers, and a count of its failures: contracts see
-/// these three as its `state`. No call takes memory.
+/// A device behind a resource. It has a law, contents, which are numbers, and a count of its failures: contracts see
+/// these three as its `state`. No call may allocate.
 pub trait Device: Drop {
     ghost state: { Self → State };
 
@@ -31,7 +31,7 @@ pub trait Device: Drop {
         ensures law { result ≡ (state self.now).law }
         ensures fits { Fits (state self.now).law (state self.now).contents };
 
-    /// How often the device has failed; from `u64::MAX` on the count may stand.
+    /// How often the device has failed. The count may stay at `u64::MAX` once it is there.
     fn failures(&self) -> u64
         ensures { result ≡ (state self.now).failures };
 
@@ -39,10 +39,11 @@ pub trait Device: Drop {
     fn at(&self, place: u32) -> Option<u64>
         ensures { result ≡ slice_get (state self.now).contents place };
 
-    /// Answers the verb, and changes the contents, as the table of the laws says. A fault leaves the contents.
+    /// Serves the verb and changes the contents as the table of the laws says, and returns the number that the table gives. An error
+    /// leaves the contents as they are.
     ///
-    /// It is `NotOffered`, `Empty`, `Full` or `Overflow` exactly where the table refuses so. The device may answer `Failed` only
-    /// where the table would serve, and if `failures` rises by one in the call or stands at `u64::MAX`.
+    /// Fails with `NotOffered`, `Empty`, `Full` or `Overflow` exactly when that is the table's refusal. May fail with `Failed` only if
+    /// the table would serve, and if `failures` rises by one in the call or is at `u64::MAX`.
     fn act(&mut self, verb: Verb) -> Result<u64, ActFault>
         ensures { Acts (state self.old) verb result (state self.new) };
 }

@@ -1,6 +1,6 @@
 //! The devices behind the resources of a declaration.
 //!
-//! A [`Device`] keeps a law: it is a cell, a tally or a queue, or the caller's own. A [`Shelf`] holds one for each resource.
+//! A [`Device`] follows a law: it is a cell, a tally or a queue, or the caller's own type. A [`Shelf`] holds one for each resource.
 #![tactic(auto)]
 
 mod boxed;

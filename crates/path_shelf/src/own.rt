@@ -1,4 +1,4 @@
-//! Devices of one type for all laws.
+//! One type of device for all laws.
 
 ghost use Rattle.std.specs.Prelude.{◌≡◌, IfOk};
 ghost use Rattle.path_decl.specs.Lawful.{CapacityFits};
@@ -12,20 +12,20 @@ use crate::tally::Tally;
 use path_model::{Law, OutOfMemory, Verb};
 use std::alloc::{Allocator, Global};
 
-/// A cell, a tally or a queue. It never fails.
+/// A cell, a tally or a queue. Never fails.
 #[derive(Drop)]
 pub enum OwnDevice<A: Allocator + Copy = Global> {
     /// One number.
     Cell(Cell),
     /// A total.
     Tally(Tally),
-    /// Numbers in the order in which they came.
+    /// Numbers in the order in which they were put.
     Queue(Queue<A>),
 }
 
 impl<A: Allocator + Copy> OwnDevice<A> {
-    /// The device of this law before any use: a cell or a tally that contains 0, or an empty queue, all of whose places are
-    /// taken now. The only error is want of memory.
+    /// A new device of this law: a cell or a tally that contains 0, or an empty queue with memory for its whole capacity. Fails only if
+    /// allocation fails.
     pub fn new(alloc: A, law: Law) -> Result<OwnDevice<A>, OutOfMemory>
         requires { CapacityFits law }
         ensures { IfOk result (λ device. own_state device ≡ opening_state law) }

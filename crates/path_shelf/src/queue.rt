@@ -9,7 +9,7 @@ use path_model::{Law, OutOfMemory, Verb};
 use std::alloc::{Allocator, Global};
 use std::collections::VecDeque;
 
-/// Numbers in the order in which they came, at most as many as its capacity. It never fails.
+/// Numbers in the order in which they were put, at most as many as its capacity. Never fails.
 #[derive(Drop)]
 pub struct Queue<A: Allocator + Copy = Global> {
     numbers: VecDeque<u64, A>,
@@ -19,8 +19,8 @@ pub struct Queue<A: Allocator + Copy = Global> {
 }
 
 impl<A: Allocator + Copy> Queue<A> {
-    /// An empty queue for so many numbers, 1 to 1,024. All its places are taken now, so no later call wants memory. The
-    /// only error is want of memory.
+    /// An empty queue for `capacity` numbers, 1 to 1,024. Allocates memory for all of them now, so no later call allocates. Fails only
+    /// if allocation fails.
     pub fn new(alloc: A, capacity: u32) -> Result<Queue<A>, OutOfMemory>
         requires at_least_one { 1 ≤ capacity }
         requires at_most_1024 { capacity ≤ 1024 }

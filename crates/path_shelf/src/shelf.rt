@@ -16,14 +16,14 @@ use std::marker::Model;
 /// Why devices make no shelf.
 #[derive(Clone, Copy, Debug, PartialEq, Eq)]
 pub enum ShelfFault {
-    /// There isn't one device for each resource.
+    /// The number of devices isn't the number of resources.
     WrongCount,
-    /// This resource is the first whose law its device doesn't have.
+    /// This resource is the first whose device has another law.
     WrongDevice(ResId),
 }
 
-/// The devices of a declaration's resources, in order. Contracts see their states. No call takes memory. To drop a
-/// shelf is to drop each device.
+/// The devices of a declaration's resources, in order. Contracts see their states. No call allocates. Dropping a shelf drops each
+/// device.
 #[derive(Drop)]
 pub struct Shelf<D: Device, A: Allocator + Copy = Global> {
     devices: Vec<D, A>,
@@ -39,10 +39,11 @@ impl<D: Device, A: Allocator + Copy> Model for Shelf<D, A> {
 }
 
 impl<D: Device, A: Allocator + Copy> Shelf<D, A> {
-    /// A shelf of these devices, one for each resource of the declaration, and of its law; for a queue the capacity counts.
+    /// Opens a shelf of these devices, one for each resource of the declaration and of its law; the capacity of a queue is part of its
+    /// law.
     ///
-    /// It is a `WrongCount` where there isn't one for each, and else a `WrongDevice` where one has another law. The devices then
-    /// come back, in their order. The cost is one look at each.
+    /// Fails with `WrongCount` if there isn't one device for each resource, and else with `WrongDevice` if one has another law. The
+    /// devices then come back in their order. The cost is one look at each.
     pub fn open(devices: Vec<D, A>, decl: &Decl<A>) -> Result<Shelf<D, A>, (ShelfFault, Vec<D, A>)>
         ensures ok { IfOk result (λ shelf. shelf ≡ map D.state devices.items) }
         ensures laws { OnOk result (laws_of (map D.state devices.items) ≡ declared_laws decl.now.declaration) }
@@ -55,18 +56,18 @@ impl<D: Device, A: Allocator + Copy> Shelf<D, A> {
         }
     }
 
-    /// The device of the resource, which is declared, answers the verb as its law says. All other devices stay. The cost is
-    /// that of the device's own call, as for the next three.
+    /// Lets the device of a declared resource serve the verb, as its law says. The other devices don't change. The cost is that of the
+    /// device's own call.
     pub fn act(&mut self, resource: ResId, verb: Verb) -> Result<u64, ActFault>
         requires { resource.0 < length self.old }
         ensures acts { ActsAt self.old resource.0 verb result self.new }
-        // A failure was counted.
+        // It is `Failed` only if devices of this type may fail.
         ensures failed { IsErrOf result ActFault.Failed → MayFail D.state }
     {
         self.devices[resource.0 as usize].act(verb)
     }
 
-    /// The number at a place of what the resource contains; `None` past the end. The resource is declared.
+    /// The number at a place of what a declared resource contains; `None` past the end. The cost is that of the device's own call.
     pub fn at(&self, resource: ResId, place: u32) -> Option<u64>
         requires { resource.0 < length self.now }
         ensures { result ≡ slice_get (state_at self.now resource.0).contents place }
@@ -74,7 +75,7 @@ impl<D: Device, A: Allocator + Copy> Shelf<D, A> {
         self.devices[resource.0 as usize].at(place)
     }
 
-    /// The law of the resource, which is declared.
+    /// The law of a declared resource. The cost is that of the device's own call.
     pub fn law(&self, resource: ResId) -> Law
         requires { resource.0 < length self.now }
         ensures law { result ≡ (state_at self.now resource.0).law }
@@ -83,7 +84,7 @@ impl<D: Device, A: Allocator + Copy> Shelf<D, A> {
         self.devices[resource.0 as usize].law()
     }
 
-    /// How often the device of the resource has failed. The resource is declared.
+    /// How often the device of a declared resource has failed. The cost is that of the device's own call.
     pub fn failures(&self, resource: ResId) -> u64
         requires { resource.0 < length self.now }
         ensures { result ≡ (state_at self.now resource.0).failures }
@@ -91,10 +92,10 @@ impl<D: Device, A: Allocator + Copy> Shelf<D, A> {
         self.devices[resource.0 as usize].failures()
     }
 
-    /// Puts this device in the place of the resource's own, which is dropped. The resource is declared.
+    /// Puts this device in place of a declared resource's own, which is dropped. The other devices don't change.
     ///
-    /// A device of another law is handed back, and all devices stay. Otherwise all others do. The cost is that of asking both
-    /// for their laws, and of the drop.
+    /// A device of another law comes back, and all devices stay as they were. The cost is that of asking both devices for their laws,
+    /// and of the drop.
     pub fn replace(&mut self, resource: ResId, device: D) -> Result<(), D>
         requires { resource.0 < length self.old }
         ensures same_law { IsOk result ↔ ((D.state device).law ≡ (state_at self.old resource.0).law) }
@@ -119,7 +120,7 @@ fn has_its_law<D: Device, A: Allocator + Copy>(device: &D, decl: &Decl<A>, resou
     law_of(decl, resource) == Some(device.law())
 }
 
-/// Why these devices make no shelf of the declaration, where [`Shelf::open`] refuses them. The cost is one look at each.
+/// Why [`Shelf::open`] would refuse these devices; `None` if it wouldn't. The cost is one look at each.
 pub fn shelf_fault<D: Device, A: Allocator + Copy>(
     devices: &[D],
     decl: &Decl<A>,

@@ -6,7 +6,7 @@ ghost use Rattle.path_model.specs.declared.resource.Law.TheVariants as laws;
 use crate::device::{ActFault, Device};
 use path_model::{Law, Verb};
 
-/// A total, which is added to and looked at. It never fails.
+/// A total, which can be added to and looked at. Never fails.
 #[derive(Drop)]
 pub struct Tally {
     total: u64,

@@ -1,4 +1,4 @@
--- With which status a fault is told, and how a write ends.
+-- The status with which a fault is reported, and how a write ends.
 use Rattle.std.proofs.Common.{◌≡◌, ◌≢◌, ℕ, List, ◌⊎◌, inl, inr, sym, ap, ◌∙◌, subst}
 use Rattle.path_lex.specs.declared.fault.DeclFault.{DeclFault}
 use Rattle.path_lex.specs.declared.fault.DeclFault.TheVariants as declarations
@@ -10,7 +10,7 @@ use Rattle.path_streams.specs.declared.fault.Fault.TheVariants.{Unwritable, OutO
 use Rattle.path_streams.specs.Statuses.{status_of, declaration_status}
 use Rattle.path_streams.specs.Refusals.{IsUndeclared}
 
--- what holds of a fault's status holds of the one that was told
+-- what holds of a fault's status holds of the one that was reported
 pub told : (P : Status → Type 0) (s r t : Status) → P s → (r ≡ s) ⊎ (r ≡ StreamFailed) → t ≢ StreamFailed → r ≡ t → P t
 told P s r t p (inl e) other is = subst P (sym e ∙ is) p
 told P s r t p (inr e) other is = absurd (other (sym is ∙ e))
@@ -32,7 +32,7 @@ ends_write r t (inl e) is = subst EndsWrite (sym e ∙ is) tt
 ends_write r t (inr (inl e)) is = subst EndsWrite (sym e ∙ is) tt
 ends_write r t (inr (inr e)) is = subst EndsWrite (sym e ∙ is) tt
 
--- a fault of writing is told
+-- a fault of writing is reported
 pub tells_write : (r : Status) (f : Fault) → (f ≡ Unwritable) ⊎ (f ≡ OutOfMemory) → (r ≡ status_of f) ⊎ (r ≡ StreamFailed) → (r ≡ Done) ⊎ (r ≡ StreamFailed) ⊎ (r ≡ NoMemory)
 tells_write r f which (inr e) = inr (inl e)
 tells_write r f (inl is) (inl e) = inr (inl (e ∙ ap status_of is))

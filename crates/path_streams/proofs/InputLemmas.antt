@@ -1,4 +1,4 @@
--- What a reader gave, where a bound was asked of it.
+-- What a reader gave up to a bound.
 use Rattle.std.proofs.Common.{◌≡◌, ℕ, ◌<◌, List, length, take, Option, Some, None, IfSome, ap, ◌∙◌, arith, min}
 use Rattle.std.proofs.lemmas.List.{length-take, take_all}
 use Rattle.std.specs.Option.{option_map}

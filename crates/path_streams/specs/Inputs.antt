@@ -2,10 +2,10 @@
 use Rattle.std.specs.Prelude.{◌≢◌, ℕ, List, [], ◌∷◌, ◌++◌}
 use Rattle.path_fields.specs.Splits.{HasNone}
 
--- The input, line after line: what stands before the first line that is `%` (37) alone, and what follows that line and
--- its line feed (10).
+-- the input, line by line, with what precedes the first line that is `%` (37) alone, and what follows that line and its line
+-- feed (10)
 pub data Cuts : List ℕ → List ℕ → List ℕ → Type 0 where
-  -- such a line, and the input's last line being one
+  -- a line `%`, with a line feed or as the last line
   at_mark : {after : List ℕ} → Cuts (37 ∷ 10 ∷ after) [] after
   at_last_mark : Cuts (37 ∷ []) [] []
   -- another line

@@ -1,11 +1,11 @@
--- When a text is no declaration, and how a command then ends.
+-- When a text isn't a declaration, and how a command then ends.
 use Rattle.std.specs.Prelude.{ℕ, List}
 use Rattle.path_model.specs.Declarations.{Declaration}
 use Rattle.path_decl.specs.Text.{IsDeclarationText}
 use Rattle.path_streams.specs.declared.status.Status.{Status}
 use Rattle.path_streams.specs.declared.status.Status.TheVariants.{DeclarationRefused, NoMemory}
 
--- the text is no declaration
+-- the text isn't a declaration
 abbrev pub IsNoDeclaration : List ℕ → Type 0
 IsNoDeclaration text = (d : Declaration) → IsDeclarationText text d → ⊥
 

@@ -1,4 +1,4 @@
-//! Why a command isn't done: one line of text, and a status.
+//! Why a command failed: one line of text, and a status.
 
 ghost use Rattle.std.specs.Prelude.{◌≡◌, ◌⊎◌};
 ghost use Rattle.path_streams.specs.declared.fault.Fault.TheVariants as faults;
@@ -16,7 +16,7 @@ use std::fmt::Display;
 use std::io::{ErrorKind, Write};
 use std::{fmt, io};
 
-/// Why a command isn't done.
+/// Why a command failed.
 #[derive(Clone, Copy, Debug, PartialEq, Eq)]
 pub enum Fault<'a> {
     /// The declaration is refused.
@@ -29,7 +29,7 @@ pub enum Fault<'a> {
     Audit(AuditFault),
     /// The file or stream of this name can't be read.
     Unreadable(&'a str),
-    /// The file or stream of this name has more bytes than are taken.
+    /// The file or stream of this name has more bytes than the limit.
     TooLong(&'a str),
     /// The output can't be written.
     Unwritable,
@@ -37,14 +37,14 @@ pub enum Fault<'a> {
     Text(TextFault),
     /// The text of a script is refused.
     Script(ScriptFault),
-    /// The journal of a run isn't what its processes were told.
+    /// The receipts of a run's processes don't agree with its journal.
     Unsettled,
-    /// Memory is wanting.
+    /// An allocation failed.
     OutOfMemory,
 }
 
 impl<'a> Fault<'a> {
-    /// Why the words of the command line were not read.
+    /// The fault for an error while reading the words of the command line.
     pub fn of_arguments(error: &io::Error) -> Fault<'a>
         ensures { (result ≡ Fault.Arguments) ⊎ (result ≡ Fault.OutOfMemory) }
     {
@@ -54,7 +54,7 @@ impl<'a> Fault<'a> {
         }
     }
 
-    /// Why the file or stream of this name gave no text.
+    /// The fault for an error while reading the file or stream of this name.
     pub fn of_reading(name: &'a str, error: &io::Error) -> Fault<'a>
         ensures { (result ≡ Fault.Unreadable name.entry) ⊎ (result ≡ Fault.OutOfMemory) }
     {
@@ -64,7 +64,7 @@ impl<'a> Fault<'a> {
         }
     }
 
-    /// Why the output was not written.
+    /// The fault for an error while writing the output.
     pub fn of_writing(error: &io::Error) -> Fault<'a>
         ensures { (result ≡ Fault.Unwritable) ⊎ (result ≡ Fault.OutOfMemory) }
     {
@@ -139,7 +139,7 @@ impl Display for Fault<'_> {
     }
 }
 
-/// Tells a fault in one line, and answers its status; where the line can't be written, that a stream failed.
+/// Writes the fault on `err` in one line and returns its status, or `StreamFailed` if the line can't be written.
 pub fn tell<E: Write>(err: &mut E, fault: Fault<'_>) -> Status
     ensures { (result ≡ status_of fault.entry) ⊎ (result ≡ Status.StreamFailed) }
 {

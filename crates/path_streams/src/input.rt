@@ -6,10 +6,10 @@ use crate::fault::Fault;
 use std::alloc::Allocator;
 use std::io::Read;
 
-/// All bytes of a reader, which is told by its name in a fault: `TooLong` where it has more than the limit, `Unreadable`
-/// where it fails, `OutOfMemory` for want of memory. Reads at most one byte past the limit. Places for the bytes that are
-/// expected are taken at once; where there are more or fewer, that costs time alone. What the bytes leave of the memory that was
-/// taken for them is given back.
+/// Reads all bytes of a reader, which a fault names by `name`. Fails with `TooLong` if there are more than the limit, with
+/// `Unreadable` if the reader fails, and with `OutOfMemory` if allocation fails. Reads at most one byte past the limit.
+/// Allocates memory for the expected number of bytes at once; a wrong expectation only costs time. Gives back the memory that the
+/// bytes don't fill.
 pub fn read_all<'a, A: Allocator + Copy, R: Read + Drop>(
     alloc: A,
     reader: R,
@@ -20,7 +20,7 @@ pub fn read_all<'a, A: Allocator + Copy, R: Read + Drop>(
     ensures ok { IfOk result (λ v. (length v.items ≤ limit) × IfSome (R.remaining reader) (λ bytes. v.items ≡ bytes)) }
     ensures too_long { IsErrOf result (Fault.TooLong name.entry) → IfSome (R.remaining reader) (λ bytes. limit < length bytes) }
 {
-    // One place more shows the end without growing.
+    // One more byte of capacity shows the end without growing.
     let mut bytes = Vec::with_capacity(alloc, expected.min(limit).saturating_add(1))?;
     let most = (limit as u64).saturating_add(1);
     match reader.take(most).read_to_end(&mut bytes) {

@@ -1,4 +1,4 @@
-//! Streams of bytes in and out: how all of one is read or written, why a command isn't done, and how it ends.
+//! Streams of bytes in and out: reading or writing all of one, why a command failed, and its exit status.
 #![tactic(auto)]
 
 mod fault;

@@ -1,4 +1,4 @@
-//! Writing bytes, and knowing what was written where it fails.
+//! Writing bytes, and what was written if that fails.
 
 ghost use Rattle.std.specs.Prelude.{◌≡◌, ◌⊎◌, OnOk, OnErr, IfErr};
 ghost use Rattle.std.specs.Io.KnownBytes.{Appends};
@@ -8,8 +8,8 @@ use crate::fault::{Fault, tell};
 use crate::status::Status;
 use std::io::{ErrorKind, Write};
 
-/// Writes all of the bytes; where the writer fails, a front of them. What is interrupted is tried again, and a writer
-/// that takes nothing can't be written.
+/// Writes all of the bytes, or a front of them if the writer fails. Retries an interrupted write. Fails with `Unwritable` if the
+/// writer fails or takes no bytes, and with `OutOfMemory` if it says that memory ran out.
 pub fn put<O: Write>(out: &mut O, bytes: &[u8]) -> Result<(), Fault<'static>>
     ensures ok { OnOk result (Appends (O.contents out.old) (O.contents out.new) bytes.now) }
     ensures err { OnErr result (AppendsSome (O.contents out.old) (O.contents out.new) (IsFrontOf (λ all. all ≡ bytes.now))) }
@@ -33,8 +33,8 @@ pub fn put<O: Write>(out: &mut O, bytes: &[u8]) -> Result<(), Fault<'static>>
     Err(Fault::Unwritable)
 }
 
-/// Writes all of the text and flushes it. Where the writer fails, what it took is unknown; where it wants memory, it took a
-/// front. A fault is one line on `err`.
+/// Writes all of the text and flushes it. If the writer fails, what it took is unknown; if it runs out of memory, it took a front.
+/// A fault is one line on `err`.
 pub fn put_text<O: Write, E: Write>(out: &mut O, err: &mut E, text: &[u8]) -> Status
     ensures done { result ≡ Status.Done → Appends (O.contents out.old) (O.contents out.new) text.now }
     // Only a front of the text was written.

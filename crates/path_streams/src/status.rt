@@ -1,6 +1,6 @@
 //! How a command ends.
 
-/// The exit status of a command. Its number is given by `u8::from`.
+/// The exit status of a command. `u8::from` gives its number.
 #[derive(Clone, Copy, Debug, PartialEq, Eq)]
 pub enum Status {
     /// 0: done, or help was asked for.
@@ -15,7 +15,7 @@ pub enum Status {
     TextRefused,
     /// 5: a line of the journal is wrong, or not all processes of a run are done.
     Unsound,
-    /// 6: memory is wanting.
+    /// 6: allocation failed.
     NoMemory,
 }
 

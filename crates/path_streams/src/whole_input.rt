@@ -5,11 +5,11 @@ ghost use Rattle.path_streams.specs.Inputs.{Cuts};
 
 use path_fields::cut;
 
-/// Cuts at the first line that is exactly `%`: what stands before that line, which is the declaration, and what follows
-/// it and its line feed, which is the attempts. Where no line is `%`, the declaration is all of it. Takes no memory.
+/// Cuts at the first line that is exactly `%`: the declaration is what precedes that line, and the attempts are what follows it and
+/// its line feed. Without a line `%` the declaration is the whole input. Allocates nothing.
 pub fn whole(input: &[u8]) -> (&[u8], &[u8])
     ensures cuts { Cuts input.now result.0.now result.1.now }
-    // There is one way to cut.
+    // There is only one way to cut.
     ensures only { (before after : List ℕ) → Cuts input.now before after → (before ≡ result.0.now) × (after ≡ result.1.now) }
 {
     let mut at = 0usize;

@@ -42,7 +42,7 @@ module _ (old : PartsValue) (room : ℕ) (openings : List (List ℕ)) (journal :
   replace_fault law Used is = (λ busy. is.0 (busy_is busy), (s.asked r within).0 is.1)
   replace_fault law OtherLaw is = (untouched is.0, λ same. is.1 (same ∙ sym (law_is old room openings journal s r within)))
 
-  -- the parts are what the journal tells, over other opening contents
+  -- the parts agree with the journal, over other opening contents
   pub true_replaced : (state : State) → r < length openings → MayReplacePart old r state.law → AreTrueTo (with_state old r state) room (set openings r state.contents) journal
   true_replaced state opened may =
       let law = unasked_devices_may_be_replaced old.declaration room openings (set openings r state.contents) journal r

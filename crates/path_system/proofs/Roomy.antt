@@ -1,4 +1,4 @@
--- Where there is room no attempt is told that there is none, and without room all stays.
+-- With room no attempt gets NoRoom, and without room all stays.
 use Rattle.std.proofs.Common.{◌≡◌, ◌≢◌, ℕ, Bool, true, false, sym, ◌∙◌, refl, Option, Some, None, Result, Ok, Err, inl, inr}
 use Rattle.std.proofs.lemmas.Bool.{cases_eq}
 use Rattle.path_model.specs.declared.ids.OpId.{OpId}

@@ -96,7 +96,7 @@ all_written rows states same written =
     get_or-map (λ (x : Row). x.numbers) rows r no_row [] here ∙ written r here
     ∙ sym (get_or-map (λ (x : State). x.contents) states r _ [] (omega (arith, here, same))))
 
--- the law that a declaration tells
+-- the law in a declaration
 pub law_found : (d : Declaration) (r : ℕ) (law : Law) → option_map (λ (x : Resource). x.law) (slice_get d.resources r) ≡ Some law → law_of d r ≡ law
 law_found d r law is = go (slice_get_cases d.resources r).1
   where

@@ -1,4 +1,4 @@
--- One step of a system, in the form that its journal asks.
+-- One step of a system, as its journal sees it.
 use Rattle.std.proofs.Common.{◌≡◌, ◌≢◌, ℕ, ◌+◌, ◌<◌, ◌≤◌, Bool, true, false, List, [], ◌∷◌, ◌++◌, All, length, get_or, arith, refl, ap, sym, subst, ◌∙◌, Option, Some, None, inl, inr}
 use Rattle.std.proofs.lemmas.Bool.{cases_eq}
 use Rattle.std.proofs.lemmas.List.{length-append, length-replicate, get_or-replicate, get_or-map, length-map}
@@ -83,7 +83,7 @@ module _ (old : PartsValue) (room : ℕ) (openings : List (List ℕ)) (journal :
         let l = length-append journal (line_of w attempt reply ∷ []) in
         omega (arith, k, l)
 
--- the parts before any attempt are what the empty journal tells
+-- the parts before any attempt agree with the empty journal
 pub true_opened : (parts : PartsValue) (d : Declaration) (room : ℕ) (states : List State) → AreOpened parts d room states → AreTrueTo parts room (contents_of states) []
 true_opened parts d room states o =
     let same : length parts.asked ≡ length d.resources = ap length o.fresh.unasked ∙ length-replicate (length d.resources) false in

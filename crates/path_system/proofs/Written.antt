@@ -1,4 +1,4 @@
--- After an attempt the parts of a system are what the journal tells with its line.
+-- After an attempt the parts of a system agree with the journal and its new line.
 use Rattle.std.proofs.Common.{◌≡◌, ◌≢◌, ◌↔◌, ℕ, ◌<◌, Bool, true, false, List, [], ◌∷◌, ◌++◌, All, length, get_or, arith, refl, ap, sym, subst, ◌∙◌, Option, Some, None, Result, Ok, Err, inl, inr, eq-eqb, ne_eqb}
 use Rattle.std.specs.Prelude.{◌==◌, not}
 use Rattle.std.proofs.Math.ListN.{set}
@@ -128,7 +128,7 @@ module _ (old : PartsValue) (room : ℕ) (openings : List (List ℕ)) (journal :
         asked = asked_quiet line refl;
       })
 
-  -- a use of one's own live activation asks one device, as the line tells
+  -- a use of one's own live activation asks one device, as the line says
   module _ (w : ℕ) (n : ActId) (verb : Verb) (a : Activation) (answer : Result ℕ ActFault) (states : List State) (is : activation_of n old.book.live ≡ Some a) (own : a.worker ≡ w)
       (acts : ActsAt old.states (resource_of old.declaration a.op.0) verb answer states) where
     applied_by : (q : ℕ) (x : ℕ) (held : List ℕ) → line_applied old.declaration q journal (Apply n verb) (Used x) held ≡ verb_applied old.declaration q verb (Some a) held

@@ -23,17 +23,17 @@ abbrev pub account_of : Declaration → ℕ → List State → Account
 account_of d room states =
     record { declaration = d; room = room; openings = contents_of states; journal = []; failures = failures_of states }
 
--- the account once the device of the resource is another, which is in this state
+-- the account after the device of the resource is replaced by one in this state
 abbrev pub with_device : Account → ℕ → State → Account
 with_device account r state =
     record account { openings = slice_set account.openings r state.contents; failures = slice_set account.failures r state.failures }
 
--- all counts of failures stay, but that of the resource, if there is one
+-- no count of failures changes, except perhaps that of the resource, if there is one
 abbrev pub StayBut : Option ℕ → List ℕ → List ℕ → Type 0
 StayBut None before after = after ≡ before
 StayBut (Some r) before after = after ≡ slice_set before r (slice_index after r)
 
--- there is a resource, and a failure of its device was counted, or the count stands at its end
+-- there is a resource, and its device's failure was counted or the count is at its maximum
 abbrev pub HasFailed : Option ℕ → List ℕ → List ℕ → Type 0
 HasFailed None before after = ⊥
 HasFailed (Some r) before after = IsCounted (slice_index before r) (slice_index after r)

@@ -15,7 +15,7 @@ use Rattle.path_system.specs.declared.fault.OpenFault.TheVariants.{BadRoom, Wron
 use Rattle.path_system.specs.declared.fault.ReplaceFault.{ReplaceFault}
 use Rattle.path_system.specs.declared.fault.ReplaceFault.TheVariants.{Busy, Used, OtherLaw}
 
--- a journal's room is 1 to MOST_LINES
+-- the room isn't 1 to MOST_LINES
 abbrev pub IsBadRoom : ℕ → Type 0
 IsBadRoom room = (room ≡ 0) ⊎ (MOST_LINES < room)
 
@@ -24,14 +24,14 @@ abbrev pub as_open_fault : ShelfFault → OpenFault
 as_open_fault shelf.WrongCount = WrongCount
 as_open_fault (shelf.WrongDevice r) = WrongDevice r
 
--- the devices make no shelf; want of memory says nothing of them
+-- why the devices make no shelf; OutOfMemory says nothing about them
 abbrev pub IsDevicesFault : List State → Declaration → OpenFault → Type 0
 IsDevicesFault states d BadRoom = ⊥
 IsDevicesFault states d WrongCount = IsShelfFault states d shelf.WrongCount
 IsDevicesFault states d (WrongDevice r) = IsShelfFault states d (shelf.WrongDevice r)
 IsDevicesFault states d OutOfMemory = Unit {0}
 
--- the room is bad; or it is good, and the devices make no shelf, or memory is wanting
+-- the room is bad; or it is good, and the devices make no shelf or allocation fails
 abbrev pub IsOpenFault : ℕ → List State → Declaration → OpenFault → Type 0
 IsOpenFault room states d BadRoom = IsBadRoom room
 IsOpenFault room states d fault = (IsBadRoom room → ⊥) × IsDevicesFault states d fault
@@ -44,12 +44,12 @@ IsBusy d journal r = Any (λ a. resource_of d a.op.0 ≡ r) (live journal)
 abbrev pub IsUntouched : Declaration → List Line → ℕ → Type 0
 IsUntouched d journal r = (IsBusy d journal r → ⊥) × (IsAsked d journal r → ⊥)
 
--- the first refusal that applies to a device of this law
+-- the first reason that applies for refusing a device of this law
 abbrev pub IsReplaceFault : Declaration → List Line → ℕ → Law → ReplaceFault → Type 0
 IsReplaceFault d journal r law Busy = IsBusy d journal r
 IsReplaceFault d journal r law Used = (IsBusy d journal r → ⊥) × IsAsked d journal r
 IsReplaceFault d journal r law OtherLaw = IsUntouched d journal r × (law ≢ law_of d r)
 
--- none applies
+-- no reason applies: a device of this law may replace the resource's own
 abbrev pub MayReplace : Declaration → List Line → ℕ → Law → Type 0
 MayReplace d journal r law = IsUntouched d journal r × (law ≡ law_of d r)

@@ -5,7 +5,7 @@ use Rattle.path_model.specs.declared.resource.Law.TheVariants.{Cell, Tally, Queu
 use Rattle.path_model.specs.Declarations.{Declaration, law_of}
 use Rattle.path_shelf.specs.States.{State, state_at}
 
--- numbers, and the places that they may take
+-- numbers, and the capacity for them
 pub record Row : Type 0 where
   pub numbers : List ℕ
   pub places : ℕ
@@ -23,11 +23,11 @@ places_of Cell = 1
 places_of Tally = 1
 places_of (Queue n) = n
 
--- there is a row for each resource, with the places of its law
+-- there is a row for each resource, with capacity for its law
 pub record AreFor (rows : List Row) (d : Declaration) : Type 0 where
   pub count : length rows ≡ length d.resources
   pub places : (r : ℕ) → r < length d.resources → places_of (law_of d r) ≤ (row_at rows r).places
 
--- each device finds the places of its law
+-- each row has capacity for its device's law
 abbrev pub HavePlaces : List Row → List State → Type 0
 HavePlaces rows states = (r : ℕ) → r < length states → places_of (state_at states r).law ≤ (row_at rows r).places

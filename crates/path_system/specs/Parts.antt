@@ -1,4 +1,4 @@
--- The parts of a system: what one attempt does to them, and when they are what a journal tells.
+-- The parts of a system: what one attempt does to them, and when they agree with a journal.
 use Rattle.std.specs.Prelude.{◌≡◌, ◌≢◌, ◌==◌, ◌||◌, ◌+◌, ◌<◌, ◌≤◌, nat_le, ℕ, Bool, true, false, List, [], ◌∷◌, ◌++◌}
 use Rattle.std.specs.Prelude.{◌↔◌, All, Any, length, slice_index, slice_index_or, slice_set, replicate, Option, Some, None, Result, Ok, Err}
 use Rattle.path_model.specs.declared.ids.OpId.{OpId}
@@ -32,7 +32,7 @@ use Rattle.path_system.specs.declared.fault.ReplaceFault.{ReplaceFault}
 use Rattle.path_system.specs.declared.fault.ReplaceFault.TheVariants.{Busy, Used, OtherLaw}
 use Rattle.path_system.specs.Openings.{Row, AreFor, numbers_of}
 
--- the declaration, the gate, the ledger, the states of the devices, and of each device whether it was asked
+-- the declaration, the gate, the ledger, the states of the devices, and for each device whether it was asked
 pub record PartsValue : Type 0 where
   pub declaration : Declaration
   pub standing : Standing
@@ -40,7 +40,7 @@ pub record PartsValue : Type 0 where
   pub states : List State
   pub asked : List Bool
 
--- what a device answered, as a reply
+-- the reply for a device's answer
 abbrev pub as_reply : Result ℕ ActFault → Reply
 as_reply (Ok x) = replies.Used x
 as_reply (Err faults.NotOffered) = replies.NotOffered
@@ -49,7 +49,7 @@ as_reply (Err faults.Full) = replies.Full
 as_reply (Err faults.Overflow) = replies.Overflow
 as_reply (Err faults.Failed) = replies.DeviceFailed
 
--- the start of a is admitted with the number n
+-- the start of a is admitted and gets the number n
 pub record IsStarted (old : PartsValue) (w : ℕ) (a : OpId) (n : ActId) (new : PartsValue) : Type 0 where
   pub declared : a.0 < length old.declaration.operations
   pub admits :
@@ -69,14 +69,14 @@ pub record IsBlocked (old : PartsValue) (a : OpId) (p : PathId) : Type 0 where
       (h : List Event) → legal.Legal old.standing.paths h → IsAt old.standing h
       → legal.First (legal.Forbids h a) old.standing.paths p.0
 
--- a start of a leads from old parts to new ones with this reply
+-- a start of a takes the old parts to the new ones with this reply
 abbrev pub MovesStart : PartsValue → ℕ → OpId → Reply → PartsValue → Type 0
 MovesStart old w a (Started n) new = IsStarted old w a n new
 MovesStart old w a (Blocked p) new = IsBlocked old a p × (new ≡ old)
 MovesStart old w a UnknownOperation new = (length old.declaration.operations ≤ a.0) × (new ≡ old)
 MovesStart old w a reply new = ⊥
 
--- the device of the activation's resource answers
+-- the device of the activation's resource answers, and the reply is that answer
 pub record IsUse (old : PartsValue) (a : Activation) (verb : Verb) (reply : Reply) (new : PartsValue) : Type 0 where
   pub answer : Result ℕ ActFault
   pub told : reply ≡ as_reply answer
@@ -84,7 +84,7 @@ pub record IsUse (old : PartsValue) (a : Activation) (verb : Verb) (reply : Repl
   pub others :
       new ≡ record old { states = new.states; asked = slice_set old.asked (resource_of old.declaration a.op.0) true }
 
--- a use of the activation, if it is live, leads from old parts to new ones with this reply
+-- a use of the activation, if it is live, takes the old parts to the new ones with this reply
 abbrev pub MovesUse : PartsValue → ℕ → Verb → Option Activation → Reply → PartsValue → Type 0
 MovesUse old w verb None reply new = (reply ≡ Stale) × (new ≡ old)
 MovesUse old w verb (Some a) reply new = (a.worker ≢ w → (reply ≡ NotYours) × (new ≡ old)) × (a.worker ≡ w → IsUse old a verb reply new)
@@ -98,18 +98,18 @@ pub record IsOver (old : PartsValue) (n : ActId) (a : Activation) (reply : Reply
   pub states : new.states ≡ old.states
   pub asked : new.asked ≡ old.asked
 
--- a finish of the activation of the number n, if it is live, leads from old parts to new ones with this reply
+-- a finish of the activation numbered n, if it is live, takes the old parts to the new ones with this reply
 abbrev pub MovesFinish : PartsValue → ℕ → ActId → Option Activation → Reply → PartsValue → Type 0
 MovesFinish old w n None reply new = (reply ≡ Stale) × (new ≡ old)
 MovesFinish old w n (Some a) reply new = (a.worker ≢ w → (reply ≡ NotYours) × (new ≡ old)) × (a.worker ≡ w → IsOver old n a reply new)
 
--- one attempt for which there is room leads from old parts to new ones with this reply
+-- one attempt for which there is room takes the old parts to the new ones with this reply
 abbrev pub Moves : PartsValue → ℕ → Attempt → Reply → PartsValue → Type 0
 Moves old w (Start a) reply new = MovesStart old w a reply new
 Moves old w (Apply n verb) reply new = MovesUse old w verb (activation_of n old.book.live) reply new
 Moves old w (Finish n) reply new = MovesFinish old w n (activation_of n old.book.live) reply new
 
--- the places that the attempt wants: its own, and for a start that of its finish
+-- the places that the attempt needs: its own, and for a start also that of its finish
 abbrev pub wanted_places : Attempt → ℕ
 wanted_places (Start a) = 2
 wanted_places (Apply n verb) = 1
@@ -120,22 +120,22 @@ abbrev pub is_own_of : ℕ → Option Activation → Bool
 is_own_of w None = false
 is_own_of w (Some a) = a.worker == w
 
--- a finish of the worker's own live activation, which has its place since its start
+-- whether the attempt finishes the worker's own live activation, whose place is kept since its start
 abbrev pub has_place : List Activation → ℕ → Attempt → Bool
 has_place activations w (Finish n) = is_own_of w (activation_of n activations)
 has_place activations w attempt = false
 
--- whether the attempt finds room after so many lines
+-- whether there is room for the attempt after this number of lines
 abbrev pub has_room : ℕ → ℕ → List Activation → ℕ → Attempt → Bool
 has_room room lines activations w attempt =
     nat_le (lines + length activations + wanted_places attempt) room || has_place activations w attempt
 
--- the parts move where there is room, and else stay
+-- the parts move if there is room, and stay as they were if not
 pub record Answers (old : PartsValue) (room lines w : ℕ) (attempt : Attempt) (reply : Reply) (new : PartsValue) : Type 0 where
   pub inside : has_room room lines old.book.live w attempt ≡ true → Moves old w attempt reply new
   pub outside : has_room room lines old.book.live w attempt ≡ false → (reply ≡ NoRoom) × (new ≡ old)
 
--- the parts fit one another: what is live was declared, and is in progress where paths name it
+-- the parts fit one another: what is live was declared, and is in progress if a path names it
 pub record AreReady (parts : PartsValue) : Type 0 where
   pub lawful : Lawful parts.declaration
   pub states : length parts.states ≡ length parts.declaration.resources
@@ -145,7 +145,7 @@ pub record AreReady (parts : PartsValue) : Type 0 where
       (n : ActId) (a : Activation) → activation_of n parts.book.live ≡ Some a → IsNamed parts.standing.paths a.op
       → 0 < slice_index parts.standing.in_progress a.op.0
 
--- the parts are what an honest journal tells
+-- the parts agree with an honest journal
 pub record AreTrueTo (parts : PartsValue) (room : ℕ) (openings : List (List ℕ)) (journal : List Line) : Type 0 where
   pub lawful : Lawful parts.declaration
   pub honest : IsHonest parts.declaration room openings journal
@@ -165,8 +165,8 @@ pub record AreTrueTo (parts : PartsValue) (room : ℕ) (openings : List (List �
       (r : ℕ) → r < length parts.declaration.resources
       → (slice_index_or parts.asked r false ≡ true) ↔ IsAsked parts.declaration journal r
 
--- what always holds of a system: its parts are what its journal tells, each line has its place, and so have the numbers of
--- any device that may replace another
+-- what always holds of a system: its parts agree with its journal, there is capacity for each line of the room, and for the
+-- numbers of any device that may replace another
 pub record IsTold (parts : PartsValue) (room : ℕ) (rows : List Row) (journal : List Line) (places : ℕ) : Type 0 where
   pub told : AreTrueTo parts room (numbers_of rows) journal
   pub roomy : AreFor rows parts.declaration
@@ -196,16 +196,16 @@ IsLiveAt parts r = Any (λ a. resource_of parts.declaration a.op.0 ≡ r) parts.
 abbrev pub IsFreeAt : PartsValue → ℕ → Type 0
 IsFreeAt parts r = (IsLiveAt parts r → ⊥) × (slice_index_or parts.asked r false ≡ false)
 
--- the first refusal that applies to a device of this law
+-- the first reason that applies for refusing a device of this law
 abbrev pub IsPartsFault : PartsValue → ℕ → Law → ReplaceFault → Type 0
 IsPartsFault parts r law Busy = IsLiveAt parts r
 IsPartsFault parts r law Used = (IsLiveAt parts r → ⊥) × (slice_index_or parts.asked r false ≡ true)
 IsPartsFault parts r law OtherLaw = IsFreeAt parts r × (law ≢ (state_at parts.states r).law)
 
--- none applies
+-- no reason applies
 abbrev pub MayReplacePart : PartsValue → ℕ → Law → Type 0
 MayReplacePart parts r law = IsFreeAt parts r × (law ≡ (state_at parts.states r).law)
 
--- the parts with another device
+-- the parts with another device for the resource
 abbrev pub with_state : PartsValue → ℕ → State → PartsValue
 with_state parts r state = record parts { states = slice_set parts.states r state }

@@ -14,13 +14,13 @@ pub enum OpenFault {
     /// The room is 0 or above 1,048,576 lines.
     #[error("bad room")]
     BadRoom,
-    /// There isn't one device for each resource.
+    /// The number of devices isn't the number of resources.
     #[error("wrong count")]
     WrongCount,
-    /// This resource is the first whose law its device doesn't have.
+    /// This resource is the first whose device has another law.
     #[error("wrong device {number}", number = .0.0)]
     WrongDevice(ResId),
-    /// A growth of memory was refused.
+    /// An allocation failed.
     #[error("out of memory")]
     OutOfMemory,
 }
@@ -50,10 +50,10 @@ pub enum ReplaceFault {
     /// An activation of the resource is live.
     #[error("busy")]
     Busy,
-    /// A line of the journal asked the device.
+    /// A line of the journal has asked the resource's device.
     #[error("used")]
     Used,
-    /// The device that was handed in has another law.
+    /// The new device has another law than the resource.
     #[error("other law")]
     OtherLaw,
 }

@@ -1,4 +1,4 @@
-//! A process system over devices: what one attempt does, and the journal of all attempts.
+//! A system: a declaration over devices, what one attempt does to it, and the journal of all attempts.
 #![tactic(auto)]
 
 mod fault;

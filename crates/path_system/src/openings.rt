@@ -1,4 +1,4 @@
-//! What each device contained when it was taken, in places that are kept for it.
+//! What each device contained when the system took it, in memory that is reserved for it.
 
 ghost use Rattle.std.specs.Prelude.{◌≡◌, ◌<◌, ◌≤◌, ℕ, length, map, slice_set, vec_capacity, IfOk};
 ghost use Rattle.path_shelf.specs.States.{state_at};
@@ -11,7 +11,7 @@ use path_shelf::{Device, Shelf};
 use std::alloc::{Allocator, Global};
 use std::marker::Model;
 
-/// A row of numbers for each resource, with as many places as its law may ever need.
+/// One row of numbers for each resource, with capacity for as many as its law can ever need.
 #[derive(Drop)]
 pub struct Openings<A: Allocator + Copy = Global> {
     rows: Vec<Vec<u64, A>, A>,
@@ -26,7 +26,7 @@ impl<A: Allocator + Copy> Model for Openings<A> {
     ghost view = { λ o. map (λ row. record { numbers = row.items; places = vec_capacity row }) o.rows.items };
 }
 
-/// How many numbers a device of this law contains at most.
+/// The most numbers that a device of this law contains.
 fn places_for(law: Law) -> u32
     ensures { result ≡ places_of law }
 {
@@ -36,7 +36,7 @@ fn places_for(law: Law) -> u32
     }
 }
 
-/// Writes what the device of the resource contains, in place of what stood in the row.
+/// Overwrites the row with what the device of the resource contains. The row's capacity stays.
 fn write_contents<D: Device, A: Allocator + Copy>(
     row: &mut Vec<u64, A>,
     shelf: &Shelf<D, A>,
@@ -57,7 +57,7 @@ fn write_contents<D: Device, A: Allocator + Copy>(
 }
 
 impl<A: Allocator + Copy> Openings<A> {
-    /// An empty row for each resource of the declaration. The only error is want of memory.
+    /// An empty row for each resource of the declaration, with capacity for its law. Fails only if allocation fails.
     pub fn with_places(alloc: A, decl: &Decl<A>) -> Result<Openings<A>, OutOfMemory>
         ensures { IfOk result (λ openings. AreFor openings decl.now.declaration) }
     {
@@ -79,7 +79,7 @@ impl<A: Allocator + Copy> Openings<A> {
         self.rows.as_slice()
     }
 
-    /// Writes what the device of the resource contains into its row. All other rows stay.
+    /// Writes what the device of the resource contains into its row. The other rows don't change.
     pub fn write<D: Device>(&mut self, resource: ResId, shelf: &Shelf<D, A>)
         requires row { resource.0 < length self.old }
         requires declared { resource.0 < length shelf.now }
@@ -90,7 +90,7 @@ impl<A: Allocator + Copy> Openings<A> {
         write_contents(&mut self.rows[resource.0 as usize], shelf, resource);
     }
 
-    /// Writes what each of the devices contains.
+    /// Writes what each device contains into its row.
     pub fn write_all<D: Device>(&mut self, resources: u32, shelf: &Shelf<D, A>)
         requires rows { length self.old ≡ resources }
         requires devices { length shelf.now ≡ resources }

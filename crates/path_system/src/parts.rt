@@ -1,4 +1,4 @@
-//! The parts of a system. They fit one another, and know no journal.
+//! The parts of a system. They fit one another, but know nothing of the journal.
 
 ghost use Rattle.std.specs.Prelude.{◌≡◌, ◌≢◌, ◌+◌, ◌<◌, ◌≤◌, [], ◌↔◌, IsTrue, length, map, replicate, false, IfOk, IfErr};
 ghost use Rattle.path_model.specs.declared.journal.Reply.TheVariants as replies;
@@ -19,14 +19,14 @@ use path_trim::{Lean, trim};
 use std::alloc::{Allocator, Global};
 use std::marker::Model;
 
-/// The declaration, the gate, the ledger, the devices, and of each device whether it was asked.
+/// The declaration, the gate, the ledger, the devices, and for each device whether it has been asked.
 #[derive(Drop)]
 pub struct Parts<D: Device, A: Allocator + Copy = Global> {
     pub(crate) gate: Gate<A>,
     pub(crate) ledger: Ledger<A>,
     pub(crate) shelf: Shelf<D, A>,
     pub(crate) asked: Vec<bool, A>,
-    /// The last, since the many small blocks of its trees are given back fastest when no larger one follows.
+    /// Last, because the many small blocks of its trees are freed fastest when no larger block follows.
     pub(crate) decl: Decl<A>,
 }
 
@@ -49,7 +49,7 @@ impl<D: Device, A: Allocator + Copy> Model for Parts<D, A> {
     } };
 }
 
-/// What a device answered, as a reply.
+/// The reply for a device's answer.
 fn reply_of(answer: Result<u64, ActFault>) -> Reply
     ensures { result ≡ as_reply answer }
 {
@@ -63,7 +63,7 @@ fn reply_of(answer: Result<u64, ActFault>) -> Reply
     }
 }
 
-/// The semaphores of a declaration, without those that are useless.
+/// The semaphores of a declaration, without the useless ones. Fails only if allocation fails.
 fn trimmed<A: Allocator + Copy>(alloc: A, decl: &Decl<A>) -> Result<Lean<A>, OutOfMemory>
     ensures { IfOk result (λ lean. lean.trees ≡ declarations.trees decl.now.declaration) }
 {
@@ -82,7 +82,8 @@ pub fn resource_at<A: Allocator + Copy>(decl: &Decl<A>, op: OpId) -> ResId
     resource_of(decl, op).unwrap()
 }
 
-/// A gate at the empty history, an empty ledger, and for each resource that its device wasn't asked.
+/// A gate at the empty history, an empty ledger, and for each resource the mark that its device hasn't been asked. Fails only if
+/// allocation fails.
 fn unattempted<A: Allocator + Copy>(
     alloc: A,
     decl: &Decl<A>,
@@ -97,8 +98,9 @@ fn unattempted<A: Allocator + Copy>(
 }
 
 impl<D: Device, A: Allocator + Copy> Parts<D, A> {
-    /// The parts before any attempt: the gate at the empty history, nothing live, no device asked. All places are taken
-    /// now. It is a `WrongCount` or a `WrongDevice` as of a shelf, or want of memory; the devices then come back.
+    /// The parts before any attempt: the gate is at the empty history, nothing is live, no device has been asked. All
+    /// memory of the parts is allocated now. Fails with `WrongCount` or `WrongDevice` as a shelf does, or with `OutOfMemory` if
+    /// allocation fails; the devices then come back.
     pub fn open(
         alloc: A,
         decl: Decl<A>,
@@ -150,7 +152,7 @@ impl<D: Device, A: Allocator + Copy> Parts<D, A> {
         self.ledger.live().is_empty()
     }
 
-    /// A start, which there is room for.
+    /// Starts an operation. The caller has checked that there is room.
     fn start(&mut self, worker: u32, op: OpId) -> Reply
         requires room { length self.old.book.live < self.old.book.room }
         requires number { self.old.book.begun < 4294967295 }
@@ -167,7 +169,7 @@ impl<D: Device, A: Allocator + Copy> Parts<D, A> {
         }
     }
 
-    /// A use, which there is room for.
+    /// Uses an activation. The caller has checked that there is room.
     fn apply(&mut self, worker: u32, act: ActId, verb: Verb) -> Reply
         requires { AreReady self.old }
         ensures moves { MovesUse self.old worker verb (activation_of act self.old.book.live) result self.new }
@@ -186,7 +188,7 @@ impl<D: Device, A: Allocator + Copy> Parts<D, A> {
         }
     }
 
-    /// A finish, which there is room for or which needs none. The activation is looked for once.
+    /// Finishes an activation. The caller has checked that there is room, or that none is needed. Searches for the activation once.
     fn finish(&mut self, worker: u32, act: ActId) -> Reply
         requires { AreReady self.old }
         ensures moves { MovesFinish self.old worker act (activation_of act self.old.book.live) result self.new }
@@ -202,7 +204,7 @@ impl<D: Device, A: Allocator + Copy> Parts<D, A> {
         }
     }
 
-    /// One attempt after so many lines, in a journal of this room. It takes no memory. A use or a finish looks for its
+    /// Replies to one attempt after `lines` lines, in a journal of this room. Allocates nothing. A use or a finish searches for its
     /// activation once.
     pub fn answer(&mut self, room: u32, lines: usize, worker: u32, attempt: Attempt) -> Reply
         requires ready { AreReady self.old }

@@ -1,4 +1,4 @@
-//! Whether the device of a resource may be replaced, and the replacement among the parts.
+//! Whether the device of a resource may be replaced, and how the parts replace it.
 
 ghost use Rattle.std.specs.Prelude.{◌≡◌, ◌↔◌, ◌<◌, true, false, Any, IsTrue, length, slice_index_or, slice_set, IfErr, OnErr, OnOk};
 ghost use Rattle.path_model.specs.Declarations as declarations;
@@ -26,9 +26,9 @@ impl<D: Device, A: Allocator + Copy> Parts<D, A> {
         false
     }
 
-    /// Puts this device in the place of the resource's own, which is dropped; all else stays. The resource is declared. It
-    /// is refused where an activation of the resource is live, else where its device was asked, and else where the device
-    /// has another law. It then comes back, and the parts are as they were.
+    /// Puts this device in place of the resource's own, which is dropped; all else stays. The resource must be declared. Fails
+    /// with `Busy` if an activation of the resource is live, else with `Used` if its device has been asked, and else with
+    /// `OtherLaw` if the new device has another law. The new device then comes back, and the parts are as they were.
     pub fn replace(&mut self, resource: ResId, device: D) -> Result<(), (ReplaceFault, D)>
         requires ready { AreReady self.old }
         requires declared { resource.0 < length self.old.declaration.resources }

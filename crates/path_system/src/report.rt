@@ -10,20 +10,20 @@ use path_model::{Activation, OpId, OutOfMemory, PathId};
 use path_shelf::Device;
 use std::alloc::{Allocator, Global};
 
-/// The present state of a system, whatever room there is: which operations can be started, and what is live.
+/// What a system can do now, apart from room: which operations can be started, and which activations are live.
 #[derive(Drop)]
 pub struct Report<A: Allocator + Copy = Global> {
-    /// The declared operations of which a start would be admitted, in the order of the file.
+    /// The declared operations whose start would be admitted, in the order of the file.
     pub startable: Vec<OpId, A>,
     /// The other declared operations, in the order of the file, each with the first path that forbids its start.
     pub blocked: Vec<(OpId, PathId), A>,
-    /// What is live, in order of start.
+    /// The live activations, in the order of their starts.
     pub live: Vec<Activation, A>,
-    /// Whether nothing can be started and nothing is live: then nothing will ever be admitted again.
+    /// Whether nothing can be started and nothing is live. If so, nothing will ever be admitted again.
     pub frozen: bool,
 }
 
-/// The first operations, sorted by whether the gate would admit them.
+/// Sorts operations 0 to `operations - 1` by whether the gate would admit them. Fails only if allocation fails.
 fn sorted<A: Allocator + Copy>(
     alloc: A,
     operations: u32,
@@ -43,7 +43,7 @@ fn sorted<A: Allocator + Copy>(
     Ok((startable, blocked))
 }
 
-/// Whether there is nothing to start and nothing live.
+/// Whether nothing can be started and nothing is live.
 fn is_idle(startable: &[OpId], live: &[Activation]) -> bool
     ensures { IsTrue result ↔ ((startable.now ≡ []) × (live.now ≡ [])) }
 {
@@ -51,7 +51,7 @@ fn is_idle(startable: &[OpId], live: &[Activation]) -> bool
 }
 
 impl<D: Device, A: Allocator + Copy> Parts<D, A> {
-    /// The report of these parts. The only error is want of memory. The cost is one look at a prologue for each operation and each
+    /// The report of these parts. Fails only if allocation fails. The cost is one look at a prologue for each operation and each
     /// path that names it.
     pub fn report(&self, alloc: A) -> Result<Report<A>, OutOfMemory>
         ensures { IfOk result (λ report. IsReportAt self.now.standing (length self.now.declaration.operations) self.now.book.live

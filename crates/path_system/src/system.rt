@@ -1,4 +1,4 @@
-//! One system over devices, under one journal: starts, uses and finishes, step by step.
+//! One system over devices, with one journal: starts, uses and finishes, step by step.
 
 ghost use Rattle.std.specs.Prelude.{◌≡◌, ◌↔◌, ◌+◌, ◌<◌, ◌≤◌, List, [], length, vec_capacity};
 ghost use Rattle.std.specs.Prelude.{map, slice_get, slice_set, IsOk, IfOk, IfErr, OnOk, OnErr, IsTrue};
@@ -25,17 +25,17 @@ use path_shelf::Device;
 use std::alloc::{Allocator, Global};
 use std::marker::Model;
 
-/// A process system: a declaration with its gate, its ledger and its devices, and the journal of all that was attempted.
+/// A system: a declaration with its gate, its ledger and its devices, and the journal of all attempts.
 ///
-/// Contracts see the declaration, the room, what each device contained when it was taken, the journal, and how often each
-/// device has failed. All else follows from these: what may start, what is live, and what each device contains. To drop a
-/// system is to drop each device.
+/// Contracts see the declaration, the room, what each device contained when the system took it, the journal, and how often each
+/// device has failed. All else follows from these: what may start, what is live, and what each device contains. Dropping a
+/// system drops each device.
 #[derive(Drop)]
 pub struct System<D: Device, A: Allocator + Copy = Global> {
     openings: Openings<A>,
     journal: Vec<Line, A>,
     room: u32,
-    /// The last, as its declaration is.
+    /// Last, because `Parts` keeps its declaration last.
     parts: Parts<D, A>,
 }
 
@@ -68,7 +68,8 @@ fn is_no_room(reply: Reply) -> bool
     matches!(reply, Reply::NoRoom)
 }
 
-/// The places of a journal of this room, and of what each device contains when it is taken.
+/// Memory for a journal of this room, and for what each device contains when the system takes it. Fails with `BadRoom` if the
+/// room is 0 or above [`MOST_LINES`], else only if allocation fails.
 fn places<A: Allocator + Copy>(
     alloc: A,
     decl: &Decl<A>,
@@ -90,14 +91,14 @@ fn places<A: Allocator + Copy>(
 }
 
 impl<D: Device, A: Allocator + Copy> System<D, A> {
-    /// A system of this declaration over these devices, in which nothing was attempted. Its journal has room for so many
-    /// lines, 1 to [`MOST_LINES`].
+    /// Opens a system of this declaration over these devices, in which nothing has been attempted. Its journal has room for
+    /// `room` lines, 1 to [`MOST_LINES`].
     ///
-    /// It is a `BadRoom` exactly where the room is another number, and else a `WrongCount` or a `WrongDevice` as
-    /// [`Shelf::open`](path_shelf::Shelf::open) says; want of memory may come before these two. The devices then come back, in
-    /// their order, and the declaration is given up. All places are taken now, so no later call wants memory. The cost is that
-    /// of [`Gate::open`](path_gate::Gate::open), of one look at each device and at each number in it, and of the places of so
-    /// many lines and activations.
+    /// Fails with `BadRoom` exactly when the room is outside that range, and else with `WrongCount` or `WrongDevice` as
+    /// [`Shelf::open`](path_shelf::Shelf::open) does; `OutOfMemory` may come before these two. On failure the devices come back in
+    /// their order, and the declaration is dropped. All memory of the system is allocated now: no later step, replacement or
+    /// closing allocates. The cost is that of [`Gate::open`](path_gate::Gate::open), of a look at each device and at each number
+    /// in it, and of memory for `room` lines and activations.
     pub fn open(
         alloc: A,
         decl: Decl<A>,
@@ -130,14 +131,14 @@ impl<D: Device, A: Allocator + Copy> System<D, A> {
         })
     }
 
-    /// One attempt of a worker. The reply is the one that the journal owes to it, and the journal gains a line with
-    /// it; only for want of room it gains none.
+    /// Makes one attempt of a worker and returns the reply that the journal owes to it. The journal gains the line of the attempt
+    /// and this reply, but none for `NoRoom`.
     ///
-    /// A use asks the device of the activation's resource. It is `DeviceFailed` only where the law of that device would serve,
-    /// and if its count of failures rose by one in the call or stands at `u64::MAX`. All other counts stay.
+    /// A use asks the device of the activation's resource. The reply is `DeviceFailed` only if that device's law would have served
+    /// the use, and the device's count of failures rose by one in this call or is at `u64::MAX`. The other counts don't change.
     ///
-    /// It takes no memory. The cost is that of the gate for a start or a finish, and of a search among what is live for
-    /// a use or a finish, with the device's own call.
+    /// Allocates nothing. The cost is that of the gate for a start or a finish, and for a use or a finish a search among the live
+    /// activations; a use also costs the device's own call.
     pub fn step(&mut self, worker: u32, attempt: Attempt) -> Reply
         ensures owed { Owed self.old.declaration self.old.room self.old.openings self.old.journal worker attempt result }
         ensures journal { self.new ≡ record self.old {
@@ -148,7 +149,7 @@ impl<D: Device, A: Allocator + Copy> System<D, A> {
             self.old.failures self.new.failures }
         ensures failed { (result ≡ replies.DeviceFailed) → HasFailed (resource_asked self.old.declaration self.old.journal attempt result)
             self.old.failures self.new.failures }
-        // Where no device of the type ever fails, none is said to have failed.
+        // If no device of the type ever fails, the reply is never `DeviceFailed`.
         ensures may_fail { (result ≡ replies.DeviceFailed) → MayFail D.state }
     {
         let reply = self
@@ -164,8 +165,8 @@ impl<D: Device, A: Allocator + Copy> System<D, A> {
         reply
     }
 
-    /// All lines, in the order of the steps. Each reply was owed by the lines before it, and there is room for the
-    /// finish of all that is live.
+    /// All lines, in the order of the steps. Each reply was owed by the lines before it, and there is room left for the finishes
+    /// of all live activations.
     pub fn journal(&self) -> &[Line]
         ensures value { result.now ≡ self.now.journal }
         ensures honest { IsHonest self.now.declaration self.now.room self.now.openings self.now.journal }
@@ -174,18 +175,18 @@ impl<D: Device, A: Allocator + Copy> System<D, A> {
         self.journal.as_slice()
     }
 
-    /// The declaration under which the system was opened.
+    /// The declaration that the system was opened with.
     pub fn decl(&self) -> &Decl<A>
         ensures { result.now.declaration ≡ self.now.declaration }
     {
         self.parts.decl()
     }
 
-    /// Which declared operations can be started, and which not and why, in the order of the file; what is live, in order of start; and
-    /// whether nothing can be started and nothing is live. Room plays no part in it.
+    /// Reports which declared operations can be started and which can't, with the path that forbids each, in the order of the
+    /// file; what is live, in the order of the starts; and whether nothing can be started and nothing is live. Room plays no part.
     ///
-    /// Nothing changes. The only error is want of memory. The cost is one look at a prologue for each operation and each path that
-    /// names it, and a place for each operation and each live activation.
+    /// Changes nothing. Fails only if allocation fails. The cost is one look at a prologue for each operation and each path that
+    /// names it, and memory for each operation and each live activation.
     pub fn report(&self, alloc: A) -> Result<Report<A>, OutOfMemory>
         ensures { IfOk result (λ report. IsReport self.now.declaration self.now.journal
             report.startable.items report.blocked.items report.live.items report.frozen) }
@@ -193,14 +194,14 @@ impl<D: Device, A: Allocator + Copy> System<D, A> {
         self.parts.report(alloc)
     }
 
-    /// What each device contained when it was taken: by the opening of the system, or in place of another.
+    /// What each device contained when the system took it, at its opening or in place of another.
     pub fn openings(&self) -> &[Vec<u64, A>]
         ensures { map (λ row. row.items) result.now ≡ self.now.openings }
     {
         self.openings.rows()
     }
 
-    /// The number at a place of what a resource contains; `None` past the end. The resource is declared.
+    /// The number at this place of what a declared resource contains now; `None` past the end.
     pub fn contents(&self, resource: ResId, place: u32) -> Option<u64>
         requires { resource.0 < length self.now.declaration.resources }
         ensures { result ≡ slice_get (contents_after self.now.declaration self.now.openings self.now.journal resource.0) place }
@@ -208,13 +209,13 @@ impl<D: Device, A: Allocator + Copy> System<D, A> {
         self.parts.shelf().at(resource, place)
     }
 
-    /// Puts this device in the place of the resource's own, which is dropped. What it contains is then what the resource
-    /// contained from the opening on, and its count of failures is the resource's; all else stays. The resource is declared.
+    /// Puts this device in place of a declared resource's own, which is dropped. What the new device contains now counts as what
+    /// the resource contained from the opening on, and its count of failures becomes the resource's; all else stays.
     ///
-    /// It is `Busy` where an activation of the resource is live, else `Used` where a line of the journal asked its device, and
-    /// else `OtherLaw` where the device handed in has another law. The device then comes back, and the system is as it was.
+    /// Fails with `Busy` if an activation of the resource is live, else with `Used` if a line of the journal asked its device, and
+    /// else with `OtherLaw` if the new device has another law. The new device then comes back, and the system is as it was.
     ///
-    /// It takes no memory. The cost is that of a look at each live activation, and at each number in the device.
+    /// Allocates nothing. The cost is that of a look at each live activation, and at each number in the device.
     pub fn replace(&mut self, resource: ResId, device: D) -> Result<(), (ReplaceFault, D)>
         requires { resource.0 < length self.old.declaration.resources }
         ensures may { OnOk result (MayReplace self.old.declaration self.old.journal resource.0 (D.state device).law) }
@@ -229,8 +230,8 @@ impl<D: Device, A: Allocator + Copy> System<D, A> {
         Ok(())
     }
 
-    /// The journal, once nothing is live; each device is then dropped. While an activation is live, the system comes back
-    /// as it was. It takes no memory.
+    /// Ends the system if nothing is live: drops each device and returns the journal. If an activation is live, the system comes
+    /// back as it was. Allocates nothing.
     pub fn close(self) -> Result<Vec<Line, A>, System<D, A>>
         ensures closed { IsOk result ↔ (live self.journal ≡ []) }
         ensures journal { IfOk result (λ journal. journal.items ≡ self.journal) }

@@ -64,7 +64,7 @@ fn the_first_cause_counts(rt: HostRuntime) {
     all_trace(&rt, rt.alloc(), REFUSED);
 }
 
-/// The name of a row, a text, and how checking it ends.
+/// The name of a row, a text, and how a check of it ends.
 type Checked<'a> = (&'a str, &'a str, Ending<'a>);
 
 fn checks(rt: &impl Abort, heap: Global, name: &str, text: &str, want: Ending<'_>) {
@@ -106,7 +106,7 @@ fn other_trees(rt: HostRuntime) {
     all_check(&rt, rt.alloc(), CHECKED);
 }
 
-// A check into this writer ends with this status, having said that.
+// Checks that a check into this writer ends with this status and message.
 fn checks_into<O: Write>(
     rt: &impl Abort,
     heap: Global,
@@ -125,7 +125,7 @@ fn a_full_writer(rt: HostRuntime) {
     checks_into(&rt, rt.alloc(), SLOT, &mut Full, want);
 }
 
-// The texts are refused, and nothing can be told.
+// Checks that the texts are refused with StreamFailed if the fault can't be written.
 fn cannot_tell(rt: &impl Abort, heap: Global, text: &[u8], attempts: &[u8]) {
     let mut out = Vec::new(heap);
     let checked = check_to(heap, text, &mut out, &mut Full);
@@ -149,7 +149,7 @@ fn a_print_that_wants_memory(rt: HostRuntime) {
     assert_eq!(rt; out.bytes.as_slice(), b"resource slot c".as_slice());
 }
 
-// The status of a trace to which this request is refused, whether nothing was written, and whether the request was made.
+// The status of a trace whose request `number` is refused, whether nothing was written, and whether the request was made.
 fn traced_but(heap: Global, texts: (&str, &str), number: u64) -> (Status, bool, bool) {
     let (declaration, attempts) = (texts.0.as_bytes(), texts.1.as_bytes());
     let refusing = Refusing::new(heap, number);
@@ -167,7 +167,7 @@ fn traced_but(heap: Global, texts: (&str, &str), number: u64) -> (Status, bool, 
     (status, out.is_empty(), refusing.has_refused())
 }
 
-// Whether the request of this number was made and refused; the status then says so, and nothing was written.
+// Whether request `number` was made and refused. If so, checks that the status says so and that nothing was written.
 fn trace_is_refused_at(rt: &impl Abort, heap: Global, texts: (&str, &str), number: u64) -> bool {
     let (status, is_empty, is_refused) = traced_but(heap, texts, number);
     if is_refused {

@@ -1,4 +1,4 @@
-//! What a declaration is compiled to: its semaphores as they are translated, and as they are trimmed.
+//! What a declaration is compiled to: its semaphores before and after trimming.
 
 use crate::endings::{Ending, ends_so};
 use crate::writers::Full;
@@ -9,7 +9,7 @@ use std::process::Abort;
 
 const LONE_BURST: &[u8] = b"resource r cell operation a path { a } end end";
 
-// Compiling the text ends so.
+// Checks that compiling the text ends this way.
 fn compiles(rt: &impl Abort, heap: Global, name: &str, text: &str, want: Ending<'_>) {
     let mut out = Vec::new(heap);
     let mut err = Vec::new(heap);
@@ -20,7 +20,7 @@ fn compiles(rt: &impl Abort, heap: Global, name: &str, text: &str, want: Ending<
 /// The name of a row, a declaration, and how compiling it ends.
 type Compiled<'a> = (&'a str, &'a str, Ending<'a>);
 
-// Compiling each text ends so.
+// Checks that compiling each text ends as its row says.
 fn all_compile(rt: &impl Abort, heap: Global, rows: &[Compiled<'_>]) {
     for (name, text, want) in rows {
         compiles(rt, heap, name, text, *want);
@@ -127,7 +127,7 @@ fn worked_examples(rt: HostRuntime) {
     all_compile(&rt, rt.alloc(), COMPILED);
 }
 
-// Compiling the text into a writer that takes nothing says so.
+// Checks that compiling the text into a writer that takes nothing is reported.
 fn cannot_write(rt: &impl Abort, heap: Global, text: &[u8]) {
     let mut err = Vec::new(heap);
     let status = compile_to(heap, text, &mut Full, &mut err);

@@ -70,7 +70,7 @@ fn own_devices(rt: HostRuntime) {
     all_trace(&rt, rt.alloc(), OWN_DEVICES);
 }
 
-// A trace over these devices in this room ends so.
+// Checks that a trace over these devices in this room ends this way.
 fn traces_over<D: Device>(
     rt: &impl Abort,
     heap: Global,
@@ -184,7 +184,7 @@ fn devices_of_the_caller(rt: HostRuntime) {
     );
 }
 
-// A room, attempts, and how their trace over a tally ends where the declaration wants a cell. A text that is not right counts first.
+// A room, attempts, and how their trace over a tally ends if the declaration has a cell. A faulty text counts first.
 const TALLY_FOR_A_CELL: &[(u32, &str, Ending<'static>)] = &[
     (
         ROOM,
@@ -224,7 +224,7 @@ const PUT_TRACED: Ending<'static> = (
     "",
 );
 
-// Whether a trace over the program's own devices ends as it does with ample memory where this request is refused.
+// Whether no request `number` was made. Checks that a trace over the program's own devices ends as it should if it is refused.
 fn passes(rt: &impl Abort, heap: Global, texts: (&str, &str), number: u64) -> bool {
     let (declaration, attempts) = (texts.0.as_bytes(), texts.1.as_bytes());
     let refusing = Refusing::new(heap, number);

@@ -5,10 +5,10 @@ use path_trace::{ROOM, trace_bytes};
 use std::alloc::Global;
 use std::process::Abort;
 
-/// How a call ends: its status, what it writes on its output, and what it says on standard error.
+/// How a call ends: its status, its output, and its standard error.
 pub(crate) type Ending<'a> = (Status, &'a str, &'a str);
 
-/// The call of this name, which wrote and said this, ended as told.
+/// Checks that the call of this name ended as wanted.
 pub(crate) fn ends_so(
     rt: &impl Abort,
     name: &str,
@@ -19,7 +19,7 @@ pub(crate) fn ends_so(
     assert_eq!(rt; ended, want, "{name}");
 }
 
-/// A trace of attempts over the program's own devices ends so.
+/// Checks that a trace of attempts over the program's own devices ends this way.
 pub(crate) fn traces(
     rt: &impl Abort,
     heap: Global,
@@ -34,10 +34,10 @@ pub(crate) fn traces(
     ends_so(rt, name, (status, &out, &err), want);
 }
 
-/// The name of a row, a declaration and attempts, and the ending of the trace of these over the program's own devices.
+/// The name of a row, a declaration and attempts, and how their trace over the program's own devices ends.
 pub(crate) type Traced<'a> = (&'a str, (&'a str, &'a str), Ending<'a>);
 
-/// Each trace ends so.
+/// Checks that each trace ends as its row says.
 pub(crate) fn all_trace(rt: &impl Abort, heap: Global, rows: &[Traced<'_>]) {
     for (name, texts, want) in rows {
         traces(rt, heap, name, *texts, *want);

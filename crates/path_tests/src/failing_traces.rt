@@ -1,4 +1,4 @@
-//! Traces whose writers fail, or which want memory.
+//! Traces whose writers fail, or that run out of memory.
 
 use crate::endings::ends_so;
 use crate::trace::{SLOT, SLOT_ATTEMPTS, SLOT_TRACE, try_trace};
@@ -11,7 +11,7 @@ use std::alloc::Global;
 use std::io::{ErrorKind, Write};
 use std::process::Abort;
 
-// The slot's trace into a writer ends with this status, having said that.
+// Checks that the slot's trace into a writer ends with this status and message.
 fn fails_so<O: Write>(rt: &impl Abort, heap: Global, out: &mut O, want: (Status, &str)) {
     let mut err = Vec::new(heap);
     let tried = try_trace(heap, SLOT, ROOM, SLOT_ATTEMPTS, out, &mut err);
@@ -30,7 +30,7 @@ const NO_MEMORY: (Status, &str) = (Status::NoMemory, "out of memory\n");
 
 const PASSED: (Status, &str) = (Status::Done, "");
 
-// Of the slot's output so many bytes were taken, from the front.
+// Checks that the first `count` bytes of the slot's trace were taken.
 fn took(rt: &impl Abort, bytes: &[u8], count: usize, trace: &str) {
     assert!(rt;
         bytes.len() == count && trace.as_bytes().starts_with(bytes),
@@ -38,7 +38,7 @@ fn took(rt: &impl Abort, bytes: &[u8], count: usize, trace: &str) {
     );
 }
 
-// The slot's trace into a writer that fails at this write of five bytes, counted from 0, ends so.
+// Checks that the slot's trace into a writer that fails at this write of five bytes, counted from 0, ends this way.
 fn fails_at(rt: &impl Abort, heap: Global, write: u32, kind: ErrorKind, want: (Status, &str)) {
     let mut out = Failing::new(heap, write, kind);
     fails_so(rt, heap, &mut out, want);
@@ -102,7 +102,7 @@ fn a_fault_that_cannot_be_told(rt: HostRuntime) {
     assert_eq!(rt; (ended, out.is_empty()), (Ok(Status::StreamFailed), true));
 }
 
-// How the slot's trace ends where this request is refused, whether nothing was written, and whether the request was made.
+// How the slot's trace ends if request `number` is refused, whether nothing was written, and whether the request was made.
 fn tried_but(heap: Global, number: u64, room: u32) -> (Result<Status, DeclFault>, bool, bool) {
     let refusing = Refusing::new(heap, number);
     let mut out: Vec<u8> = Vec::new(heap);
@@ -111,7 +111,7 @@ fn tried_but(heap: Global, number: u64, room: u32) -> (Result<Status, DeclFault>
     (ended, out.is_empty(), refusing.has_refused())
 }
 
-// Whether memory was wanting, for the trace or for its declaration.
+// Whether memory ran out, for the trace or for its declaration.
 fn wants_memory(ended: Result<Status, DeclFault>) -> bool {
     match ended {
         Ok(status) => status == Status::NoMemory,
@@ -119,7 +119,7 @@ fn wants_memory(ended: Result<Status, DeclFault>) -> bool {
     }
 }
 
-// Whether the request of this number was made and refused; the status then says so, and nothing was written.
+// Whether request `number` was made and refused. If so, checks that the status says so and that nothing was written.
 fn is_refused_at(rt: &impl Abort, heap: Global, number: u64, room: u32) -> bool {
     let (ended, is_empty, is_refused) = tried_but(heap, number, room);
     if is_refused {
@@ -128,7 +128,7 @@ fn is_refused_at(rt: &impl Abort, heap: Global, number: u64, room: u32) -> bool 
     is_refused
 }
 
-// Each request is refused in turn, until the trace ends as it does with ample memory.
+// Refuses each request in turn, until the trace makes no further one.
 fn is_refused_in_turn(rt: &impl Abort, heap: Global, room: u32) {
     for number in 1..200u64 {
         if !is_refused_at(rt, heap, number, room) {

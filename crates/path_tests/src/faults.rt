@@ -56,7 +56,7 @@ const FAULTS: &[Row] = &[
     (Fault::OutOfMemory, 6, "out of memory\n"),
 ];
 
-// Whether a fault is told with this exit status and this text.
+// Whether a fault is written with this exit status and this text.
 fn is_told_so(heap: Global, fault: Fault<'_>, number: u8, want: &str) -> bool {
     let mut err: Vec<u8> = Vec::new(heap);
     let status = u8::from(tell(&mut err, fault));
@@ -65,7 +65,7 @@ fn is_told_so(heap: Global, fault: Fault<'_>, number: u8, want: &str) -> bool {
     is_so && status == number
 }
 
-// Each fault is told with this exit status and this text.
+// Checks that each fault is written with its exit status and text.
 fn are_told(rt: &impl Abort, heap: Global, rows: &[Row]) {
     for (fault, number, want) in rows {
         assert!(rt; is_told_so(heap, *fault, *number, want), "{fault:?}");
@@ -77,7 +77,7 @@ fn tells_each_fault(rt: HostRuntime) {
     are_told(&rt, rt.alloc(), FAULTS);
 }
 
-// What no fault is the cause of.
+// The numbers of the statuses that no fault has.
 #[test]
 fn numbers_of_verdicts(rt: HostRuntime) {
     let numbers = [u8::from(Status::Done), u8::from(Status::Unsound)];

@@ -7,7 +7,7 @@ use std::io;
 use std::io::{ErrorKind, Read};
 use std::process::Abort;
 
-/// A reader that gives a byte at a time, so many of them, and then fails.
+/// A reader that gives `left` bytes, one at a time, and then fails.
 #[derive(Drop)]
 struct Failing {
     left: u32,
@@ -24,7 +24,7 @@ impl Read for Failing {
     }
 }
 
-// What is read of a text where so many bytes are expected, at most three.
+// The bytes read of a text with this expectation, at most three.
 fn read<A: Allocator + Copy>(
     alloc: A,
     text: &str,
@@ -33,7 +33,7 @@ fn read<A: Allocator + Copy>(
     read_all(alloc, text.as_bytes(), expected, 3, "standard input")
 }
 
-// Whether the text is read whole where so many bytes are expected.
+// Whether the text is read whole with this expectation.
 fn is_read(heap: Global, text: &str, expected: usize) -> bool {
     match read(heap, text, expected) {
         Ok(bytes) => bytes.as_slice() == text.as_bytes(),
@@ -48,7 +48,7 @@ fn reads_up_to_the_limit(rt: HostRuntime) {
     }
 }
 
-// It was refused for this.
+// Checks that the fault is this one.
 fn is_fault(rt: &impl Abort, found: Option<Fault<'_>>, want: Fault<'_>) {
     assert_eq!(rt; found, Some(want));
 }
@@ -71,7 +71,7 @@ fn refuses_what_fails(rt: HostRuntime) {
 
 #[test]
 fn says_that_memory_is_wanting(rt: HostRuntime) {
-    // The places that are expected, and where more come, those.
+    // The memory for the expected bytes, and for more if more come.
     for request in 1..3 {
         let refusing = Refusing::new(rt.alloc(), request);
         let fault = read(&refusing, "abc", 0).err();

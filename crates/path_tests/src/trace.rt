@@ -30,7 +30,7 @@ fn cells_for<A: Allocator + Copy>(alloc: A, decl: &Decl<A>) -> Result<Vec<Cell, 
     Ok(cells)
 }
 
-// Traces the attempts over cells into the writers; none where the declaration or the cells want memory.
+// Traces the attempts over cells into the writers; fails if there is no memory for the declaration or the cells.
 pub(crate) fn try_trace<A: Allocator + Copy, O: Write, E: Write>(
     alloc: A,
     declaration: &str,
@@ -50,7 +50,7 @@ pub(crate) fn try_trace<A: Allocator + Copy, O: Write, E: Write>(
     }
 }
 
-// A trace of the attempts over cells in this room ends so.
+// Checks that a trace of the attempts over cells in this room ends this way.
 fn traces_in(
     rt: &impl Abort,
     heap: Global,
@@ -77,7 +77,7 @@ fn answers_so(rt: &impl Abort, heap: Global, declaration: &str, attempts: &str, 
     );
 }
 
-/// A declaration, attempts, and the trace of these over cells.
+/// A declaration, attempts, and their trace over cells.
 type Answered<'a> = (&'a str, &'a str, &'a str);
 
 fn all_answer_so(rt: &impl Abort, heap: Global, rows: &[Answered<'_>]) {
@@ -108,7 +108,7 @@ fn slot(rt: HostRuntime) {
     all_answer_so(&rt, rt.alloc(), SLOT_ANSWERED);
 }
 
-// Operations that one path or two forbid.
+// Operations that one path or two paths forbid.
 const BLOCKED: &[Answered<'static>] = &[
     (
         KNOT,
@@ -129,7 +129,7 @@ fn knot_fork_and_equal_paths(rt: HostRuntime) {
     all_answer_so(&rt, rt.alloc(), BLOCKED);
 }
 
-// Numbers of activations and operations that are another's, over or unknown.
+// Numbers of activations and operations that are another worker's, over or unknown.
 const OTHER_NUMBERS: &[Answered<'static>] = &[
     (
         SLOT,
@@ -159,7 +159,7 @@ fn put(rt: &impl Abort, text: &mut String, piece: &str) {
     assert!(rt; text.push_str(piece).is_ok());
 }
 
-// A start, uses of nothing up to the end of the room and one line past it, and two finishes of what was started.
+// A start, uses of nothing up to the end of the room and one line past it, and two finishes of the activation.
 fn attempts_past_the_room(rt: &impl Abort, heap: Global) -> String {
     let mut text = String::new(heap);
     put(rt, &mut text, "1 start deposit\n");
@@ -185,7 +185,7 @@ fn answers_past_the_room(rt: &impl Abort, heap: Global) -> String {
     text
 }
 
-// The last lines of the room answer; past it nothing has room but the finish of what is live.
+// The last lines of the room get replies; past it nothing has room except the finish of the live activation.
 #[test]
 fn room_ends(rt: HostRuntime) {
     let attempts = attempts_past_the_room(&rt, rt.alloc());
@@ -195,14 +195,14 @@ fn room_ends(rt: HostRuntime) {
 
 const BAD_FIRST_LINE: Ending<'static> = (Status::TextRefused, "", "text: bad line 0\n");
 
-// Each text is refused for its first line.
+// Checks that each text is refused for its first line.
 fn are_bad(rt: &impl Abort, heap: Global, texts: &[&str]) {
     for attempts in texts {
         traces_in(rt, heap, SLOT, ROOM, attempts, BAD_FIRST_LINE);
     }
 }
 
-// Each text is refused, and what is beside it said.
+// Checks that each text is refused with the message of its row.
 fn are_refused(rt: &impl Abort, heap: Global, rows: &[(&str, &str)]) {
     for (attempts, said) in rows {
         traces_in(
@@ -264,7 +264,7 @@ fn all_trace_in(rt: &impl Abort, heap: Global, rows: &[Roomed<'_>]) {
 
 const BAD_ROOM: Ending<'static> = (Status::CommandRefused, "", "open: bad room\n");
 
-// Rooms of which no journal is, with a text that is right and one that is not, which counts first.
+// Rooms out of range, with a good text and with a bad one, which counts first.
 const BAD_ROOMS: &[Roomed<'static>] = &[
     (0, "1 start deposit", BAD_ROOM),
     (0, "1 start #0", BAD_FIRST_LINE),

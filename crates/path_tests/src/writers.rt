@@ -1,10 +1,10 @@
-//! Writers that fail in one way each.
+//! Writers that each fail in one way.
 
 use std::alloc::Global;
 use std::io;
 use std::io::{ErrorKind, Write};
 
-/// Takes five bytes at a time and keeps them; after so many writes each fails with this kind of error.
+/// Takes five bytes at a time and keeps them; after `left` writes each write fails with this kind of error.
 #[derive(Drop)]
 pub struct Failing {
     pub bytes: Vec<u8>,
@@ -70,7 +70,7 @@ impl Write for Interrupted {
     }
 }
 
-/// Takes nothing, and says so.
+/// Takes nothing, and reports 0 bytes.
 #[derive(Drop)]
 pub struct Full;
 
@@ -84,7 +84,7 @@ impl Write for Full {
     }
 }
 
-/// Takes all, and fails with this kind of error where it is flushed.
+/// Takes everything, and fails with this kind of error when it is flushed.
 #[derive(Drop)]
 pub struct Unflushed(pub ErrorKind);
 

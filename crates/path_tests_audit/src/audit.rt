@@ -14,7 +14,7 @@ const TALLY: &[u8] = b"resource t tally operation a end";
 
 type Judged = (&'static str, u32, Result<Verdict, Refusal>);
 
-// Each text has this verdict in this room, if it names no other.
+// Checks that each text has this verdict in this room, if it names no other.
 fn are_judged_so(
     rt: &impl Abort,
     heap: Global,
@@ -28,7 +28,7 @@ fn are_judged_so(
     }
 }
 
-// The same where the one resource of this declaration opens with these numbers.
+// The same if the one resource of this declaration opens with these numbers.
 fn judges(rt: &impl Abort, heap: Global, declaration: &[u8], numbers: &[u64], rows: &[Judged]) {
     let decl = declared(rt, heap, declaration);
     let openings = opened(rt, heap, numbers);
@@ -110,7 +110,7 @@ fn audits_rows(rt: HostRuntime) {
 
 const BAD_HEAD: Result<Verdict, Refusal> = Err(Refusal::Text(TextFault::BadLine(0)));
 
-/// A text may name its room, from which no other room frees it.
+/// If a text names its room, the room that is given doesn't count.
 const ROOMS: [Judged; 8] = [
     (
         "journal 2 room 2\n1 start deposit: started 0\n1 finish 0: finished\n",
@@ -155,7 +155,7 @@ fn audits_in_the_room_of_the_text(rt: HostRuntime) {
     judges(&rt, rt.alloc(), SLOT, &[0], &ROOMS);
 }
 
-/// The largest numbers that lines can name.
+/// The largest numbers that a line can have.
 const LARGEST: [Judged; 9] = [
     (
         "1 use 18446744073709551615 look: stale\n",
@@ -234,7 +234,7 @@ fn audits_queues(rt: HostRuntime) {
     judges(&rt, rt.alloc(), QUEUE, &[5], &QUEUED);
 }
 
-/// Journals of the tally that opens with the number below the largest.
+/// Journals of the tally that opens with the largest number but one.
 const TOTALLED: [Judged; 2] = [
     (
         "1 start a: started 0\n1 use 0 add 1: used 18446744073709551615\n1 use 0 add 1: overflow\n\
@@ -254,7 +254,7 @@ fn audits_tallies(rt: HostRuntime) {
     judges(&rt, rt.alloc(), TALLY, &[u64::MAX - 1], &TOTALLED);
 }
 
-/// A room, what the one resource opens with, unless there are no openings at all, and what is found of no lines.
+/// A room, what the one resource opens with (`None` for no openings at all), and the result for no lines.
 type Opened = (u32, Option<&'static [u64]>, Result<Verdict, AuditFault>);
 
 const OF_SLOTS: [Opened; 9] = [
@@ -280,7 +280,7 @@ const OF_TALLIES: [Opened; 2] = [
     (64, Some(&[]), Err(AuditFault::BadOpening(ResId(0)))),
 ];
 
-// What is found of no lines.
+// The result for no lines.
 fn found(
     heap: Global,
     decl: &Decl,
@@ -290,7 +290,7 @@ fn found(
     audit(heap, decl, room, openings, &[])
 }
 
-// What is found of no lines where the one resource opens so, or where there are no openings.
+// The result for no lines if the one resource opens this way, or if there are no openings.
 fn found_so(
     rt: &impl Abort,
     heap: Global,
@@ -336,7 +336,7 @@ const SPELLED: [(AuditFault, &str); 4] = [
     (AuditFault::OutOfMemory, "out of memory"),
 ];
 
-// Whether a fault is spelled so.
+// Whether a fault has this text.
 fn is_spelled_so(heap: Global, fault: AuditFault, want: &str) -> bool {
     match format!(in heap; "{fault}") {
         Ok(text) => text.as_str() == want,

@@ -8,7 +8,7 @@ use path_model::{ActId, Line, OutOfMemory, PathId, Reply};
 use std::alloc::Global;
 use std::process::Abort;
 
-/// Each reply, with three numbers where it has one.
+/// Each reply, with three numbers if it has one.
 const REPLIES: [Reply; 19] = [
     Reply::Started(ActId(0)),
     Reply::Started(ActId(1)),
@@ -31,7 +31,7 @@ const REPLIES: [Reply; 19] = [
     Reply::NoRoom,
 ];
 
-// The lines, but that line `number` tells this reply.
+// The lines, with this reply in line `number`.
 fn with_reply(
     heap: Global,
     lines: &[Line],
@@ -50,8 +50,8 @@ fn with_reply(
     Ok(forged)
 }
 
-// What is found where line `number` of the deposit and its removal tells this reply in place of the one told: that line is wrong; but a
-// device that failed to put leaves the 0, so that the last line is, and after one that failed to look nothing is.
+// The verdict if line `number` of the deposit and its removal has this reply instead of its own: that line is wrong. But a device
+// that failed to put leaves the 0, so the last line is wrong; and if it failed to look, nothing is wrong.
 fn wanted(told: Reply, number: u32, reply: Reply) -> Verdict {
     if told == reply {
         return Verdict::Sound;
@@ -63,7 +63,7 @@ fn wanted(told: Reply, number: u32, reply: Reply) -> Verdict {
     }
 }
 
-// What is found of these lines of the slot.
+// The verdict on these lines of the slot.
 fn found(
     heap: Global,
     decl: &Decl,
@@ -73,7 +73,7 @@ fn found(
     audit(heap, decl, 4096, openings, lines)
 }
 
-// What is found where one line of these tells this reply.
+// The verdict if one of these lines has this reply.
 fn found_with(
     heap: Global,
     decl: &Decl,
@@ -92,7 +92,7 @@ fn found_with(
     }
 }
 
-// Each of these replies is found in one line.
+// Checks the verdict for each of these replies in one line.
 fn are_found(
     rt: &impl Abort,
     heap: Global,
@@ -113,7 +113,7 @@ fn are_found(
     }
 }
 
-// Each of these replies is found in each of the first six lines.
+// Checks the verdict for each of these replies in each of the first six lines.
 fn are_found_in_each(
     rt: &impl Abort,
     heap: Global,
@@ -127,7 +127,7 @@ fn are_found_in_each(
     }
 }
 
-// Each of these replies is found in each of the first six lines of a text, where the one resource opens with 0.
+// Checks the verdict for each of these replies in each of the first six lines of a text, if the one resource opens with 0.
 fn are_found_in(rt: &impl Abort, heap: Global, decl: &Decl, text: &str, replies: &[Reply]) {
     let openings = opened(rt, heap, &[0]);
     let journal = read_journal(heap, decl, text.as_bytes()).expect(rt, "it is a journal");

@@ -1,4 +1,4 @@
-//! Each request for memory of an audit refused.
+//! Refuses each request for memory of an audit.
 
 use crate::in_turn::refuse_in_turn;
 use crate::verdict::{DEPOSITED, Refusal, SLOT, opening, verdict};
@@ -29,7 +29,7 @@ fn is_sound_of<A: Allocator + Copy>(
     }
 }
 
-// Whether a text is a sound journal of another text's declaration.
+// Whether a text is a sound journal of the declaration in another text.
 fn is_sound<A: Allocator + Copy>(
     alloc: A,
     declaration: &[u8],

@@ -7,7 +7,7 @@ use path_model::{ActId, Attempt, Line, OpId, OutOfMemory, Reply};
 use std::alloc::Global;
 use std::process::Abort;
 
-/// An operation that any number of workers may be in.
+/// An operation that any number of workers can execute at once.
 const READERS: &[u8] = b"resource book cell operation read path { read } end end";
 
 // The line of a worker's start of its own activation.
@@ -28,7 +28,7 @@ fn finish_of(worker: u32) -> Line {
     }
 }
 
-// Adds a start for each of so many workers.
+// Adds the starts of `count` workers.
 fn add_starts(lines: &mut Vec<Line>, count: u32) -> Result<(), OutOfMemory> {
     for worker in 0..count {
         lines.push(start_of(worker))?;
@@ -36,7 +36,7 @@ fn add_starts(lines: &mut Vec<Line>, count: u32) -> Result<(), OutOfMemory> {
     Ok(())
 }
 
-// Adds their finishes, the last started first or in order of start.
+// Adds their finishes, the last started first or in the order of the starts.
 fn add_finishes(lines: &mut Vec<Line>, count: u32, last_first: bool) -> Result<(), OutOfMemory> {
     for n in 0..count {
         let worker = if last_first { count - 1 - n } else { n };
@@ -45,7 +45,7 @@ fn add_finishes(lines: &mut Vec<Line>, count: u32, last_first: bool) -> Result<(
     Ok(())
 }
 
-// The starts of so many activations and then their finishes.
+// The starts of `count` activations and then their finishes.
 fn overlapping(heap: Global, count: u32, last_first: bool) -> Result<Vec<Line>, OutOfMemory> {
     let mut lines = Vec::new(heap);
     add_starts(&mut lines, count)?;
@@ -53,7 +53,7 @@ fn overlapping(heap: Global, count: u32, last_first: bool) -> Result<Vec<Line>, 
     Ok(lines)
 }
 
-// What is found of these lines in this room.
+// The verdict on these lines in this room.
 fn found(
     heap: Global,
     decl: &Decl,
@@ -64,7 +64,7 @@ fn found(
     audit(heap, decl, room, openings, lines)
 }
 
-// What is found of these lines in a room for them, in one with a place less, and in a large one where a finish follows.
+// The verdicts on these lines in a room for them, in a room with one place less, and in a large room with a further finish.
 fn judged(
     rt: &impl Abort,
     heap: Global,
@@ -84,10 +84,10 @@ const JUDGED: [Result<Verdict, AuditFault>; 3] = [
     Ok(Verdict::WrongLine(600)),
 ];
 
-// The last start wants a room for all lines; and nothing finishes twice.
+// Checks that the last start needs room for all lines, and that nothing finishes twice.
 fn are_judged(rt: &impl Abort, heap: Global, decl: &Decl, last_first: bool) {
     let openings = opened(rt, heap, &[0]);
-    let mut lines = overlapping(heap, 300, last_first).expect(rt, "there is memory");
+    let mut lines = overlapping(heap, 300, last_first).expect(rt, "enough memory");
     let judged = judged(rt, heap, decl, &openings, &mut lines);
     drop(lines);
     drop(openings);

@@ -25,7 +25,7 @@ pub(crate) enum Refusal {
     Audit(AuditFault),
 }
 
-/// The declaration that a text is.
+/// The declaration in a text.
 pub(crate) fn declared(rt: &impl Abort, heap: Global, text: &[u8]) -> Decl {
     read(heap, text).expect(rt, "it is a declaration")
 }
@@ -40,9 +40,9 @@ pub(crate) fn opening<A: Allocator + Copy>(
     Ok(openings)
 }
 
-/// The same, where memory lasts.
+/// The same, when there is enough memory.
 pub(crate) fn opened(rt: &impl Abort, heap: Global, numbers: &[u64]) -> Vec<Vec<u64>> {
-    opening(heap, numbers).expect(rt, "there is memory")
+    opening(heap, numbers).expect(rt, "enough memory")
 }
 
 /// The verdict on a text of a journal, in the room that it names, or else in this one.

@@ -1,4 +1,4 @@
-//! What paths are compiled to, and the listings that show it.
+//! The code of paths, and the listings that show it.
 
 use crate::in_turn::refuse_in_turn;
 use path_code::{Code, Epilogue, OpCode, PathCode, Prologue, listing, translate};
@@ -91,7 +91,7 @@ m2 = 1
 d: PP(c2,m2,P(s5)) | VV(c2,m2,V(s5))
 ";
 
-// The declaration of a text, which is well formed.
+// The declaration of a well-formed text. Fails only if allocation fails.
 pub(crate) fn read_by<A: Allocator + Copy>(
     rt: &impl Abort,
     alloc: A,
@@ -149,7 +149,7 @@ pub(crate) fn listed(rt: &impl Abort, heap: Global, text: &str) -> String {
     listed
 }
 
-/// What was written is this.
+/// Checks that this text was written.
 pub(crate) fn expect_text(rt: &impl Abort, text: &str, want: &str) {
     assert_eq!(rt; text, want);
 }
@@ -187,7 +187,7 @@ d: P(s0) | V(s1)
 #2: P(s1) | V(s0)
 ";
 
-// The code of the one text is listed with the names of the other.
+// Checks the listing of the one text's code with the names of the other.
 fn lists_with(rt: &impl Abort, heap: Global, text: &str, names: &str, want: &str) {
     let decl = declared(rt, heap, text);
     let names = declared(rt, heap, names);
@@ -204,7 +204,7 @@ fn numbers_without_names(rt: HostRuntime) {
     lists_with(&rt, rt.alloc(), NUMBERED, names, NUMBERED_LISTING);
 }
 
-// What stands before and after the operations of the readers and writers.
+// The prologues and epilogues of the readers and writers.
 const BOOK_OPS: &[OpCode] = &[
     OpCode {
         op: OpId(0),
@@ -241,7 +241,7 @@ fn fields_of_a_path(rt: HostRuntime) {
     drop(decl);
 }
 
-// Of how many paths a declaration has code.
+// How many paths the code of a declaration has.
 fn count_paths<A: Allocator + Copy>(alloc: A, decl: &Decl<A>) -> Result<usize, OutOfMemory> {
     let code = translate(alloc, decl)?;
     let count = code.paths().len();
@@ -249,7 +249,7 @@ fn count_paths<A: Allocator + Copy>(alloc: A, decl: &Decl<A>) -> Result<usize, O
     Ok(count)
 }
 
-// Of how many paths a text has code.
+// How many paths the code of a text has.
 fn translates<A: Allocator + Copy>(
     rt: &impl Abort,
     alloc: A,
@@ -261,7 +261,7 @@ fn translates<A: Allocator + Copy>(
     count
 }
 
-// Reading and translating the text want memory in turn, until there is the code of so many paths.
+// Refuses each request of reading and translating the text in turn; then the code must have this many paths.
 fn translates_in_turn(rt: &impl Abort, heap: Global, text: &str, paths: usize) {
     refuse_in_turn(rt, heap, OutOfMemory, |refusing: &Refusing<Global>| {
         Ok(translates(rt, refusing, text)? == paths)
@@ -274,7 +274,7 @@ fn translating_wants_memory(rt: HostRuntime) {
     translates_in_turn(&rt, rt.alloc(), SEVERAL, 3);
 }
 
-// Whether the code is listed so.
+// Whether the code has this listing.
 fn is_listed<A: Allocator + Copy>(
     alloc: A,
     code: &Code<'_>,
@@ -286,7 +286,7 @@ fn is_listed<A: Allocator + Copy>(
     Ok(is_so)
 }
 
-// Listing the code wants memory in turn, until the listing is this one.
+// Refuses each request of the listing in turn; then it must be this one.
 fn lists_in_turn(rt: &impl Abort, heap: Global, code: &Code<'_>, want: &str) {
     refuse_in_turn(rt, heap, OutOfMemory, |refusing: &Refusing<Global>| {
         is_listed(refusing, code, want)

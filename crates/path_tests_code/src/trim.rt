@@ -1,4 +1,4 @@
-//! What compiled paths are trimmed to, and the listings that show it.
+//! Trimmed paths, and the listings that show them.
 
 use crate::code::{self, declared, expect_text, listed_code, read_by, translated};
 use crate::in_turn::refuse_in_turn;
@@ -90,15 +90,15 @@ fn trimmed(rt: &impl Abort, heap: Global, decl: &Decl) -> Lean {
     }
 }
 
-// The listing of what is left of a declaration's code, with the names of another one.
+// The listing of what trimming leaves of a declaration's code, with the names of another one.
 fn listed_with(rt: &impl Abort, heap: Global, decl: &Decl, names: &Decl) -> String {
     let lean = trimmed(rt, heap, decl);
     let text = lean_listing(heap, names, &lean);
     drop(lean);
-    text.expect(rt, "memory is ample")
+    text.expect(rt, "enough memory")
 }
 
-// The listing of what is left of the code of a text.
+// The listing of what trimming leaves of the code of a text.
 fn listed(rt: &impl Abort, heap: Global, text: &str) -> String {
     let decl = declared(rt, heap, text);
     let listed = listed_with(rt, heap, &decl, &decl);
@@ -106,7 +106,7 @@ fn listed(rt: &impl Abort, heap: Global, text: &str) -> String {
     listed
 }
 
-// A text, and the listing of what is left of its code.
+// A text, and the listing of what trimming leaves of its code.
 const LISTINGS: &[(&str, &str)] = &[
     (BOOK, BOOK_LISTING),
     (LONE, LONE_LISTING),
@@ -137,7 +137,7 @@ s1 = 1
 #1: P(s1) | V(s1)
 ";
 
-// What is left of the one text is listed with the names of the other.
+// Checks the listing of what trimming leaves of the one text, with the names of the other.
 fn lists_with(rt: &impl Abort, heap: Global, text: &str, names: &str, want: &str) {
     let decl = declared(rt, heap, text);
     let names = declared(rt, heap, names);
@@ -157,7 +157,7 @@ fn numbers_without_names(rt: HostRuntime) {
 
 const SECOND_SAME: Removed = Removed::SamePath(PathId(1), PathId(0));
 
-// What is removed of two paths that are braces round the same, with other bounds.
+// What is removed of two paths whose braces differ only in their bounds.
 const OTHER_BOUNDS: &[Removed] = &[
     Removed::Semaphore(0),
     Removed::Counter(0),
@@ -175,7 +175,7 @@ const REMOVED: &[(&str, &[Removed])] = &[
         "resource r cell operation a, b, c path a ; b ; c end path a ; ( b ; c ) end end",
         &[],
     ),
-    // The first equal path is named, and not the one before.
+    // The first equal path is named, not the nearest.
     (
         "resource r cell operation a, b path a end path b end path a end path (a) end end",
         &[
@@ -203,7 +203,7 @@ const REMOVED: &[(&str, &[Removed])] = &[
     ),
 ];
 
-// This is what was removed of the code of a text.
+// Checks that this was removed of the code of a text.
 fn expect_removed(rt: &impl Abort, removed: &[Removed], want: &[Removed], text: &str) {
     assert_eq!(rt; removed, want, "at {text:?}");
 }
@@ -227,7 +227,7 @@ fn removals(rt: HostRuntime) {
     removes_each(&rt, rt.alloc(), REMOVED);
 }
 
-// What is left of the operations of the readers and writers.
+// What trimming leaves of the operations of the readers and writers.
 const BOOK_OPS: &[LeanOp] = &[
     LeanOp {
         op: OpId(0),
@@ -264,7 +264,7 @@ fn fields_of_a_path(rt: HostRuntime) {
     drop(lean);
 }
 
-// How many paths are kept of a declaration's code. A refusal hands back the code, which is listed so.
+// How many paths are kept of a declaration's code. A refused request hands back the code, which must have this listing.
 fn count_kept<A: Allocator + Copy>(
     rt: &impl Abort,
     alloc: A,
@@ -288,7 +288,7 @@ fn count_kept<A: Allocator + Copy>(
     }
 }
 
-// How many paths are kept of the code of a text. A refusal hands back the code, which is listed so.
+// How many paths are kept of the code of a text. A refused request hands back the code, which must have this listing.
 fn trims<A: Allocator + Copy>(
     rt: &impl Abort,
     alloc: A,
@@ -302,7 +302,7 @@ fn trims<A: Allocator + Copy>(
     count
 }
 
-// Reading, translating and trimming want memory in turn, until so many paths are kept.
+// Refuses each request of reading, translating and trimming in turn; then this many paths must be kept.
 fn trims_in_turn(rt: &impl Abort, heap: Global, text: &str, paths: usize) {
     let whole = code::listed(rt, heap, text);
     let want = whole.as_str();
@@ -318,7 +318,7 @@ fn trimming_wants_memory(rt: HostRuntime) {
     trims_in_turn(&rt, rt.alloc(), BOOK, 1);
 }
 
-// Whether what is left is listed so.
+// Whether the listing of what is left is this one.
 fn is_listed<A: Allocator + Copy>(
     alloc: A,
     decl: &Decl,
@@ -331,7 +331,7 @@ fn is_listed<A: Allocator + Copy>(
     Ok(is_so)
 }
 
-// Listing what is left wants memory in turn, until the listing is this one.
+// Refuses each request of the listing of what is left in turn; then it must be this one.
 fn lists_in_turn(rt: &impl Abort, heap: Global, decl: &Decl, lean: &Lean, want: &str) {
     refuse_in_turn(rt, heap, OutOfMemory, |refusing: &Refusing<Global>| {
         is_listed(refusing, decl, lean, want)

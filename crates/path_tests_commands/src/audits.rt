@@ -8,7 +8,7 @@ use path_streams::Status;
 use std::alloc::Global;
 use std::process::Abort;
 
-/// A room and the text of a journal, and how its audit ends, what it writes and what it says.
+/// A room and the text of a journal, and how its audit ends: its status, its output and its standard error.
 type Row = (u32, &'static str, Status, &'static str, &'static str);
 
 const SLOT: &str = "resource slot cell operation deposit, remove path deposit ; remove end end";
@@ -57,7 +57,7 @@ const VERDICTS: &[Row] = &[
     ),
 ];
 
-/// The journal that a room of two lines holds, in texts of both versions.
+/// A journal that fills a room of two lines, in texts of both versions.
 const ROOMS: &[Row] = &[
     (
         1,
@@ -96,7 +96,7 @@ const ROOMS: &[Row] = &[
     ),
 ];
 
-/// What is no head, a bad line and a bad room: a fault of the text counts before the room.
+/// A bad head, a bad line and a bad room: a fault of the text counts before the room.
 const REFUSED: &[Row] = &[
     (
         2,
@@ -160,7 +160,7 @@ fn declared(rt: &impl Abort, heap: Global, text: &str) -> Decl {
     read(heap, text.as_bytes()).expect(rt, "it is a declaration")
 }
 
-// An audit of bytes ends so.
+// Checks that an audit of bytes ends this way.
 fn bytes_end_so(rt: &impl Abort, heap: Global, declaration: &str, row: &Row) {
     let mut out = Vec::new(heap);
     let mut err = Vec::new(heap);
@@ -169,7 +169,7 @@ fn bytes_end_so(rt: &impl Abort, heap: Global, declaration: &str, row: &Row) {
     ends_so(rt, row.1, (status, &out, &err), (row.2, row.3, row.4));
 }
 
-// An audit under a declaration that was read ends so.
+// Checks that an audit under a declaration that was read ends this way.
 fn audits_so(rt: &impl Abort, heap: Global, decl: Decl, row: &Row) {
     let mut out = Vec::new(heap);
     let mut err = Vec::new(heap);
@@ -177,7 +177,7 @@ fn audits_so(rt: &impl Abort, heap: Global, decl: Decl, row: &Row) {
     ends_so(rt, row.1, (status, &out, &err), (row.2, row.3, row.4));
 }
 
-// Both audits of each row end so.
+// Checks both audits of each row.
 fn all_end_so(rt: &impl Abort, heap: Global, declaration: &str, rows: &[Row]) {
     for row in rows {
         bytes_end_so(rt, heap, declaration, row);
@@ -195,7 +195,7 @@ fn the_text_brings_its_room(rt: HostRuntime) {
     all_end_so(&rt, rt.alloc(), SLOT, ROOMS);
 }
 
-/// A journal under no declaration.
+/// A journal under a text that isn't a declaration.
 const UNDECLARED: Row = (
     0,
     "journal 3",

@@ -1,4 +1,4 @@
-//! Each command once, for what all of them have to do alike.
+//! Each command once, for what all of them have in common.
 
 use path_commands::{audit_bytes, check_to, compile_to};
 use path_streams::Status;
@@ -7,10 +7,10 @@ use std::alloc::Allocator;
 use std::io::Write;
 use std::process::Abort;
 
-/// How a call ends: its status, what it writes on its output, and what it says on standard error.
+/// How a call ends: its status, its output, and its standard error.
 pub type Ending<'a> = (Status, &'a str, &'a str);
 
-/// The call on this text, which wrote and said this, ended as told.
+/// Checks that the call on this text ended as wanted.
 pub fn ends_so(rt: &impl Abort, text: &str, ended: (Status, &[u8], &[u8]), want: Ending<'_>) {
     let want = (want.0, want.1.as_bytes(), want.2.as_bytes());
     assert_eq!(rt; ended, want, "for {text:?}");

@@ -4,7 +4,7 @@ use std::alloc::Global;
 use std::io;
 use std::io::{ErrorKind, Write};
 
-/// Takes five bytes at a time and keeps them; after so many writes each fails with this kind of error.
+/// Takes five bytes at a time and keeps them; after `left` writes each write fails with this kind of error.
 #[derive(Drop)]
 pub struct Failing {
     pub bytes: Vec<u8>,

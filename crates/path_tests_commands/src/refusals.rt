@@ -1,4 +1,4 @@
-//! Writers that fail, and want of memory.
+//! Writers that fail, and memory that runs out.
 
 use crate::commands::{COMMANDS, Command, Row, ends, ends_so};
 use crate::failing::Failing;
@@ -8,7 +8,7 @@ use std::alloc::Global;
 use std::io::ErrorKind;
 use std::process::Abort;
 
-// The command ends with this status, having written that many bytes, a front of its text, and said that.
+// Checks that the command ends with this status and message, after writing the first bytes of its text, this many.
 fn fails_so(
     rt: &impl Abort,
     heap: Global,
@@ -23,7 +23,7 @@ fn fails_so(
     ends_so(rt, row.1, ended, (want.1, front, want.2));
 }
 
-// Each write fails in turn, of five bytes, and after the last one none does.
+// Lets each write of five bytes fail in turn; after the last write nothing fails.
 fn fails_in_turn(rt: &impl Abort, heap: Global, row: &Row) {
     let length = row.4.len();
     let writes = length.div_ceil(5);
@@ -51,10 +51,10 @@ fn each_write_fails_in_turn(rt: HostRuntime) {
     all_fail_in_turn(&rt, rt.alloc(), COMMANDS);
 }
 
-/// An audit under no declaration.
+/// An audit under a text that isn't a declaration.
 const UNDECLARED: Row = (Command::Audit, "", "", Status::DeclarationRefused, "");
 
-// Why the command isn't done can't be told, and nothing was written.
+// Checks that the status is StreamFailed if the fault can't be written, and that nothing was written.
 fn cannot_tell(rt: &impl Abort, heap: Global, row: &Row) {
     let mut out: Vec<u8> = Vec::new(heap);
     let mut err = Failing::new(heap, 0, ErrorKind::Other);
@@ -67,7 +67,7 @@ fn a_fault_that_cannot_be_told(rt: HostRuntime) {
     cannot_tell(&rt, rt.alloc(), &UNDECLARED);
 }
 
-// Whether the request of this number was made and refused; the status then says so, and nothing was written.
+// Whether request `number` was made and refused. Checks that the command then ends with NoMemory and writes nothing, else as its row says.
 fn is_refused_at(rt: &impl Abort, heap: Global, row: &Row, number: u64) -> bool {
     let refusing = Refusing::new(heap, number);
     let mut out = Vec::new(heap);
@@ -83,7 +83,7 @@ fn is_refused_at(rt: &impl Abort, heap: Global, row: &Row, number: u64) -> bool 
     is_refused
 }
 
-// Each request is refused in turn, until the command ends as it does with ample memory.
+// Refuses each request in turn, until the command makes no further one.
 fn is_refused_in_turn(rt: &impl Abort, heap: Global, row: &Row) {
     for number in 1..400u64 {
         if !is_refused_at(rt, heap, row, number) {

@@ -30,7 +30,7 @@ const ROWS: &[Row] = &[
         "",
         "startable deposit\nblocked remove 0\nfrozen no\n",
     ),
-    // The room plays no part.
+    // The room doesn't matter.
     (
         "resource slot cell operation deposit, remove path deposit ; remove end end",
         1,
@@ -46,7 +46,7 @@ const ROWS: &[Row] = &[
     ),
 ];
 
-// A trace with its report writes this.
+// Checks that a trace with its report writes this.
 fn reports_so(rt: &impl Abort, heap: Global, row: &Row) {
     let mut out = Vec::new(heap);
     let mut err = Vec::new(heap);
@@ -66,7 +66,7 @@ fn reports(rt: HostRuntime) {
     all_report_so(&rt, rt.alloc(), ROWS);
 }
 
-/// A room and attempts for a slot, and how a trace of them ends that writes nothing, and what it says.
+/// A room and attempts for a slot, and the status and message of their trace, which writes nothing.
 type Refused = (u32, &'static str, Status, &'static str);
 
 const SLOT: &str = "resource slot cell operation deposit, remove path deposit ; remove end end";
@@ -82,7 +82,7 @@ const REFUSED: &[Refused] = &[
     ),
 ];
 
-// A trace that is refused writes no report.
+// Checks that a trace that is refused writes no report.
 fn is_refused_so(rt: &impl Abort, heap: Global, declaration: &str, row: &Refused) {
     let mut out = Vec::new(heap);
     let mut err = Vec::new(heap);

@@ -1,4 +1,4 @@
-//! Braces, with a bound or without, and the faults that they bring.
+//! Braces, with and without a bound, and their faults.
 
 use crate::decl::{draws, expect, expect_faults, put, reads_in_turn};
 use path_lex::DeclFault;
@@ -21,7 +21,7 @@ fn trees_of_braces(rt: HostRuntime) {
     draws(&rt, rt.alloc(), TREES, DRAWN);
 }
 
-// A declaration of one operation, a, with this path has this fault, or none.
+// Checks that a declaration of one operation, a, with this path has this fault, or none.
 fn expect_path(rt: &impl Abort, heap: Global, path: &str, want: Option<DeclFault>) {
     let mut text = String::new(heap);
     put(rt, &mut text, "resource r cell operation a path ");
@@ -30,7 +30,7 @@ fn expect_path(rt: &impl Abort, heap: Global, path: &str, want: Option<DeclFault
     expect(rt, heap, &text, want);
 }
 
-// A declaration of one operation with each of these paths has the fault beside it.
+// Checks that a declaration of one operation with each of these paths has the fault of its row.
 fn paths_fault(rt: &impl Abort, heap: Global, rows: &[(&str, DeclFault)]) {
     for (path, want) in rows {
         expect_path(rt, heap, path, Some(*want));
@@ -75,7 +75,7 @@ fn unexpected_in_braces(rt: HostRuntime) {
     paths_fault(&rt, rt.alloc(), UNEXPECTED_IN_BRACES);
 }
 
-// Rules are broken at tokens, and the first token counts.
+// The first token that breaks a rule counts.
 const RULES_IN_THE_ORDER_OF_TOKENS: &[(&str, DeclFault)] = &[
     ("{ a ; { x } }", DeclFault::NestedBraces(39)),
     ("{ x ; { a } }", DeclFault::Undeclared(35)),
@@ -118,12 +118,12 @@ const OPENING: &str = "(((((((((((((((((((((((((((((((((";
 
 const CLOSING: &str = ")))))))))))))))))))))))))))))))))";
 
-// The first signs of a text, so many.
+// The first `count` signs of a text.
 fn signs<'t>(rt: &impl Abort, text: &'t str, count: usize) -> &'t str {
-    text.get(..count).expect(rt, "the text has so many signs")
+    text.get(..count).expect(rt, "the text is long enough")
 }
 
-// A path of so many parentheses, braces and again so many parentheses round an a has this fault, or none.
+// Checks that a path of parentheses, braces and parentheses again around an a has this fault, or none.
 fn deep(rt: &impl Abort, heap: Global, before: usize, within: usize, want: Option<DeclFault>) {
     let mut path = String::new(heap);
     put(rt, &mut path, signs(rt, OPENING, before));
@@ -145,7 +145,7 @@ fn depth_of_braces(rt: HostRuntime) {
     }
 }
 
-// What is too deep counts before what is nested.
+// Depth counts before nesting.
 const OPEN_BRACES: &[(&str, DeclFault)] = &[
     (
         "{{{{{{{{{{{{{{{{{{{{{{{{{{{{{{{{a}}}}}}}}}}}}}}}}}}}}}}}}}}}}}}}}",

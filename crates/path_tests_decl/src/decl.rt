@@ -1,4 +1,4 @@
-//! Texts, and what is read of them.
+//! Texts, and the declarations that are read from them.
 
 use crate::in_turn::refuse_in_turn;
 use path_decl::{
@@ -26,29 +26,29 @@ pub(crate) fn fault_of(heap: Global, text: &[u8]) -> Option<DeclFault> {
     read(heap, text).err()
 }
 
-// The text has this fault, or none.
+// Checks that the text has this fault, or none.
 pub(crate) fn expect(rt: &impl Abort, heap: Global, text: &str, want: Option<DeclFault>) {
     assert_eq!(rt; fault_of(heap, text.as_bytes()), want, "at {text:?}");
 }
 
-// Each text has the fault beside it.
+// Checks that each text has the fault of its row.
 pub(crate) fn expect_faults(rt: &impl Abort, heap: Global, rows: &[(&str, DeclFault)]) {
     for (text, want) in rows {
         expect(rt, heap, text, Some(*want));
     }
 }
 
-// The piece is put at the end of the text.
+// Appends the piece to the text.
 pub(crate) fn put(rt: &impl Abort, text: &mut String, piece: &str) {
-    assert!(rt; text.push_str(piece).is_ok(), "memory is ample");
+    assert!(rt; text.push_str(piece).is_ok(), "enough memory");
 }
 
-// The number is put at the end of the text.
+// Appends the number to the text.
 pub(crate) fn put_number(rt: &impl Abort, text: &mut String, number: u32) {
-    assert!(rt; write!(text, "{number}").is_ok(), "memory is ample");
+    assert!(rt; write!(text, "{number}").is_ok(), "enough memory");
 }
 
-// The tree in signs, operators first, is put at the end of the text.
+// Appends the tree in signs, operators first, to the text.
 fn draw(rt: &impl Abort, text: &mut String, tree: &Expr) {
     match tree {
         Expr::Op(op) => put_number(rt, text, op.0),
@@ -81,7 +81,7 @@ fn draw(rt: &impl Abort, text: &mut String, tree: &Expr) {
     }
 }
 
-// The drawn tree of a path, or of none.
+// The drawn tree of a path, or `none`.
 fn drawn(rt: &impl Abort, heap: Global, decl: &Decl, path: u32) -> String {
     let mut text = String::new(heap);
     match tree_of(decl, PathId(path)) {
@@ -91,12 +91,12 @@ fn drawn(rt: &impl Abort, heap: Global, decl: &Decl, path: u32) -> String {
     text
 }
 
-/// What was written is this.
+/// Checks that this text was written.
 pub(crate) fn expect_text(rt: &impl Abort, text: &str, want: &str) {
     assert_eq!(rt; text, want);
 }
 
-// The tree of each path is drawn so.
+// Checks that the tree of each path is drawn this way.
 fn are_drawn_so(rt: &impl Abort, heap: Global, decl: &Decl, rows: &[(u32, &str)]) {
     for (path, want) in rows {
         let text = drawn(rt, heap, decl, *path);
@@ -104,14 +104,14 @@ fn are_drawn_so(rt: &impl Abort, heap: Global, decl: &Decl, rows: &[(u32, &str)]
     }
 }
 
-// The tree of each path of the text is drawn so.
+// Checks that the tree of each path of the text is drawn this way.
 pub(crate) fn draws(rt: &impl Abort, heap: Global, text: &str, rows: &[(u32, &str)]) {
     let decl = declared(rt, heap, text);
     are_drawn_so(rt, heap, &decl, rows);
     drop(decl);
 }
 
-// The declaration of a text, which is well formed.
+// The declaration of a well-formed text.
 fn declared(rt: &impl Abort, heap: Global, text: &str) -> Decl {
     match read(heap, text.as_bytes()) {
         Ok(decl) => decl,
@@ -119,7 +119,7 @@ fn declared(rt: &impl Abort, heap: Global, text: &str) -> Decl {
     }
 }
 
-/// A name, and the operation and the resource that have it.
+/// A name, and the numbers of the operation and of the resource with this name.
 type Named<'a> = (&'a str, Option<OpId>, Option<ResId>);
 
 const NAMED: &[Named<'static>] = &[
@@ -292,7 +292,7 @@ fn paths_that_name(rt: HostRuntime) {
     drop(decl);
 }
 
-// Reading the text wants memory in turn, until it declares so many resources, operations and paths.
+// Refuses each request of reading the text in turn; then it must declare this many resources, operations and paths.
 pub(crate) fn reads_in_turn(rt: &impl Abort, heap: Global, text: &str, totals: (u32, u32, u32)) {
     refuse_in_turn(
         rt,

@@ -1,4 +1,4 @@
-//! Faults of texts, and what is told of them.
+//! Faults of texts, and their messages.
 
 use crate::decl::{expect_faults, expect_text};
 use path_lex::DeclFault;
@@ -66,7 +66,7 @@ fn broken_rules(rt: HostRuntime) {
     expect_faults(&rt, rt.alloc(), BROKEN_RULES);
 }
 
-// A later token that is worse counts before an earlier one.
+// The later token counts before the earlier one, because its fault counts first.
 const STAGES: &[(&str, DeclFault)] = &[
     (
         "resource r cell operation a, a end 1234567890 _",
@@ -109,9 +109,9 @@ const TOLD: &[(DeclFault, &str)] = &[
     (DeclFault::OutOfMemory, "out of memory"),
 ];
 
-// What is told of a fault.
+// The message of a fault.
 fn told(rt: &impl Abort, heap: Global, fault: DeclFault) -> String {
-    format!(in heap; "{fault}").expect(rt, "memory is ample")
+    format!(in heap; "{fault}").expect(rt, "enough memory")
 }
 
 fn expect_told(rt: &impl Abort, heap: Global, rows: &[(DeclFault, &str)]) {

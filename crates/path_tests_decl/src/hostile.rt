@@ -1,4 +1,4 @@
-//! Declarations cut short, and with one byte changed.
+//! Declarations that are cut short, or have one byte changed.
 
 use crate::decl::fault_of;
 use path_lex::DeclFault;
@@ -16,12 +16,12 @@ const DECLARATIONS: &[&str] = &[
     "resource q queue 1 operation a end",
 ];
 
-// Whether the grammar refuses the text, though its tokens are right.
+// Whether the grammar refuses the text although its tokens are right.
 fn is_refused(heap: Global, text: &[u8]) -> bool {
     matches!(fault_of(heap, text), Some(DeclFault::Unexpected(_)))
 }
 
-// Whether the first bad byte of the text is at this place.
+// Whether the first bad byte of the text is at this offset.
 fn is_bad_at(heap: Global, text: &[u8], place: usize) -> bool {
     match fault_of(heap, text) {
         Some(DeclFault::BadByte(at)) => at as usize == place,
@@ -29,14 +29,14 @@ fn is_bad_at(heap: Global, text: &[u8], place: usize) -> bool {
     }
 }
 
-// Whether there is an answer other than want of memory.
+// Whether reading gives a result or any error but OutOfMemory.
 fn is_answered(heap: Global, text: &[u8]) -> bool {
     fault_of(heap, text) != Some(DeclFault::OutOfMemory)
 }
 
-// The text with the byte at this place changed to another.
+// The text with the byte at this offset changed to another.
 fn changed(rt: &impl Abort, heap: Global, text: &[u8], place: usize, byte: u8) -> Vec<u8> {
-    let mut copy = text.to_vec(heap).expect(rt, "memory is ample");
+    let mut copy = text.to_vec(heap).expect(rt, "enough memory");
     match copy.get_mut(place) {
         Some(old) => *old = byte,
         None => panic!(rt; "the text has no byte {place}"),
@@ -44,7 +44,7 @@ fn changed(rt: &impl Abort, heap: Global, text: &[u8], place: usize, byte: u8) -
     copy
 }
 
-// Each front of the text but the whole is refused.
+// Checks that each front of the text, except the whole text, is refused.
 fn refuses_fronts(rt: &impl Abort, heap: Global, text: &[u8]) {
     for (length, _) in text.iter().enumerate() {
         let (front, _) = text.split_at(length);
@@ -59,7 +59,7 @@ fn each_front_is_refused(rt: HostRuntime) {
     }
 }
 
-// Each byte of the text, changed to this one, is the first bad byte.
+// Checks that each byte of the text, changed to this one, is the first bad byte.
 fn is_bad_anywhere(rt: &impl Abort, heap: Global, text: &[u8], byte: u8) {
     for (place, _) in text.iter().enumerate() {
         let copy = changed(rt, heap, text, place, byte);
@@ -75,7 +75,7 @@ fn bytes_of_no_token(rt: HostRuntime) {
     }
 }
 
-// An underscore is a bad byte where no letter stands before it.
+// An underscore is a bad byte if no letter is before it.
 fn is_bad_outside_words(rt: &impl Abort, heap: Global, text: &[u8]) {
     let mut is_in_word = false;
     for (place, byte) in text.iter().enumerate() {
@@ -93,7 +93,7 @@ fn underscores(rt: HostRuntime) {
     }
 }
 
-// The grammar refuses one opening brace more, and one in the place of any other byte.
+// Checks that the grammar refuses one more opening brace, and one instead of any other byte.
 fn refuses_braces(rt: &impl Abort, heap: Global, text: &[u8]) {
     for (place, byte) in text.iter().enumerate() {
         let copy = changed(rt, heap, text, place, b'{');

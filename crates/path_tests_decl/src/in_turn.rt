@@ -1,4 +1,4 @@
-//! Each request for memory refused in turn.
+//! Refuses each request for memory in turn.
 
 use refusing::Refusing;
 use std::alloc::Global;
@@ -7,7 +7,7 @@ use std::process::Abort;
 /// More requests than any call of these tests makes.
 const ENOUGH: u64 = 1_000;
 
-// Whether a call passed, to which one request was refused if it made so many.
+// Whether a call passed whose request `number`, if it made that many, was refused. Checks that its answer fits that.
 fn passes<E>(
     rt: &impl Abort,
     number: u64,
@@ -31,8 +31,8 @@ where
     }
 }
 
-/// Refuses the first request of a call, then the second, and so on until the call passes. At least one request has to
-/// be refused, each refusal has to answer `wanting`, and where none is left to refuse the call has to answer `true`.
+/// Refuses the first request of a call, then the second, and so on until the call passes. At least one request must be
+/// refused, each refused call must fail with `wanting`, and the call without a refused request must return `true`.
 pub(crate) fn refuse_in_turn<E, F>(rt: &impl Abort, heap: Global, wanting: E, call: F)
 where
     E: Copy + PartialEq,

@@ -1,4 +1,4 @@
-//! The laws of resources, and the faults of their capacities.
+//! The laws of resources, and the faults of capacities.
 
 use crate::decl::{SEVERAL, expect, expect_faults, put, put_number};
 use crate::in_turn::refuse_in_turn;
@@ -61,7 +61,7 @@ const CAPACITIES: &[(&str, Option<DeclFault>)] = &[
     ("1024", None),
 ];
 
-// A declaration of one resource, q, and one operation, with this capacity, has this fault, or none.
+// Checks that a declaration of one resource, q, and one operation, with this capacity, has this fault, or none.
 fn expect_capacity(rt: &impl Abort, heap: Global, digits: &str, want: Option<DeclFault>) {
     let mut text = String::new(heap);
     put(rt, &mut text, "resource q queue ");
@@ -117,7 +117,7 @@ fn unexpected_in_laws(rt: HostRuntime) {
     expect_faults(&rt, rt.alloc(), UNEXPECTED_IN_LAWS);
 }
 
-// Rules are broken at tokens, and the first token counts; the grammar counts before them.
+// The first token that breaks a rule counts; the grammar counts before the rules.
 const CAPACITIES_IN_THE_ORDER_OF_TOKENS: &[(&str, DeclFault)] = &[
     (
         "resource q cell operation a end resource q queue 0 operation b end",
@@ -151,7 +151,7 @@ fn capacities_in_the_order_of_tokens(rt: HostRuntime) {
     expect_faults(&rt, rt.alloc(), CAPACITIES_IN_THE_ORDER_OF_TOKENS);
 }
 
-// As many queues as a file may have, each with an operation, and then this text have this fault, or none.
+// Checks that as many queues as a file may have, each with an operation, followed by this text, have this fault, or none.
 fn after_queues(rt: &impl Abort, heap: Global, back: &str, want: Option<DeclFault>) {
     let mut text = String::new(heap);
     for number in 0..64 {
@@ -173,7 +173,7 @@ fn capacity_of_one_resource_too_many(rt: HostRuntime) {
     after_queues(&rt, rt.alloc(), "resource q queue 0 operation a end", fault);
 }
 
-// Reading the text wants memory in turn, until resource 1 has this law.
+// Refuses each request of reading the text in turn; then resource 1 must have this law.
 fn reads_law_in_turn(rt: &impl Abort, heap: Global, text: &str, law: Law) {
     refuse_in_turn(
         rt,

@@ -1,4 +1,4 @@
-//! What the plain types say of themselves.
+//! The texts of the plain types.
 
 use path_model::OutOfMemory;
 

@@ -1,4 +1,4 @@
-//! Texts that are no scripts, and what is said of them.
+//! Texts that aren't scripts, and their faults.
 
 use crate::declaration::declared;
 use crate::scripts::SLOT;
@@ -18,14 +18,14 @@ fn refusal(heap: Global, decl: &Decl, text: &str) -> Option<ScriptFault> {
     }
 }
 
-// Each text is refused as the fault beside it says.
+// Checks that each text is refused with the fault of its row.
 fn are_refused_so(rt: &impl Abort, heap: Global, decl: &Decl, rows: &[(&str, ScriptFault)]) {
     for (text, want) in rows {
         assert!(rt; refusal(heap, decl, text) == Some(*want), "at {text:?}");
     }
 }
 
-/// The worked faults; lines that can't stand where they do; and the first of two faulty lines.
+/// Worked faults; lines that can't come there; and the first of two faulty lines.
 const FAULTS: [(&str, ScriptFault); 20] = [
     ("process p\nleave\nend", ScriptFault::Unbalanced(1)),
     ("process p\nenter deposit\nend", ScriptFault::Unbalanced(2)),
@@ -65,7 +65,7 @@ fn refuses_faulty_lines(rt: HostRuntime) {
     drop(decl);
 }
 
-// Line 0 of each text is bad.
+// Checks that line 0 of each text is bad.
 fn are_bad(rt: &impl Abort, heap: Global, decl: &Decl, texts: &[&str]) {
     for text in texts {
         assert!(rt;
@@ -75,7 +75,7 @@ fn are_bad(rt: &impl Abort, heap: Global, decl: &Decl, texts: &[&str]) {
     }
 }
 
-/// No line `process NAME`: bytes around it, and names that are none.
+/// Lines that aren't `process NAME`: bytes around it, and names that aren't names.
 const NO_PROCESS: [&str; 9] = [
     "process",
     "process ",
@@ -95,7 +95,7 @@ fn refuses_what_names_no_process(rt: HostRuntime) {
     drop(decl);
 }
 
-// What is said of a line of a process that has entered an operation.
+// The fault of a line of a process that has entered an operation.
 fn said_of(heap: Global, decl: &Decl, line: &str) -> Option<ScriptFault> {
     match format!(in heap; "process p\nenter deposit\n{line}\nleave\nend") {
         Ok(text) => refusal(heap, decl, text.as_str()),
@@ -103,7 +103,7 @@ fn said_of(heap: Global, decl: &Decl, line: &str) -> Option<ScriptFault> {
     }
 }
 
-// Each line is bad there.
+// Checks that each line is bad there.
 fn are_bad_steps(rt: &impl Abort, heap: Global, decl: &Decl, lines: &[&str]) {
     for line in lines {
         assert!(rt;
@@ -113,7 +113,7 @@ fn are_bad_steps(rt: &impl Abort, heap: Global, decl: &Decl, lines: &[&str]) {
     }
 }
 
-/// No steps.
+/// Lines that aren't steps.
 const NO_STEP: [&str; 16] = [
     "",
     "enter",
@@ -140,7 +140,7 @@ fn refuses_what_is_no_step(rt: HostRuntime) {
     drop(decl);
 }
 
-// Whether a fault is spelled so.
+// Whether a fault has this text.
 fn is_spelled_so(heap: Global, fault: ScriptFault, want: &str) -> bool {
     match format!(in heap; "{fault}") {
         Ok(text) => text.as_str() == want,

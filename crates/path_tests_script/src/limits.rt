@@ -7,7 +7,7 @@ use path_script::{LIMIT, ScriptFault, read_script};
 use std::alloc::Global;
 use std::process::Abort;
 
-/// How many processes a text tells, and how many steps the first has.
+/// How many processes a text has, and how many steps the first one has.
 type Counted = Result<(usize, usize), ScriptFault>;
 
 fn counted(heap: Global, decl: &Decl, text: &str) -> Counted {
@@ -22,7 +22,7 @@ fn counted(heap: Global, decl: &Decl, text: &str) -> Counted {
     Ok((count, steps))
 }
 
-// A text of pieces, each so many times.
+// A text of pieces, each repeated this many times.
 fn repeated(rt: &impl Abort, heap: Global, pieces: &[(&str, u32)]) -> String {
     let mut text = String::new(heap);
     for (piece, times) in pieces {
@@ -37,7 +37,7 @@ fn repeat(rt: &impl Abort, text: &mut String, piece: &str, times: u32) {
     }
 }
 
-// Each text of pieces tells what stands beside it.
+// Checks that each text of pieces has the counts of its row.
 fn count_so(rt: &impl Abort, heap: Global, decl: &Decl, rows: &[(&[(&str, u32)], Counted)]) {
     for (pieces, want) in rows {
         let text = repeated(rt, heap, pieces);

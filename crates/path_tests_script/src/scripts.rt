@@ -28,7 +28,7 @@ fn are_these<A: Allocator + Copy>(processes: &[Process<A>], want: Told) -> bool 
     true
 }
 
-// Whether a text tells these processes.
+// Whether a text has these processes.
 fn tells<A: Allocator + Copy>(
     alloc: A,
     decl: &Decl,
@@ -41,14 +41,14 @@ fn tells<A: Allocator + Copy>(
     Ok(is_told)
 }
 
-// Each text tells the processes beside it.
+// Checks that each text has the processes of its row.
 fn tell_so(rt: &impl Abort, heap: Global, decl: &Decl, rows: &[(&str, Told)]) {
     for (text, want) in rows {
         assert!(rt; tells(heap, decl, text, want) == Ok(true), "at {text:?}");
     }
 }
 
-/// Each form of a step; processes of one name; texts without their last line feed; and a text without processes.
+/// Each form of a step; processes of the same name; texts without their last line feed; and a text without processes.
 const TEXTS: [(&str, Told<'static>); 6] = [
     (
         "process producer\nenter deposit\nuse put 7\nleave\nend\nprocess consumer\nenter remove\nuse look\nleave\nend\n",
@@ -96,7 +96,7 @@ fn reads_scripts(rt: HostRuntime) {
     drop(decl);
 }
 
-// Each request for memory of the reading of a text is refused in turn, and then these processes are read.
+// Refuses each request of reading a text in turn; then these processes must be read.
 fn is_refused_in_turn(rt: &impl Abort, heap: Global, decl: &Decl, text: &str, want: Told) {
     refuse_in_turn(
         rt,

@@ -1,4 +1,4 @@
-//! What each device answers, and what it then contains.
+//! How each device serves verbs, and what it then contains.
 
 use crate::own::FailingTally;
 use crate::remembering::Remembering;
@@ -8,12 +8,12 @@ use refusing::Refusing;
 use std::alloc::Global;
 use std::process::Abort;
 
-/// A verb, the answer to it, and what is contained afterwards.
+/// A verb, the answer to it, and the contents afterwards.
 type Row<'a> = (Verb, Result<u64, ActFault>, &'a [u64]);
 
 const NOT_OFFERED: Result<u64, ActFault> = Err(ActFault::NotOffered);
 
-// The device contains these numbers and no more.
+// Checks that the device contains these numbers and no more.
 fn contains<D: Device>(rt: &impl Abort, device: &D, numbers: &[u64]) {
     assert!(rt; numbers.len() < 10);
     for (place, number) in numbers.iter().enumerate() {
@@ -23,7 +23,7 @@ fn contains<D: Device>(rt: &impl Abort, device: &D, numbers: &[u64]) {
     assert!(rt; device.at(end).is_none() && device.at(u32::MAX).is_none());
 }
 
-// The device answers row by row.
+// Checks that the device answers row by row.
 fn answers_so<D: Device>(rt: &impl Abort, device: &mut D, rows: &[Row<'_>]) {
     for (verb, answer, contents) in rows {
         assert_eq!(rt; device.act(*verb), *answer);
@@ -31,7 +31,7 @@ fn answers_so<D: Device>(rt: &impl Abort, device: &mut D, rows: &[Row<'_>]) {
     }
 }
 
-// The device has this law, failed so often, and answers row by row without failing again.
+// Checks that the device has this law and this count of failures, and answers row by row without failing again.
 fn follows<D: Device>(rt: &impl Abort, device: &mut D, law: Law, failures: u64, rows: &[Row<'_>]) {
     for row in rows {
         answers_so(rt, device, &[*row]);
@@ -78,10 +78,10 @@ fn tally_at_the_end(rt: HostRuntime) {
     follows(&rt, &mut Tally::new(u64::MAX), Law::Tally, 0, FULL_TALLY);
 }
 
-// An empty queue of so many places answers row by row.
+// Checks that an empty queue of this capacity answers row by row.
 fn queue_follows(rt: &impl Abort, heap: Global, capacity: u32, rows: &[Row<'_>]) {
     assert!(rt; 1 <= capacity && capacity <= 1024);
-    let mut queue = Queue::new(heap, capacity).expect(rt, "memory is ample");
+    let mut queue = Queue::new(heap, capacity).expect(rt, "enough memory");
     follows(rt, &mut queue, Law::Queue(capacity), 0, rows);
     drop(queue);
 }
@@ -117,7 +117,7 @@ fn first_in_first_out(rt: HostRuntime) {
     queue_follows(&rt, rt.alloc(), 3, THREE_PLACES);
 }
 
-// The device takes so many numbers and no more.
+// Checks that the device takes `count` numbers and no more.
 fn is_filled<D: Device>(rt: &impl Abort, device: &mut D, count: u64) {
     for number in 0..count {
         assert!(rt; device.act(Verb::Put(number)) == Ok(number.saturating_add(1)));
@@ -125,7 +125,7 @@ fn is_filled<D: Device>(rt: &impl Abort, device: &mut D, count: u64) {
     assert!(rt; device.act(Verb::Put(0)) == Err(ActFault::Full));
 }
 
-// Without its first request there is no queue of so many places.
+// Checks that a queue of this capacity can't be made if its first request is refused.
 fn wants_memory(rt: &impl Abort, heap: Global, capacity: u32) {
     assert!(rt; 1 <= capacity && capacity <= 1024);
     let refusing = Refusing::new(heap, 1);
@@ -133,11 +133,11 @@ fn wants_memory(rt: &impl Abort, heap: Global, capacity: u32) {
     assert!(rt; fault == Some(OutOfMemory) && refusing.has_refused());
 }
 
-// A queue of so many places makes no second request.
+// Checks that a queue of this capacity makes no second request.
 fn wants_it_once(rt: &impl Abort, heap: Global, capacity: u32) {
     assert!(rt; 1 <= capacity && capacity <= 1024);
     let refusing = Refusing::new(heap, 2);
-    let mut queue = Queue::new(&refusing, capacity).expect(rt, "memory is ample");
+    let mut queue = Queue::new(&refusing, capacity).expect(rt, "enough memory");
     is_filled(rt, &mut queue, u64::from(capacity));
     drop(queue);
     assert!(rt; !refusing.has_refused());
@@ -151,7 +151,7 @@ fn queue_wants_memory_once(rt: HostRuntime) {
     }
 }
 
-// A tally that fails at this one of four uses.
+// Checks a tally that fails at this one of four uses.
 fn fails_once(rt: &impl Abort, fails_at: u64) {
     let mut tally = FailingTally {
         total: 0,
@@ -208,7 +208,7 @@ const REMEMBERED: &[Row<'static>] = &[
 
 #[test]
 fn remembering(rt: HostRuntime) {
-    let mut device = Remembering::new(rt.alloc(), 1, 2).expect(&rt, "memory is ample");
+    let mut device = Remembering::new(rt.alloc(), 1, 2).expect(&rt, "enough memory");
     answers_so(&rt, &mut device, REMEMBERED);
     let remembered = (device.failures(), device.history());
     assert_eq!(rt; remembered, (1, [1, 2].as_slice()));

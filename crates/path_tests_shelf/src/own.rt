@@ -1,4 +1,4 @@
-//! Devices of the tests' own.
+//! The tests' own devices.
 
 ghost use Rattle.std.specs.Prelude.{◌≡◌, [], ◌∷◌, IsTrue};
 ghost use Rattle.path_shelf.specs.States.{IsCounted};
@@ -9,7 +9,7 @@ use path_shelf::{ActFault, Device};
 use std::sync::Arc;
 use std::sync::atomic::{AtomicU32, Ordering};
 
-/// A tally that fails once, at the use of this number among those that its law would serve, counted from 1.
+/// A tally that fails once: at this one, counted from 1, of the uses that its law would serve.
 #[derive(Drop)]
 pub struct FailingTally {
     pub total: u64,
@@ -19,7 +19,7 @@ pub struct FailingTally {
 }
 
 impl FailingTally {
-    // Counts a use, and says whether it fails.
+    // Counts a use, and returns whether it fails.
     fn fails(&mut self) -> bool
         ensures total { self.new.total ≡ self.old.total }
         ensures counted { IsTrue result → IsCounted self.old.failures self.new.failures }

@@ -1,4 +1,4 @@
-//! A device of one's own: a cell that remembers what it held before.
+//! A caller's own device: a cell that remembers its earlier numbers.
 
 ghost use Rattle.std.specs.Prelude.{[], ◌∷◌};
 ghost use Rattle.path_model.specs.declared.resource.Law.TheVariants as laws;
@@ -7,17 +7,17 @@ use path_model::{Law, OutOfMemory, Verb};
 use path_shelf::{ActFault, Device};
 use std::alloc::Global;
 
-/// A cell that remembers each number that it held before. Once there is no place left for one more, a put fails.
+/// A cell that remembers each number that it contained before. When there is no room for another one, a put fails.
 #[derive(Drop)]
 pub struct Remembering {
     number: u64,
-    /// What it held before, the oldest first.
+    /// Its earlier numbers, the oldest first.
     history: Vec<u64>,
     failures: u64,
 }
 
 impl Remembering {
-    /// A cell that contains this number, with places for so many earlier ones. All are taken now.
+    /// A cell that contains this number, with room for `places` earlier ones. Allocates memory for all of them now.
     pub fn new(alloc: Global, number: u64, places: usize) -> Result<Remembering, OutOfMemory> {
         let history = Vec::with_capacity(alloc, places)?;
         Ok(Remembering {
@@ -27,7 +27,7 @@ impl Remembering {
         })
     }
 
-    /// What it held before, the oldest first.
+    /// Its earlier numbers, the oldest first.
     pub fn history(&self) -> &[u64] {
         &self.history
     }

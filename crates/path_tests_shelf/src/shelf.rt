@@ -32,21 +32,21 @@ fn two(rt: &impl Abort, alloc: Global) -> Decl {
 }
 
 fn cell(rt: &impl Abort, alloc: Global, number: u64) -> AnyDevice {
-    Box::new(alloc, Cell::new(number)).expect(rt, "memory is ample")
+    Box::new(alloc, Cell::new(number)).expect(rt, "enough memory")
 }
 
 fn tally(rt: &impl Abort, alloc: Global, total: u64) -> AnyDevice {
-    Box::new(alloc, Tally::new(total)).expect(rt, "memory is ample")
+    Box::new(alloc, Tally::new(total)).expect(rt, "enough memory")
 }
 
 fn queue(rt: &impl Abort, alloc: Global) -> AnyDevice {
-    let queue = Queue::new(alloc, 1).expect(rt, "memory is ample");
-    Box::new(alloc, queue).expect(rt, "memory is ample")
+    let queue = Queue::new(alloc, 1).expect(rt, "enough memory");
+    Box::new(alloc, queue).expect(rt, "enough memory")
 }
 
 fn remembering(rt: &impl Abort, alloc: Global, number: u64) -> AnyDevice {
-    let cell = Remembering::new(alloc, number, 1).expect(rt, "memory is ample");
-    Box::new(alloc, cell).expect(rt, "memory is ample")
+    let cell = Remembering::new(alloc, number, 1).expect(rt, "enough memory");
+    Box::new(alloc, cell).expect(rt, "enough memory")
 }
 
 fn failing_tally(rt: &impl Abort, alloc: Global) -> AnyDevice {
@@ -56,13 +56,13 @@ fn failing_tally(rt: &impl Abort, alloc: Global) -> AnyDevice {
         fails_at: 0,
         failures: 0,
     };
-    Box::new(alloc, tally).expect(rt, "memory is ample")
+    Box::new(alloc, tally).expect(rt, "enough memory")
 }
 
 // A cell that counts its drops.
 fn counted(rt: &impl Abort, alloc: Global, number: u64, drops: &Arc<AtomicU32>) -> AnyDevice {
     let drops = drops.clone().expect(rt, "clones are few");
-    Box::new(alloc, Counted { number, drops }).expect(rt, "memory is ample")
+    Box::new(alloc, Counted { number, drops }).expect(rt, "enough memory")
 }
 
 // Two devices, in order.
@@ -84,7 +84,7 @@ fn opened<D: Device>(rt: &impl Abort, devices: Vec<D>, decl: &Decl) -> Shelf<D>
     }
 }
 
-// The devices show these numbers, in order.
+// Checks that the devices contain these numbers, in order.
 fn show<D: Device>(rt: &impl Abort, devices: &[D], numbers: &[Option<u64>]) {
     assert!(rt; devices.len() == numbers.len());
     for (device, number) in devices.iter().zip(numbers) {
@@ -92,7 +92,7 @@ fn show<D: Device>(rt: &impl Abort, devices: &[D], numbers: &[Option<u64>]) {
     }
 }
 
-// They were refused so, and came back in order.
+// Checks that the devices were refused for this and came back in order.
 fn come_back<D: Device>(
     rt: &impl Abort,
     answer: &Result<Shelf<D>, (ShelfFault, Vec<D>)>,
@@ -108,7 +108,7 @@ fn come_back<D: Device>(
     }
 }
 
-// The devices are refused so, and come back in order: each shows its number.
+// Checks that the devices are refused for this and come back in order, each with its number.
 fn refused<D: Device>(
     rt: &impl Abort,
     devices: Vec<D>,
@@ -121,7 +121,7 @@ fn refused<D: Device>(
     drop(answer);
 }
 
-// Cells that contain 0, 1 and so on, so many of them.
+// `count` cells that contain 0, 1 and so on.
 fn cells(rt: &impl Abort, heap: Global, count: u64) -> Vec<AnyDevice> {
     let mut cells = Vec::new(heap);
     for number in 0..count {
@@ -162,7 +162,7 @@ fn first_of_another_law(rt: HostRuntime) {
     drop(decl);
 }
 
-// The answers to one use of each device, what they then show, and the answers to two more uses of the second.
+// The answers to one use of each device, what they then contain, and the answers to two more uses of the second.
 fn answers<D: Device>(
     shelf: &mut Shelf<D>,
 ) -> (
@@ -185,7 +185,7 @@ fn answers<D: Device>(
     (first, shown, later)
 }
 
-// A device acts, and the other stays.
+// Checks that a device acts and the other stays as it was.
 fn acts<D: Device>(rt: &impl Abort, devices: Vec<D>, decl: &Decl) {
     let mut shelf = opened(rt, devices, decl);
     let answers = answers(&mut shelf);
@@ -207,7 +207,7 @@ fn one_acts_and_the_other_stays(rt: HostRuntime) {
     drop(decl);
 }
 
-// A device of this law wasn't taken.
+// Checks that a device of this law came back.
 fn is_back<D: Device>(rt: &impl Abort, answer: &Result<(), D>, law: Law) {
     match answer {
         Ok(()) => panic!(rt; "it was taken"),
@@ -215,7 +215,7 @@ fn is_back<D: Device>(rt: &impl Abort, answer: &Result<(), D>, law: Law) {
     }
 }
 
-// Another cell takes the first place, and a tally doesn't.
+// Checks that another cell takes the first place, and that a tally doesn't.
 fn replaces<D: Device>(rt: &impl Abort, shelf: &mut Shelf<D>, cell: D, tally: D)
     requires { length shelf.old ≡ 2 }
 {
@@ -228,7 +228,7 @@ fn replaces<D: Device>(rt: &impl Abort, shelf: &mut Shelf<D>, cell: D, tally: D)
     assert_eq!(rt; (is_replaced, after), (true, [Some(1), Some(9), Some(2)]));
 }
 
-// What a shelf of these counts when a device is replaced.
+// Checks what a shelf of these counts when a device is replaced.
 fn counts_drops<D: Device>(
     rt: &impl Abort,
     devices: Vec<D>,

@@ -12,11 +12,11 @@ use std::sync::atomic::AtomicU32;
 pub(crate) type AnyDevice = Box<dyn Device + Send>;
 
 pub(crate) fn cell(rt: &impl Abort, alloc: Global, number: u64) -> AnyDevice {
-    Box::new(alloc, Cell::new(number)).expect(rt, "memory is ample")
+    Box::new(alloc, Cell::new(number)).expect(rt, "enough memory")
 }
 
 pub(crate) fn tally(rt: &impl Abort, alloc: Global, total: u64) -> AnyDevice {
-    Box::new(alloc, Tally::new(total)).expect(rt, "memory is ample")
+    Box::new(alloc, Tally::new(total)).expect(rt, "enough memory")
 }
 
 // Puts these numbers into the device.
@@ -26,15 +26,15 @@ fn fill<D: Device>(rt: &impl Abort, device: &mut D, numbers: &[u64]) {
     }
 }
 
-/// A queue of so many places, which contains these numbers.
+/// A queue of this capacity, which contains these numbers.
 pub(crate) fn queue(rt: &impl Abort, alloc: Global, places: u32, numbers: &[u64]) -> AnyDevice {
     assert!(rt; 1 <= places && places <= 1024);
-    let mut queue = Queue::new(alloc, places).expect(rt, "memory is ample");
+    let mut queue = Queue::new(alloc, places).expect(rt, "enough memory");
     fill(rt, &mut queue, numbers);
-    Box::new(alloc, queue).expect(rt, "memory is ample")
+    Box::new(alloc, queue).expect(rt, "enough memory")
 }
 
-/// A tally that fails at the use of this number, after so many failures.
+/// A tally that fails at the use of this number, and has failed this often before.
 pub(crate) fn failing_tally(
     rt: &impl Abort,
     alloc: Global,
@@ -48,7 +48,7 @@ pub(crate) fn failing_tally(
         fails_at,
         failures,
     };
-    Box::new(alloc, tally).expect(rt, "memory is ample")
+    Box::new(alloc, tally).expect(rt, "enough memory")
 }
 
 /// A cell that counts its drops.
@@ -59,10 +59,10 @@ pub(crate) fn counted(
     drops: &Arc<AtomicU32>,
 ) -> AnyDevice {
     let drops = drops.clone().expect(rt, "clones are few");
-    Box::new(alloc, Counted { number, drops }).expect(rt, "memory is ample")
+    Box::new(alloc, Counted { number, drops }).expect(rt, "enough memory")
 }
 
-/// A counter that stands at 0.
+/// A counter at 0.
 pub(crate) fn counter(rt: &impl Abort, alloc: Global) -> Arc<AtomicU32> {
-    Arc::new(alloc, AtomicU32::new(0)).expect(rt, "memory is ample")
+    Arc::new(alloc, AtomicU32::new(0)).expect(rt, "enough memory")
 }

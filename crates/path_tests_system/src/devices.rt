@@ -1,4 +1,4 @@
-//! Systems over boxes: what each kind of device answers behind its paths.
+//! Systems over boxes: how each kind of device serves behind its paths.
 
 use crate::boxes::{failing_tally, queue, tally};
 use crate::stepping::{Stage, answers};
@@ -126,7 +126,7 @@ const FAILING_STAGES: &[Stage<'static>] = &[
     ),
 ];
 
-// A device fails at its first call that its law would serve, and keeps its contents; so too where its count stands at its end.
+// A device fails at the first call that its law would serve, and keeps its contents; also if its count is at its maximum.
 #[test]
 fn failing_devices_keep_their_contents(rt: HostRuntime) {
     for failures in [0, 1, u64::MAX] {

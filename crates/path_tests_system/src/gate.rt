@@ -1,4 +1,4 @@
-//! Gates over worked examples: which starts each lets through, and which path it names.
+//! Gates over worked examples: which starts each admits, and which path it names.
 
 use crate::stepping::declared;
 use path_code::translate;
@@ -10,14 +10,14 @@ use refusing::Refusing;
 use std::alloc::{Allocator, Global};
 use std::process::Abort;
 
-// After a, one of two paths has to go on.
+// After a, one of two paths must go on.
 const FORK: &[u8] = b"resource r cell operation a, b, c path a ; b end path a ; c end end";
 
 // Readers overlap, and a writer is alone.
 const READERS_AND_WRITERS: &[u8] =
     b"resource book cell operation read, write path { read } , write end end";
 
-// A finish of a goes to either of two executions.
+// A finish of a belongs to either of two executions.
 const CROSSING_LABELS: &[u8] = b"resource r cell operation a, b path { a ; b } end end";
 
 // A burst of a, and then b.
@@ -26,7 +26,7 @@ const BURST_THEN_B: &[u8] = b"resource r cell operation a, b path { a } ; b end 
 // At most two readers at a time, or one writer.
 const POOL: &[u8] = b"resource r cell operation read, write path { read : 2 } , write end end";
 
-// At most two executions of a and then b are under way.
+// At most two executions of a and then b are in progress.
 const PIPE: &[u8] = b"resource r cell operation a, b path { a ; b : 2 } end end";
 
 // The gate of a declaration, compiled and trimmed.
@@ -38,7 +38,7 @@ fn gate_of<A: Allocator + Copy>(alloc: A, decl: &Decl<A>) -> Result<Gate<A>, Out
     }
 }
 
-// The gate of the declaration that a text is.
+// The gate of the declaration in a text.
 fn opened<A: Allocator + Copy>(
     rt: &impl Abort,
     alloc: A,
@@ -50,10 +50,10 @@ fn opened<A: Allocator + Copy>(
     gate
 }
 
-/// What happens at a gate.
+/// An event at a gate.
 #[derive(Clone, Copy)]
 enum Event {
-    /// A start of the operation is let through.
+    /// A start of the operation is admitted.
     Start(OpId),
     /// A start of the operation is blocked by this path.
     Blocked(OpId, PathId),
@@ -67,7 +67,7 @@ const B: OpId = OpId(1);
 
 const C: OpId = OpId(2);
 
-// A start answers so. A gate that is asked before answers the same.
+// Checks that a start gets this answer, and that `would_admit` gives the same one before.
 fn starts<M: Allocator + Copy>(
     rt: &impl Abort,
     gate: &mut Gate<M>,
@@ -98,8 +98,8 @@ fn all_happen_at<M: Allocator + Copy>(rt: &impl Abort, gate: &mut Gate<M>, event
     }
 }
 
-// All these events happen at the gate of the text. So many starts are then let through, and so many executions of the first
-// operation in progress.
+// Checks that all these events happen at the gate of the text, and then how many starts were admitted and how many executions of the
+// first operation are in progress.
 fn all_happen(
     rt: &impl Abort,
     heap: Global,
@@ -108,7 +108,7 @@ fn all_happen(
     admitted: u32,
     in_progress: u32,
 ) {
-    let mut gate = opened(rt, heap, text).expect(rt, "memory is ample");
+    let mut gate = opened(rt, heap, text).expect(rt, "enough memory");
     all_happen_at(rt, &mut gate, events);
     assert_eq!(rt;
         [gate.admitted(), gate.in_progress(A)],
@@ -222,7 +222,7 @@ fn pipe_gives_its_bound_back_at_the_end(rt: HostRuntime) {
     all_happen(&rt, rt.alloc(), PIPE, PIPE_EVENTS, 4, 1);
 }
 
-// What a new gate of the text answers to the second operation.
+// The answer of a new gate of the text to a start of the second operation.
 fn first_answer<M: Allocator + Copy>(
     rt: &impl Abort,
     alloc: M,
@@ -232,7 +232,7 @@ fn first_answer<M: Allocator + Copy>(
     Ok(gate.would_admit(B))
 }
 
-// Whether the gate of the text is opened where this request is refused.
+// Whether the gate of the text opens if request `number` is refused.
 fn opens_but(rt: &impl Abort, heap: Global, text: &[u8], number: u64) -> bool {
     let refusing = Refusing::new(heap, number);
     let answer = first_answer(rt, &refusing, text);

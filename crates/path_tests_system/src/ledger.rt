@@ -6,11 +6,11 @@ use refusing::Refusing;
 use std::alloc::{Allocator, Global};
 use std::process::Abort;
 
-// No activation has it: it is past 32 bits.
+// No activation has this number: it is past 32 bits.
 const NO_ACTIVATION: ActId = ActId(4294967296);
 
-/// What a ledger answers: the number of a first activation, what is found under it, what ends twice, the number of a
-/// second activation, and how many were begun.
+/// A ledger's answers: the number of a first activation, what is found by it, what ends twice, the number of a second activation,
+/// and how many were begun.
 type Answers = (ActId, [Option<Activation>; 3], ActId, u32);
 
 const FIRST: Activation = Activation {
@@ -42,7 +42,7 @@ fn ledger(rt: HostRuntime) {
     assert_eq!(rt; answers(&rt, rt.alloc()), Ok(ANSWERS));
 }
 
-// What a ledger answers where this request is refused, and whether that was made.
+// A ledger's answers if request `number` is refused, and whether that was made.
 fn answers_but(rt: &impl Abort, heap: Global, number: u64) -> (Result<Answers, OutOfMemory>, bool) {
     let refusing = Refusing::new(heap, number);
     let answers = answers(rt, &refusing);
@@ -73,14 +73,14 @@ fn found<A: Allocator + Copy>(ledger: &Ledger<A>, act: ActId) -> Option<u32> {
 
 // A ledger with one activation each of workers 10, 11 and 12.
 fn three_live(rt: &impl Abort, heap: Global) -> Ledger {
-    let mut ledger = Ledger::with_room(heap, 3).expect(rt, "memory is ample");
+    let mut ledger = Ledger::with_room(heap, 3).expect(rt, "enough memory");
     let _ = ledger.begin(10, OpId(5));
     let _ = ledger.begin(11, OpId(6));
     let _ = ledger.begin(12, OpId(7));
     ledger
 }
 
-// The workers of what ends twice, and then is found.
+// The workers of what ends twice, and is then found.
 fn ended_and_found(ledger: &mut Ledger) -> [Option<u32>; 5] {
     [
         ended(ledger, ActId(1)),
@@ -114,10 +114,10 @@ fn ended_own<A: Allocator + Copy>(
     }
 }
 
-/// What a worker is answered that ends an activation as its own, and how many are live then.
+/// The answer to a worker that ends an activation as its own, and how many are live then.
 type EndedOwn = (Result<OpId, EndFault>, usize);
 
-// A worker, the number that it ends, and what is answered.
+// A worker, the number that it ends, and the answer.
 const ENDED_OWN: &[(u32, ActId, EndedOwn)] = &[
     (11, ActId(0), (Err(EndFault::NotYours), 3)),
     (10, ActId(3), (Err(EndFault::Stale), 3)),

@@ -1,4 +1,4 @@
-//! Systems that aren't opened: the boxes come back, in order and with equal contents.
+//! Systems that can't be opened: the boxes come back in order, with the same contents.
 
 use crate::boxes::{AnyDevice, cell, queue, tally};
 use crate::stepping::{Opening, ROOM, SLOT, declared, lines, row_of, tried};
@@ -14,7 +14,7 @@ use std::process::Abort;
 const THREE: &[u8] =
     b"resource r cell operation a end resource s tally operation b end resource t queue 3 operation c end";
 
-// The device contains these numbers and no more.
+// Checks that the device contains these numbers and no more.
 fn shows<D: Device>(rt: &impl Abort, device: &D, numbers: &[u64]) {
     let mut place = 0u32;
     for number in numbers {
@@ -24,7 +24,7 @@ fn shows<D: Device>(rt: &impl Abort, device: &D, numbers: &[u64]) {
     assert!(rt; device.at(place).is_none());
 }
 
-// The devices contain these numbers, one after the other.
+// Checks that the devices contain these numbers, one device after the other.
 fn show<D: Device>(rt: &impl Abort, devices: &[D], contents: &[&[u64]]) {
     assert!(rt; devices.len() == contents.len());
     for (device, numbers) in devices.iter().zip(contents) {
@@ -32,7 +32,7 @@ fn show<D: Device>(rt: &impl Abort, devices: &[D], contents: &[&[u64]]) {
     }
 }
 
-// The devices are refused for this, and come back with these contents.
+// Checks that the devices are refused for this, and come back with these contents.
 fn come_back<D: Device, A: Allocator + Copy>(
     rt: &impl Abort,
     answer: &Opening<D, A>,
@@ -48,7 +48,7 @@ fn come_back<D: Device, A: Allocator + Copy>(
     }
 }
 
-// These devices make no system of the text in this room, and come back.
+// Checks that these devices make no system of the text in this room, and come back.
 fn refused<D: Device>(
     rt: &impl Abort,
     heap: Global,
@@ -58,13 +58,13 @@ fn refused<D: Device>(
     want: OpenFault,
     contents: &[&[u64]],
 ) {
-    let decl = declared(rt, heap, text).expect(rt, "memory is ample");
+    let decl = declared(rt, heap, text).expect(rt, "enough memory");
     let answer = tried(heap, decl, devices, room);
     come_back(rt, &answer, want, contents);
     drop(answer);
 }
 
-// A cell behind the slot is refused in this room.
+// Checks that a cell behind the slot is refused in this room.
 fn bad_room(rt: &impl Abort, heap: Global, room: u32) {
     let devices = row_of(rt, heap, [cell(rt, heap, 7)]);
     refused(rt, heap, SLOT, devices, room, OpenFault::BadRoom, &[&[7]]);
@@ -77,7 +77,7 @@ fn bad_rooms(rt: HostRuntime) {
     bad_room(&rt, rt.alloc(), u32::MAX);
 }
 
-// Two tallies behind the slot are refused, for this in this room.
+// Checks that two tallies behind the slot are refused for this in this room.
 fn two_tallies(rt: &impl Abort, heap: Global, room: u32, want: OpenFault) {
     let devices = row_of(rt, heap, [tally(rt, heap, 7), tally(rt, heap, 8)]);
     refused(rt, heap, SLOT, devices, room, want, &[&[7], &[8]]);
@@ -97,7 +97,7 @@ fn wrong_counts(rt: HostRuntime) {
         &[],
     );
     two_tallies(&rt, rt.alloc(), ROOM, OpenFault::WrongCount);
-    // A bad room is told first.
+    // A bad room counts first.
     two_tallies(&rt, rt.alloc(), 0, OpenFault::BadRoom);
 }
 
@@ -108,7 +108,7 @@ fn another_law(rt: HostRuntime) {
     refused(&rt, rt.alloc(), SLOT, devices, ROOM, want, &[&[7]]);
 }
 
-// Three devices, of which that of this resource has another law.
+// Checks three devices; the one of this resource has another law.
 fn one_of_another_law<D: Device>(rt: &impl Abort, heap: Global, devices: [D; 3], resource: ResId) {
     let devices = row_of(rt, heap, devices);
     let want = OpenFault::WrongDevice(resource);
@@ -137,7 +137,7 @@ fn queue_of_another_capacity(rt: HostRuntime) {
     one_of_another_law(&rt, heap, devices, ResId(2));
 }
 
-// Whether a system was opened. Where memory was wanting for that, the devices come back with these contents.
+// Whether a system was opened. If memory ran out, checks that the devices come back with these contents.
 fn is_open<D: Device, A: Allocator + Copy>(
     rt: &impl Abort,
     answer: &Opening<D, A>,
@@ -150,7 +150,7 @@ fn is_open<D: Device, A: Allocator + Copy>(
     false
 }
 
-// Whether a system of the devices is opened. Where memory is wanting for that, they come back.
+// Whether a system of the devices can be opened. If memory runs out, checks that they come back.
 fn opens<D: Device, A: Allocator + Copy>(
     rt: &impl Abort,
     alloc: A,
@@ -164,7 +164,7 @@ fn opens<D: Device, A: Allocator + Copy>(
     is_open
 }
 
-// Whether a system of the devices is opened where this request of its opening is refused.
+// Whether a system of the devices can be opened if this request of its opening is refused.
 fn opens_but<D: Device>(
     rt: &impl Abort,
     heap: Global,
@@ -174,7 +174,7 @@ fn opens_but<D: Device>(
 ) -> bool {
     let ample = Refusing::new(heap, 0);
     let refusing = Refusing::new(heap, number);
-    let decl = declared(rt, &ample, THREE).expect(rt, "memory is ample");
+    let decl = declared(rt, &ample, THREE).expect(rt, "enough memory");
     let devices = row_of(rt, &ample, devices);
     let is_open = opens(rt, &refusing, decl, devices, contents);
     assert_eq!(rt; is_open, !refusing.has_refused());

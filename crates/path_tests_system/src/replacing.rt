@@ -1,4 +1,4 @@
-//! Systems over boxes: whose devices are replaced and dropped, and when.
+//! Systems over boxes: which devices are replaced and dropped, and when.
 
 use crate::boxes::{cell, counted, counter, failing_tally, queue, tally};
 use crate::stepping::{ONLY, SLOT, Step, alone, contains, opened, row_of, steps};
@@ -31,7 +31,7 @@ const REMOVING: &[Step] = &[
 
 const REMOVED: &[Step] = &[(1, Attempt::Finish(ActId(1)), Reply::Finished)];
 
-// What it answers to replace the device of the only resource.
+// The answer to a replacement of the device of the only resource.
 fn replaced<D: Device>(
     rt: &impl Abort,
     system: &mut System<D>,
@@ -41,7 +41,7 @@ fn replaced<D: Device>(
     system.replace(ONLY, device)
 }
 
-// Why a device was refused, if it was, and the number in it, which else is this.
+// Why a device was refused, if it was, and the number in it; else no refusal and `number`.
 fn refusal<D: Device>(
     answer: &Result<(), (ReplaceFault, D)>,
     number: Option<u64>,
@@ -52,7 +52,7 @@ fn refusal<D: Device>(
     }
 }
 
-// The device of the only resource is replaced, or refused for this.
+// Checks that the device of the only resource is replaced, or refused for this.
 fn replaces<D: Device>(
     rt: &impl Abort,
     system: &mut System<D>,
@@ -77,7 +77,7 @@ fn replaces_next<D: Device>(
     replaces(rt, system, device, want);
 }
 
-// The system is closed, and gives so many lines.
+// Checks that the system closes and gives this many lines.
 fn closes<D: Device>(rt: &impl Abort, system: System<D>, lines: usize) {
     match system.close() {
         Ok(journal) => assert_eq!(rt; journal.len(), lines),
@@ -85,7 +85,7 @@ fn closes<D: Device>(rt: &impl Abort, system: System<D>, lines: usize) {
     }
 }
 
-// The system isn't closed.
+// Checks that the system can't be closed.
 fn stays_open<D: Device>(rt: &impl Abort, system: System<D>) -> System<D> {
     match system.close() {
         Ok(_) => panic!(rt; "nothing is live"),
@@ -93,7 +93,7 @@ fn stays_open<D: Device>(rt: &impl Abort, system: System<D>) -> System<D> {
     }
 }
 
-// The slot with a deposit that was live and is over.
+// The slot after a deposit that was live and is over.
 fn deposited<D: Device>(rt: &impl Abort, system: System<D>) -> System<D> {
     let mut system = system;
     steps(rt, &mut system, DEPOSITING);
@@ -102,7 +102,7 @@ fn deposited<D: Device>(rt: &impl Abort, system: System<D>) -> System<D> {
     system
 }
 
-// A slot with a cell is closed, which drops the cell; none is dropped before.
+// Checks that closing a slot drops its cell, and that nothing is dropped before.
 fn drops_at_the_end<D: Device>(rt: &impl Abort, alloc: Global, cell: D, drops: &AtomicU32) {
     let system = opened(rt, alloc, SLOT, alone(rt, alloc, cell));
     let system = deposited(rt, system);
@@ -119,7 +119,7 @@ fn closing_drops_each_device_once(rt: HostRuntime) {
     assert_eq!(rt; drops.load(Ordering::SeqCst), 1);
 }
 
-// While a deposit is live, the cell of the slot isn't replaced, and afterwards only by a cell.
+// Checks that the cell of the slot can't be replaced while a deposit is live, and afterwards only by a cell.
 fn kept<D: Device>(rt: &impl Abort, system: System<D>, others: &mut Vec<D>) -> System<D> {
     let mut system = system;
     steps(rt, &mut system, DEPOSITING);
@@ -131,7 +131,7 @@ fn kept<D: Device>(rt: &impl Abort, system: System<D>, others: &mut Vec<D>) -> S
     system
 }
 
-// Once its device was asked, the slot keeps it.
+// Checks that the slot keeps its device once it was asked.
 fn kept_to_the_end<D: Device>(rt: &impl Abort, system: System<D>, others: &mut Vec<D>) {
     let mut system = system;
     steps(rt, &mut system, REMOVING);
@@ -142,7 +142,7 @@ fn kept_to_the_end<D: Device>(rt: &impl Abort, system: System<D>, others: &mut V
     closes(rt, system, 5);
 }
 
-// A slot with a cell, which is replaced by another cell before it is asked, and never after that.
+// Checks that the cell of a slot can be replaced by another cell before it is asked, and never after that.
 fn replaces_and_closes<D: Device>(
     rt: &impl Abort,
     alloc: Global,
@@ -198,7 +198,7 @@ fn replaces_in_turn<D: Device>(
     }
 }
 
-// A queue is replaced by one with these numbers, and then by an empty one, but not by one of another capacity.
+// Checks that a queue can be replaced by one with these numbers, and then by an empty one, but not by one of another capacity.
 fn replaces_queues<D: Device>(rt: &impl Abort, alloc: Global, first: D, queues: &mut Vec<D>) {
     let mut system = opened(rt, alloc, PAIR, alone(rt, alloc, first));
     replaces_in_turn(rt, &mut system, queues, QUEUES_REPLACED);
@@ -230,7 +230,7 @@ const FAILED: &[Step] = &[
     (1, Attempt::Finish(ActId(0)), Reply::Finished),
 ];
 
-// A device was asked, also where it failed.
+// Checks that a device counts as asked even if it failed.
 fn kept_though_it_failed<D: Device>(rt: &impl Abort, alloc: Global, failing: D, other: D) {
     let mut system = opened(rt, alloc, SUM, alone(rt, alloc, failing));
     steps(rt, &mut system, FAILED);

@@ -17,7 +17,7 @@ const READ: Attempt = Attempt::Start(OpId(0));
 
 const WRITE: Attempt = Attempt::Start(OpId(1));
 
-/// What a report tells.
+/// The content of a report.
 struct Told<'a> {
     startable: &'a [OpId],
     blocked: &'a [(OpId, PathId)],
@@ -25,7 +25,7 @@ struct Told<'a> {
     frozen: bool,
 }
 
-// A system over one cell, after the steps, each of which is answered as told.
+// A system over one cell after the steps, each of which gets its reply.
 fn after<A: Allocator + Copy>(
     rt: &impl Abort,
     alloc: A,
@@ -52,7 +52,7 @@ fn tells<A: Allocator + Copy>(report: &Report<A>, want: &Told<'_>) -> bool {
         && report.frozen == want.frozen
 }
 
-// Whether the report tells this, if memory suffices for one.
+// Whether the report has this content, if there is enough memory for one.
 fn is_told<A: Allocator + Copy>(
     alloc: A,
     system: &System<Cell, A>,
@@ -62,7 +62,7 @@ fn is_told<A: Allocator + Copy>(
     Ok(tells(&report, want))
 }
 
-// After the steps the report tells this.
+// Checks that the report after the steps has this content.
 fn reports(rt: &impl Abort, heap: Global, text: &[u8], rows: &[Step], want: &Told<'_>) {
     let system = after(rt, heap, text, rows);
     let is_told = is_told(heap, &system, want);
@@ -144,7 +144,7 @@ const READ_AGAIN: &[Step] = &[
     (1, Attempt::Finish(ActId(0)), Reply::Finished),
 ];
 
-// Whether the report tells this where this request of it is refused, and whether that was made. The system goes on all the same.
+// Whether the report has this content if this request of it is refused, and whether that was made. The system stays usable.
 fn is_told_but(
     rt: &impl Abort,
     heap: Global,
@@ -162,7 +162,7 @@ fn is_told_but(
     (is_told, refusing.has_refused())
 }
 
-// Whether a report is made where this request of it is refused.
+// Whether no request `number` was made for a report. Checks the report, or that a refused request fails it.
 fn is_made(rt: &impl Abort, heap: Global, number: u64) -> bool {
     let (is_told, is_refused) = is_told_but(rt, heap, number, READ_ONCE, &READING, READ_AGAIN);
     let want = if is_refused {

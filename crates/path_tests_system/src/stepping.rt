@@ -1,4 +1,4 @@
-//! Systems over a text and its devices, and attempts that are answered as told.
+//! Systems over a text and its devices, and attempts that get the wanted replies.
 
 use path_decl::{Decl, counts};
 use path_lex::DeclFault;
@@ -12,7 +12,7 @@ use std::process::Abort;
 /// An attempt of a worker, and the reply to it.
 pub(crate) type Step = (u32, Attempt, Reply);
 
-/// Attempts with their replies, and what the only resource then contains.
+/// Attempts with their replies, and the contents of the only resource afterwards.
 pub(crate) type Stage<'a> = (&'a [Step], &'a [u64]);
 
 /// One resource, in which every deposit is followed by a remove.
@@ -22,10 +22,10 @@ pub(crate) const SLOT: &[u8] =
 /// The resource of a declaration that has only one.
 pub(crate) const ONLY: ResId = ResId(0);
 
-/// As many lines as the program has room for.
+/// The number of lines that the program has room for by default.
 pub(crate) const ROOM: u32 = 4096;
 
-/// The declaration that a text is.
+/// The declaration in a text.
 pub(crate) fn declared<A: Allocator + Copy>(
     rt: &impl Abort,
     alloc: A,
@@ -46,7 +46,7 @@ pub(crate) fn row_of<D: Device, A: Allocator + Copy, const N: usize>(
     alloc: A,
     devices: [D; N],
 ) -> Vec<D, A> {
-    Vec::from_array(alloc, devices).expect(rt, "memory is ample")
+    Vec::from_array(alloc, devices).expect(rt, "enough memory")
 }
 
 /// This device alone.
@@ -59,7 +59,7 @@ pub(crate) fn alone<D: Device>(rt: &impl Abort, alloc: Global, device: D) -> Vec
 /// A system, or why there is none, with the devices that come back.
 pub(crate) type Opening<D, A> = Result<System<D, A>, (OpenFault, Vec<D, A>)>;
 
-/// What the opening of a system answers.
+/// Opens a system.
 pub(crate) fn tried<D: Device, A: Allocator + Copy>(
     alloc: A,
     decl: Decl<A>,
@@ -76,14 +76,14 @@ pub(crate) fn opened<D: Device, A: Allocator + Copy>(
     text: &[u8],
     devices: Vec<D, A>,
 ) -> System<D, A> {
-    let decl = declared(rt, alloc, text).expect(rt, "memory is ample");
+    let decl = declared(rt, alloc, text).expect(rt, "enough memory");
     match tried(alloc, decl, devices, ROOM) {
         Ok(system) => system,
         Err(_) => panic!(rt; "it was refused"),
     }
 }
 
-/// Each attempt is answered as told.
+/// Checks that each attempt gets its reply.
 pub(crate) fn steps<D: Device, A: Allocator + Copy>(
     rt: &impl Abort,
     system: &mut System<D, A>,
@@ -109,7 +109,7 @@ pub(crate) fn held<D: Device, A: Allocator + Copy>(
     system.contents(ONLY, place)
 }
 
-/// The only resource contains these numbers and no more.
+/// Checks that the only resource contains these numbers and no more.
 pub(crate) fn contains<D: Device, A: Allocator + Copy>(
     rt: &impl Abort,
     system: &System<D, A>,
@@ -123,7 +123,7 @@ pub(crate) fn contains<D: Device, A: Allocator + Copy>(
     assert!(rt; held(rt, system, place).is_none() && held(rt, system, u32::MAX).is_none());
 }
 
-// The system is answered as told, stage by stage.
+// Checks the replies and the contents of the system, stage by stage.
 fn pass<D: Device>(rt: &impl Abort, system: &mut System<D>, stages: &[Stage<'_>]) {
     for (rows, numbers) in stages {
         steps(rt, system, rows);
@@ -131,7 +131,7 @@ fn pass<D: Device>(rt: &impl Abort, system: &mut System<D>, stages: &[Stage<'_>]
     }
 }
 
-/// A system of the text over this device is answered as told, stage by stage.
+/// Checks the replies and the contents of a system of the text over this device, stage by stage.
 pub(crate) fn answers<D: Device>(
     rt: &impl Abort,
     alloc: Global,

@@ -41,7 +41,7 @@ fn seen<A: Allocator + Copy>(rt: &impl Abort, system: &System<Cell, A>) -> Seen 
     (held(rt, system, 0), lines(system))
 }
 
-// What is seen of the slot after the steps, each of which is answered as told.
+// What is seen of the slot after the steps, each of which gets its reply.
 fn after<A: Allocator + Copy>(
     rt: &impl Abort,
     alloc: A,
@@ -71,7 +71,7 @@ fn slot_passes(rt: HostRuntime) {
     assert_eq!(rt; seen, Ok((Some(7), 6)));
 }
 
-// Whether the slot passes where this request is refused.
+// Whether no request `number` was made. Checks that the slot passes, or that a refused request fails it.
 fn passes(rt: &impl Abort, heap: Global, number: u64, rows: &[Step]) -> bool {
     let refusing = Refusing::new(heap, number);
     let seen = after(rt, &refusing, ROOM, rows);
@@ -158,7 +158,7 @@ fn rooms_are_taken_up_to_the_limit(rt: HostRuntime) {
 }
 
 fn tells<F: Display + Drop>(rt: &impl Abort, heap: Global, fault: F, want: &str) {
-    let text = format!(in heap; "{fault}").expect(rt, "memory is ample");
+    let text = format!(in heap; "{fault}").expect(rt, "enough memory");
     assert_eq!(rt; text.as_str(), want);
 }
 

@@ -12,10 +12,10 @@ use std::process::Abort;
 
 const DECLARATION: &[u8] = b"resource r cell operation a, b path a ; b end end";
 
-/// What a text of attempts tells: each attempt with its worker.
+/// The content of a text of attempts: each attempt with its worker.
 type Told<'a> = Result<&'a [(u32, Attempt)], TextFault>;
 
-// Whether this is what a text tells.
+// Whether a text has this content.
 fn tells(heap: Global, decl: &Decl, text: &str, want: Told) -> bool {
     match read_attempts(heap, decl, text.as_bytes()) {
         Ok(entries) => want == Ok(entries.as_slice()),
@@ -23,14 +23,14 @@ fn tells(heap: Global, decl: &Decl, text: &str, want: Told) -> bool {
     }
 }
 
-// Each text tells what stands beside it.
+// Checks that each text has the content of its row.
 fn tell_so(rt: &impl Abort, heap: Global, decl: &Decl, rows: &[(&str, Told)]) {
     for (text, want) in rows {
         assert!(rt; tells(heap, decl, text, *want), "at {text:?}");
     }
 }
 
-/// Each form; texts without their last line feed; and texts with a line that is none, of which the first is named.
+/// Each form; texts without their last line feed; and texts with a line that isn't an attempt, of which the first is named.
 const TEXTS: [(&str, Told<'static>); 8] = [
     (
         "0 start b\n1 use 2 put 3\n4 use 5 take\n6 use 7 look\n8 use 9 add 10\n11 finish 12",
@@ -65,12 +65,12 @@ fn reads_attempts(rt: HostRuntime) {
     drop(decl);
 }
 
-// What the first line of a text tells.
+// The attempt in the first line of a text.
 fn first_line(decl: &Decl, text: &str) -> Result<FirstLine, LineFault> {
     first_entry(decl, text.as_bytes())
 }
 
-// What the first line of each text tells: the worker, the attempt, and its length.
+// Checks the first line of each text: the worker, the attempt, and its length.
 fn first_lines_tell(rt: &impl Abort, decl: &Decl, rows: &[(&str, u32, Attempt, usize)]) {
     for (text, worker, attempt, length) in rows {
         let want = FirstLine {
@@ -114,14 +114,14 @@ const FIRST_LINES: [(&str, u32, Attempt, usize); 9] = [
     ("7 finish 10\n", 7, Attempt::Finish(ActId(10)), 11),
 ];
 
-// The first line of each text has this fault.
+// Checks that the first line of each text has this fault.
 fn first_lines_fault(rt: &impl Abort, decl: &Decl, texts: &[&str], want: LineFault) {
     for text in texts {
         assert!(rt; first_line(decl, text) == Err(want), "at {text:?}");
     }
 }
 
-/// No first line of these is an attempt. The declaration has the operations 0 and 1.
+/// The first line of each of these isn't an attempt. The declaration has the operations 0 and 1.
 const BAD: [&str; 41] = [
     "",
     "\n1 start a",
@@ -166,7 +166,7 @@ const BAD: [&str; 41] = [
     "%",
 ];
 
-/// The first line of each of these names no operation that is declared.
+/// The first line of each of these names an operation that isn't declared.
 const UNDECLARED: [&str; 4] = [
     "1 start c",
     "1 start c\n1 start a\n",
@@ -174,7 +174,7 @@ const UNDECLARED: [&str; 4] = [
     "1 start abcdefghijklmnopqrstuvwxyzabcdef",
 ];
 
-/// What a line tells, and nothing of what follows it.
+/// A line is read without what follows it.
 #[test]
 fn reads_the_first_line(rt: HostRuntime) {
     let decl = declared(&rt, rt.alloc(), DECLARATION);
@@ -199,7 +199,7 @@ fn places_a_fault(rt: HostRuntime) {
     assert!(rt; faults == [TextFault::BadLine(3), TextFault::Undeclared(3)]);
 }
 
-// Whether this attempt is written so, with a reply.
+// Whether this attempt, with a reply, is written this way.
 fn is_written_so(heap: Global, decl: &Decl, first: FirstLine, want: &str) -> bool {
     let line = Line {
         worker: first.worker,
@@ -212,7 +212,7 @@ fn is_written_so(heap: Global, decl: &Decl, first: FirstLine, want: &str) -> boo
     }
 }
 
-// Whether this text of an attempt is written again as that text.
+// Whether an attempt that is read from this text is written as that text.
 fn is_written_back(heap: Global, decl: &Decl, text: &str, want: &str) -> bool {
     match first_line(decl, text) {
         Ok(first) => is_written_so(heap, decl, first, want),
@@ -220,14 +220,14 @@ fn is_written_back(heap: Global, decl: &Decl, text: &str, want: &str) -> bool {
     }
 }
 
-// Each text of an attempt is written again as the text beside it.
+// Checks that the attempt in each text is written as the text of its row.
 fn are_written_back(rt: &impl Abort, heap: Global, decl: &Decl, rows: &[(&str, &str)]) {
     for (text, want) in rows {
         assert!(rt; is_written_back(heap, decl, text, want), "at {text}");
     }
 }
 
-/// Numbers of operations and activations, at the ends of what a line can name, and what is written of each.
+/// Numbers of operations and activations at the ends of their ranges, and how they are written.
 const WRITTEN_BACK: [(&str, &str); 6] = [
     ("1 start #256", "1 start #256: unknown operation"),
     ("1 start #2", "1 start #2: unknown operation"),
@@ -249,7 +249,7 @@ const WRITTEN_BACK: [(&str, &str); 6] = [
     ),
 ];
 
-/// An operation that isn't declared is read by its number, and written so again.
+/// An operation that isn't declared is read by its number, and written by it.
 #[test]
 fn numbers_are_written_back(rt: HostRuntime) {
     let decl = declared(&rt, rt.alloc(), DECLARATION);
@@ -257,7 +257,7 @@ fn numbers_are_written_back(rt: HostRuntime) {
     drop(decl);
 }
 
-// Whether a fault is spelled so.
+// Whether a fault has this text.
 fn is_spelled_so(heap: Global, fault: TextFault, want: &str) -> bool {
     match format!(in heap; "{fault}") {
         Ok(text) => text.as_str() == want,
@@ -283,7 +283,7 @@ fn spells_faults(rt: HostRuntime) {
     are_spelled_so(&rt, rt.alloc(), &SPELLED);
 }
 
-// How many attempts a text tells where this request is refused, and whether it was made.
+// How many attempts a text has if this request is refused, and whether it was made.
 fn counted_without(
     heap: Global,
     decl: &Decl,

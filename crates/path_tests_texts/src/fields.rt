@@ -3,7 +3,7 @@
 use path_fields::{after_line, at_end, cut, last_number, number, strip, until};
 use std::process::Abort;
 
-// Whether a text begins with this number, and this much follows it.
+// Whether a text begins with this number, and goes on with this rest.
 fn begins_so(text: &str, value: u64, rest: &str) -> bool {
     number(text.as_bytes()) == Some((value, rest.as_bytes()))
 }
@@ -90,7 +90,7 @@ fn strips_a_front(rt: HostRuntime) {
     assert!(rt; rests == [Some(b"7".as_slice()), Some(b"".as_slice()), None, None]);
 }
 
-// What begins where a line ends.
+// The text, if a line ends there.
 fn line_end(text: &[u8]) -> Option<&[u8]> {
     at_end(text)
 }
@@ -106,7 +106,7 @@ fn ends_of_lines(rt: HostRuntime) {
     assert!(rt; ends == [Some(b"".as_slice()), Some(b"\nx".as_slice()), None, None]);
 }
 
-// The number that a line ends with, and the rest of the text.
+// The number that is a whole line, and the rest of the text.
 fn ending(text: &[u8]) -> Option<(u64, &[u8])> {
     last_number(text)
 }

@@ -70,7 +70,7 @@ fn is_read_again(heap: Global, decl: &Decl, line: Line) -> bool {
     }
 }
 
-// Each of these replies after an attempt.
+// Checks each of these replies after an attempt.
 fn are_read_again(rt: &impl Abort, heap: Global, decl: &Decl, attempt: Attempt, replies: &[Reply]) {
     for reply in replies {
         let line = Line {
@@ -82,7 +82,7 @@ fn are_read_again(rt: &impl Abort, heap: Global, decl: &Decl, attempt: Attempt, 
     }
 }
 
-// Each of these replies after each of these attempts.
+// Checks each of these replies after each of these attempts.
 fn all_are_read_again(
     rt: &impl Abort,
     heap: Global,
@@ -95,7 +95,7 @@ fn all_are_read_again(
     }
 }
 
-/// What is written is read again, each reply after each attempt.
+/// What is written is read back, each reply after each attempt.
 #[test]
 fn reads_what_was_written(rt: HostRuntime) {
     let decl = declared(&rt, rt.alloc(), DECLARATION);
@@ -116,7 +116,7 @@ const LINES: [Line; 2] = [
     },
 ];
 
-// Each text, with the room that it names, and how many of these lines it has, from the first on.
+// Checks each text with the room that it names, and how many of these lines it has, from the first on.
 fn are_read_so(
     rt: &impl Abort,
     heap: Global,
@@ -172,7 +172,7 @@ fn fault_of(heap: Global, decl: &Decl, text: &str) -> Option<TextFault> {
     read_journal(heap, decl, text.as_bytes()).err()
 }
 
-// Each of these texts has a bad first line.
+// Checks that each of these texts has a bad first line.
 fn are_bad(rt: &impl Abort, heap: Global, decl: &Decl, texts: &[&str]) {
     for text in texts {
         let fault = fault_of(heap, decl, text);
@@ -254,14 +254,14 @@ const OTHER_HEADS: [&str; 20] = [
     "journal 2 room 0\n1 start deposit: started 0\n",
 ];
 
-// Each text is refused with the fault beside it.
+// Checks that each text is refused with the fault of its row.
 fn are_refused(rt: &impl Abort, heap: Global, decl: &Decl, rows: &[(&str, TextFault)]) {
     for (text, want) in rows {
         assert!(rt; fault_of(heap, decl, text) == Some(*want), "at {text:?}");
     }
 }
 
-/// The first faulty line is named, and the head is a line.
+/// The first faulty line is named, and the head counts as a line.
 const FAULTY: [(&str, TextFault); 16] = [
     ("1 start deposit: started 0\n\n", TextFault::BadLine(1)),
     (
@@ -328,7 +328,7 @@ fn is_head_of<A: Allocator + Copy>(alloc: A, room: u32, want: &str) -> Result<bo
     Ok(is_so)
 }
 
-// Whether the head of a room has this text, which is a journal without lines.
+// Whether the head of a room has this text, and this is a journal without lines.
 fn has_head(heap: Global, decl: &Decl, room: u32, text: &str) -> bool {
     is_head_of(heap, room, text) == Ok(true)
         && is_journal(heap, decl, text, Some(room), &[]) == Ok(true)
@@ -361,7 +361,7 @@ fn each_request_of_a_head_is_refused(rt: HostRuntime) {
     });
 }
 
-// Each request for memory of the reading of a text is refused in turn, and then these lines are read.
+// Refuses each request of reading a text in turn; then these lines must be read.
 fn is_refused_in_turn(rt: &impl Abort, heap: Global, decl: &Decl, text: &str, room: Option<u32>) {
     refuse_in_turn(
         rt,

@@ -24,14 +24,14 @@ fn is_written_so(heap: Global, decl: &Decl, attempt: Attempt, reply: Reply, want
     }
 }
 
-// What is told after an attempt, with the line feed.
+// What follows an attempt, with the line feed.
 fn told<A: Allocator + Copy>(alloc: A, reply: Reply) -> Result<Vec<u8, A>, OutOfMemory> {
     let mut bytes = Vec::new(alloc);
     push_told(&mut bytes, reply)?;
     Ok(bytes)
 }
 
-// Whether this text of a line ends in what is told of its reply, but for the line feed.
+// Whether this text of a line ends in the text of its reply, without the line feed.
 fn ends_in_its_reply(heap: Global, reply: Reply, text: &str) -> bool {
     match told(heap, reply) {
         Ok(mut bytes) => {
@@ -43,7 +43,7 @@ fn ends_in_its_reply(heap: Global, reply: Reply, text: &str) -> bool {
     }
 }
 
-// Each line has this text, and its reply what stands behind the colon.
+// Checks that each line has this text, and that its reply has the text after the colon.
 fn are_written_so(rt: &impl Abort, heap: Global, decl: &Decl, rows: &[(Attempt, Reply, &str)]) {
     for (attempt, reply, want) in rows {
         let is_written = is_written_so(heap, decl, *attempt, *reply, want);
@@ -157,7 +157,7 @@ fn each_request_of_a_line_is_refused(rt: HostRuntime) {
     drop(decl);
 }
 
-// Whether this is told of a reply.
+// Whether a reply has this text.
 fn is_told<A: Allocator + Copy>(alloc: A, reply: Reply, want: &[u8]) -> Result<bool, OutOfMemory> {
     let bytes = told(alloc, reply)?;
     let is_so = bytes.as_slice() == want;

@@ -6,7 +6,7 @@ use path_lines::{declared, read_verb};
 use path_model::{OpId, Verb};
 use std::process::Abort;
 
-// The verb that the first line of a text is, and what stands from that line's end on.
+// The verb that is the first line of a text, and the text from that line's end on.
 fn verb(text: &[u8]) -> Option<(Verb, &[u8])> {
     read_verb(text)
 }

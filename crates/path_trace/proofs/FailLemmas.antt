@@ -1,4 +1,4 @@
--- Devices that never fail are never told to have failed.
+-- No line says that a device failed if its devices never fail.
 use Rattle.std.proofs.Common.{ℕ, Bool, List}
 use Rattle.path_model.specs.declared.journal.Line.{Line}
 use Rattle.path_model.specs.Declarations.{Declaration}

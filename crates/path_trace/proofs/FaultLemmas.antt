@@ -1,4 +1,4 @@
--- With which status a trace is refused.
+-- The status with which a trace is refused.
 use Rattle.std.proofs.Common.{◌≡◌, ℕ, List, [], Option, Some, None, ◌⊎◌, inl, inr, refl, sym, ◌∙◌, subst}
 use Rattle.std.specs.Io.KnownBytes.{Appends}
 use Rattle.std.proofs.lemmas.List.{append-nil}
@@ -34,7 +34,7 @@ refuses_opening d states room text openings.WrongCount is = (openings.WrongCount
 refuses_opening d states room text (openings.WrongDevice r) is = (openings.WrongDevice r, λ e. cc, is)
 refuses_opening d states room text openings.OutOfMemory is = tt
 
--- how a command ends that tells of a refused declaration
+-- how a command ends that reports a refused declaration
 abbrev pub EndsUndeclared : List ℕ → Status → Type 0
 EndsUndeclared text StreamFailed = Unit {0}
 EndsUndeclared text status = IsUndeclared text status
@@ -47,7 +47,7 @@ pub ends_undeclared : (text : List ℕ) (told result s : Status) → IsUndeclare
 ends_undeclared text told result s undeclared (inl e) is = subst (EndsUndeclared text) (sym e ∙ is) (ends_told text told undeclared)
 ends_undeclared text told result s undeclared (inr e) is = subst (EndsUndeclared text) (sym e ∙ is) tt
 
--- and one that tells that memory is wanting
+-- and one that reports that memory ran out
 abbrev pub EndsWanting : Status → Type 0
 EndsWanting NoMemory = Unit {0}
 EndsWanting StreamFailed = Unit {0}

@@ -1,4 +1,4 @@
--- How far attempts were read and answered.
+-- How far the attempts have been read and stepped.
 use Rattle.std.proofs.Common.{◌≡◌, ◌≢◌, ℕ, ◌+◌, ◌-◌, ◌<◌, ◌≤◌, List, [], ◌∷◌, ◌++◌, length, length-drop, take, drop, codes, All, ◌⊎◌, inl, inr, refl, sym, ap, ◌∙◌, subst, append_assoc, arith, length-append}
 use Rattle.std.proofs.lemmas.List.{append-nil, drop_all, take_all}
 use Rattle.std.proofs.Math.Seq.{drop-append-add, take-append_seam}
@@ -41,7 +41,7 @@ answers_none may_fail start text bytes none = record {
 owed_at : (a b : Account) (w : ℕ) (t : Attempt) (r : Reply) → a ≡ b → Owed a.declaration a.room a.openings a.journal w t r → Owed b.declaration b.room b.openings b.journal w t r
 owed_at a b w t r e h = subst (λ x. Owed x.declaration x.room x.openings x.journal w t r) e h
 
--- one attempt more is answered
+-- one more attempt gets its reply
 forth_more : (may_fail : Type 0) (start old new : Account) (done : List Entry) (e : Entry) (bytes line more : List ℕ) → line ≡ line_text start.declaration e.0 e.1 → IsAnswered may_fail old new e.0 e.1 line bytes more → old ≡ record start { journal = old.journal; failures = old.failures }
     → ((es : List Entry) (end : List Line) (bs : List ℕ) → Traced start.declaration start.room start.openings may_fail old.journal es end bs → Traced start.declaration start.room start.openings may_fail start.journal (done ++ es) end (bytes ++ bs))
     → (es : List Entry) (end : List Line) (bs : List ℕ) → Traced start.declaration start.room start.openings may_fail new.journal es end bs → Traced start.declaration start.room start.openings may_fail start.journal ((done ++ e ∷ []) ++ es) end (more ++ bs)

@@ -1,4 +1,4 @@
--- The text of a report: what can be started, what is blocked, what is live, and whether nothing can ever follow.
+-- The text of a report: what can be started, what is blocked, what is live, and whether nothing will ever be admitted again.
 use Rattle.std.specs.Prelude.{ℕ, Bool, true, false, List, [], ◌∷◌, ◌++◌, codes, decimal}
 use Rattle.std.specs.List.{flat_map}
 use Rattle.path_model.specs.declared.ids.OpId.{OpId}
@@ -11,24 +11,24 @@ use Rattle.path_lines.specs.LineTexts.{operation_text}
 abbrev pub operation_word : Declaration → OpId → List ℕ
 operation_word d a = 32 ∷ operation_text d a
 
--- the operations that can be started, in one line
+-- one line of the operations that can be started
 abbrev pub startable_line : Declaration → List OpId → List ℕ
 startable_line d startable = codes "startable" ++ (flat_map (operation_word d) startable ++ 10 ∷ [])
 
--- a blocked operation, and the first path that forbids its start
+-- the line of a blocked operation, with the first path that forbids its start
 abbrev pub blocked_line : Declaration → OpId × PathId → List ℕ
 blocked_line d b = codes "blocked" ++ (operation_word d b.0 ++ (32 ∷ (decimal b.1.0 ++ 10 ∷ [])))
 
--- a live activation: its number, whose it is, and what was started
+-- the line of a live activation: its number, its worker, and its operation
 abbrev pub live_line : Declaration → Activation → List ℕ
 live_line d x = codes "live " ++ (decimal x.act.0 ++ (32 ∷ (decimal x.worker ++ (operation_word d x.op ++ 10 ∷ []))))
 
--- whether nothing will ever be admitted again
+-- the line that says whether nothing will ever be admitted again
 abbrev pub frozen_line : Bool → List ℕ
 frozen_line true = codes "frozen yes\n"
 frozen_line false = codes "frozen no\n"
 
--- all of it: a line of what can be started, a line for each blocked operation and for each live activation, and the last line
+-- the whole report: the startable line, a line for each blocked operation and for each live activation, and the frozen line
 abbrev pub report_text : Declaration → List OpId → List (OpId × PathId) → List Activation → Bool → List ℕ
 report_text d startable blocked live frozen =
     startable_line d startable

@@ -11,7 +11,7 @@ use path_model::{Law, OutOfMemory, ResId};
 use path_shelf::OwnDevice;
 use std::alloc::Allocator;
 
-/// The law of a resource, which is declared.
+/// The law of a declared resource.
 fn law_at<A: Allocator + Copy>(decl: &Decl<A>, resource: ResId) -> Law
     requires { resource.0 < length decl.now.declaration.resources }
     ensures law { result ≡ declarations.law_of decl.now.declaration resource.0 }
@@ -20,8 +20,8 @@ fn law_at<A: Allocator + Copy>(decl: &Decl<A>, resource: ResId) -> Law
     law_of(decl, resource).unwrap()
 }
 
-/// A device for each resource of the declaration, in order, and of its law: a cell or a tally that contains 0, or an empty
-/// queue. The only error is want of memory. The cost is that of the places of all queues.
+/// A device for each resource of the declaration, in order and of its law: a cell or a tally that contains 0, or an empty
+/// queue. Fails only if allocation fails. The cost is the memory for all queues at their capacity.
 pub fn own_devices<A: Allocator + Copy>(
     alloc: A,
     decl: &Decl<A>,

@@ -1,4 +1,4 @@
-//! From reports to their texts.
+//! The text of a report. The functions fail only if allocation fails.
 
 ghost use Rattle.std.specs.Prelude.{◌≡◌, ◌++◌, ◌∷◌, [], codes, decimal, flat_map, OnOk};
 ghost use Rattle.path_trace.specs.ReportTexts.{operation_word, startable_line, blocked_line, live_line, frozen_line, report_text};
@@ -9,7 +9,7 @@ use path_model::{Activation, OpId, OutOfMemory, PathId};
 use path_system::Report;
 use std::alloc::Allocator;
 
-/// Appends a number.
+/// Appends a number in decimal.
 fn push_number<A: Allocator + Copy>(text: &mut Vec<u8, A>, number: u64) -> Result<(), OutOfMemory>
     ensures { OnOk result (text.new.items ≡ text.old.items ++ decimal number) }
 {
@@ -19,7 +19,7 @@ fn push_number<A: Allocator + Copy>(text: &mut Vec<u8, A>, number: u64) -> Resul
     Ok(())
 }
 
-/// Appends a space, and the name of a declared operation, or `#` and the number of any other.
+/// Appends a space and the name of a declared operation, or `#` and the number of an undeclared one.
 fn push_operation<A: Allocator + Copy>(
     text: &mut Vec<u8, A>,
     decl: &Decl<A>,
@@ -146,7 +146,7 @@ fn frozen_words(frozen: bool) -> &'static [u8]
 /// activation, A its number and W its worker; and `frozen yes` or `frozen no`. Each line ends with a line feed. An operation
 /// that isn't declared is written as `#` and its number.
 ///
-/// The only error is want of memory; a front of the text may then have been appended. The cost is that of the text.
+/// Fails only if allocation fails; a front of the text may then have been appended. The cost is proportional to the text.
 pub fn push_report<A: Allocator + Copy>(
     text: &mut Vec<u8, A>,
     decl: &Decl<A>,

@@ -1,4 +1,4 @@
-//! The theorem from bytes to bytes: attempts in, each with its reply out, and a report of the system at their end.
+//! From bytes to bytes: attempts in, each with its reply out, and a report of the system at the end.
 
 ghost use Rattle.std.specs.Prelude.{◌≡◌, ◌≢◌, ◌+◌, ◌≤◌, length, map, drop, IfOk, IfErr, IfSome, IfNone, OnOk};
 ghost use Rattle.std.specs.Io.KnownBytes.{Keeps};
@@ -23,13 +23,13 @@ use path_system::{OpenFault, System};
 use std::alloc::Allocator;
 use std::io::Write;
 
-/// How many lines the journal of a trace has room for, where nothing else is asked for.
+/// How many lines the journal of a trace has room for unless another room is given.
 pub const ROOM: u32 = 4096;
 
-/// The most bytes that an answer adds to its attempt: `: used `, twenty digits and a line feed.
+/// The most bytes that a reply adds to its attempt: `: used `, twenty digits and a line feed.
 const LONGEST_REPLY: usize = 28;
 
-/// How many bytes the answers to the attempts of a text have at most: no line has fewer than ten bytes with its line feed.
+/// The most bytes that the trace of these attempts can have: each line has at least ten bytes with its line feed.
 fn longest_trace(attempts: &[u8]) -> usize {
     let lines = attempts.len() / 10 + 1;
     lines
@@ -37,7 +37,7 @@ fn longest_trace(attempts: &[u8]) -> usize {
         .saturating_add(attempts.len())
 }
 
-/// Steps the system, and appends the attempt's own line with its reply and a line feed.
+/// Steps the system, and appends the attempt's own line with its reply and a line feed. Fails only if allocation fails.
 fn answer<D: Device, A: Allocator + Copy>(
     system: &mut System<D, A>,
     worker: u32,
@@ -54,7 +54,7 @@ fn answer<D: Device, A: Allocator + Copy>(
     Ok(())
 }
 
-/// What stands behind the first line, of this length, and its line feed; nothing where it is the last.
+/// The text after the first line, of this length, and its line feed; empty if it is the last line.
 fn behind(text: &[u8], length: usize) -> &[u8]
     ensures { result.now ≡ drop (length + 1) text.now }
 {
@@ -65,7 +65,7 @@ fn behind(text: &[u8], length: usize) -> &[u8]
     }
 }
 
-/// The system's answers to the attempts of a text, one line each. One pass over the text: each line is read, answered and
+/// The system's replies to the attempts of a text, one line each. One pass over the text: each line is read, stepped and
 /// copied.
 fn answers<D: Device, A: Allocator + Copy>(
     alloc: A,
@@ -94,7 +94,7 @@ fn answers<D: Device, A: Allocator + Copy>(
     Ok(trace)
 }
 
-/// Appends the report of the system where one is asked for.
+/// Appends the report of the system if `report` is set. Fails only if allocation fails.
 fn push_behind<D: Device, A: Allocator + Copy>(
     alloc: A,
     system: &System<D, A>,
@@ -110,7 +110,7 @@ fn push_behind<D: Device, A: Allocator + Copy>(
     Ok(())
 }
 
-/// The system's answers to the attempts of a text, and the report of it then where one is asked for.
+/// The system's replies to the attempts of a text, and then its report if `report` is set.
 fn told_by<D: Device, A: Allocator + Copy>(
     alloc: A,
     system: &mut System<D, A>,
@@ -126,7 +126,7 @@ fn told_by<D: Device, A: Allocator + Copy>(
     Ok(trace)
 }
 
-/// Why no system of this room is opened over the devices.
+/// Why no system of this room can be opened over the devices, apart from memory; `None` if one can.
 fn open_fault<D: Device, A: Allocator + Copy>(
     decl: &Decl<A>,
     devices: &[D],
@@ -145,8 +145,8 @@ fn open_fault<D: Device, A: Allocator + Copy>(
     }
 }
 
-/// Why no system of this room over the devices traces a text, where one can tell before it is opened: the text is too long, or
-/// none is opened so. A text that is at fault counts before that.
+/// Why a text can't be traced by a system of this room over these devices, as far as that shows before the system is opened: the
+/// text is too long, or the system can't be opened. If both the text and the opening are at fault, the text's fault counts.
 fn refusal<D: Device, A: Allocator + Copy>(
     alloc: A,
     decl: &Decl<A>,
@@ -169,7 +169,7 @@ fn refusal<D: Device, A: Allocator + Copy>(
     }
 }
 
-/// What a system of this room over the devices answers to the attempts of a text, and the report of it then where one is asked for.
+/// The replies of a system of this room over the devices to the attempts of a text, and then its report if `report` is set.
 fn traced<D: Device, A: Allocator + Copy>(
     alloc: A,
     decl: Decl<A>,
@@ -198,14 +198,15 @@ fn traced<D: Device, A: Allocator + Copy>(
     }
 }
 
-/// Reads attempts, steps a system over the devices through them, and writes each with its reply, one line each; then, where one is
-/// asked for, the report of the system as it is then ([`push_report`]). Nothing is written before the whole text was read. The
-/// journal has room for so many lines; an attempt without room is answered so. The cost is that of the text, of the
-/// system's opening, of a step for each attempt, and of the report.
+/// Reads attempts, steps a system over the devices through them, and writes each with its reply, one line each; then, if `report` is
+/// set, the report of the system as it is then ([`push_report`]). Writes nothing before the whole text has been read. The journal has
+/// room for `room` lines; an attempt without room gets the reply `no room`. The cost is that of the text, of opening the system, of a
+/// step for each attempt, and of the report.
 ///
 /// `CommandRefused`: the room is 0 or above [`MOST_LINES`], or the devices aren't those of the declaration, one for each
-/// resource and of its law. `TextRefused`: the text is refused, which counts before these. `StreamFailed`: a writer failed, and
-/// what it took is unknown. `NoMemory`: memory is wanting, and a front of all this was written. A fault is one line on `err`.
+/// resource and of its law; nothing was written. `TextRefused`: the text is refused, which counts before these; nothing was written.
+/// `StreamFailed`: a writer failed, and what it took is unknown. `NoMemory`: allocation failed, and a front of all this was written. A
+/// fault is one line on `err`.
 pub fn trace_to<D: Device, A: Allocator + Copy, O: Write, E: Write>(
     alloc: A,
     decl: Decl<A>,
@@ -216,20 +217,20 @@ pub fn trace_to<D: Device, A: Allocator + Copy, O: Write, E: Write>(
     out: &mut O,
     err: &mut E,
 ) -> Status
-    // Each attempt of the text was written with a reply owed after the lines so far, then the report that was asked for, and
-    // nothing else was.
+    // Done: each attempt of the text was written with a reply that the lines before it owed, then the report if asked for, and
+    // nothing else.
     ensures done { result ≡ Status.Done → AppendsSome (O.contents out.old) (O.contents out.new)
         (IsTraceOf decl.declaration (map D.state devices.items) (MayFail D.state) room report attempts.now) }
-    // Nothing is done in a room that no system has, nor over devices of other laws.
+    // Done means that a system can have the room and that the devices have the declared laws.
     ensures room { IsBadRoom room → result ≢ Status.Done }
     ensures laws { result ≡ Status.Done → laws_of (map D.state devices.items) ≡ declared_laws decl.declaration }
-    // No system is opened so, and nothing was written.
+    // The system can't be opened, and nothing was written.
     ensures unopened { result ≡ Status.CommandRefused
         → Keeps (O.contents out.old) (O.contents out.new) × IsUnopened decl.declaration (map D.state devices.items) room }
-    // The text is too long or tells no attempts, and nothing was written.
+    // The text is too long or isn't a list of attempts, and nothing was written.
     ensures refused { result ≡ Status.TextRefused
         → Keeps (O.contents out.old) (O.contents out.new) × IsBadText decl.declaration attempts.now }
-    // Only a front of that was written.
+    // Only a front of the trace was written.
     ensures memory { result ≡ Status.NoMemory → AppendsSome (O.contents out.old) (O.contents out.new)
         (IsFrontOf (IsTraceOf decl.declaration (map D.state devices.items) (MayFail D.state) room report attempts.now)) }
     ensures statuses { (result ≢ Status.DeclarationRefused) × (result ≢ Status.Unsound) }
@@ -272,9 +273,9 @@ fn trace_own<A: Allocator + Copy, O: Write, E: Write>(
 /// Reads a declaration, and writes each attempt with its reply, and the report, as [`trace_to`] does and at its cost. The devices are
 /// [`OwnDevice`](path_shelf::OwnDevice)s: each cell and tally contains 0 at first, each queue is empty, and none fails.
 ///
-/// `DeclarationRefused`: the declaration is refused. `TextRefused`: the attempts are. `CommandRefused`: the room is. At
-/// these nothing was written. `StreamFailed`: a writer failed, and what it took is unknown. `NoMemory`: memory is wanting,
-/// and a front of all this was written. A fault is one line on `err`.
+/// `DeclarationRefused`: the declaration is refused. `TextRefused`: the attempts are refused. `CommandRefused`: the room is refused.
+/// In these three cases nothing was written. `StreamFailed`: a writer failed, and what it took is unknown. `NoMemory`: allocation
+/// failed, and a front of all this was written. A fault is one line on `err`.
 pub fn trace_bytes<A: Allocator + Copy, O: Write, E: Write>(
     alloc: A,
     declaration: &[u8],
@@ -284,20 +285,20 @@ pub fn trace_bytes<A: Allocator + Copy, O: Write, E: Write>(
     out: &mut O,
     err: &mut E,
 ) -> Status
-    // Each attempt was written with a reply owed after the lines so far, then the report that was asked for, and nothing else.
+    // Done: each attempt was written with a reply that the lines before it owed, then the report if asked for, and nothing else.
     ensures done { result ≡ Status.Done
         → AppendsSome (O.contents out.old) (O.contents out.new) (IsTraceOfTexts declaration.now room report attempts.now) }
-    // The text is no declaration, and nothing was written.
+    // The text isn't a declaration, and nothing was written.
     ensures undeclared { result ≡ Status.DeclarationRefused
         → Keeps (O.contents out.old) (O.contents out.new) × IsNoDeclaration declaration.now }
-    // Nothing is done in a room that no system has.
+    // Done means that a system can have the room.
     ensures room { IsBadRoom room → result ≢ Status.Done }
-    // No system has the room, and nothing was written.
+    // No system can have the room, and nothing was written.
     ensures bad_room { result ≡ Status.CommandRefused → Keeps (O.contents out.old) (O.contents out.new) × IsBadRoom room }
-    // The attempts are too long or none of the declaration's, and nothing was written.
+    // The attempts are too long or don't fit the declaration, and nothing was written.
     ensures refused { result ≡ Status.TextRefused
         → Keeps (O.contents out.old) (O.contents out.new) × IsBadTextUnder declaration.now attempts.now }
-    // Only a front of that was written.
+    // Only a front of the trace was written.
     ensures memory { result ≡ Status.NoMemory
         → AppendsSome (O.contents out.old) (O.contents out.new) (IsFrontOf (IsTraceOfTexts declaration.now room report attempts.now)) }
     ensures statuses { result ≢ Status.Unsound }

@@ -1,4 +1,4 @@
--- What some paths are trimmed to, by hand.
+-- What trimming leaves of some paths, by hand.
 use Rattle.std.proofs.Common.{◌≡◌, ℕ, List, [], ◌∷◌, map, refl, codes, arith}
 use Rattle.std.specs.Fmt.{decimal}
 use Rattle.std.proofs.lemmas.Fmt.{decimal_digit}

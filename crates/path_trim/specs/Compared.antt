@@ -16,20 +16,20 @@ pub record Compared : Type 0 where
   pub site : Sited
   pub same : Option ℕ
 
--- a path beside those that stand before it
+-- a path compared with those before it
 abbrev pub beside : List (ℕ × Sited) → ℕ × Sited → Compared
 beside earlier x = record { path = x.0; site = x.1; same = first_with x.1.tree earlier }
 
--- each path beside those that stand before it
+-- each path compared with those before it
 abbrev pub compared_after : List (ℕ × Sited) → List (ℕ × Sited) → List Compared
 compared_after earlier [] = []
 compared_after earlier (x ∷ xs) = beside earlier x ∷ compared_after (earlier ++ x ∷ []) xs
 
--- the paths of a file that have these trees
+-- the paths of a file with these trees
 abbrev pub compared : List Tree → List Compared
 compared ss = compared_after [] (sited 0 0 (numbered 0 ss))
 
--- a path is kept where no earlier one has its tree
+-- a path is kept if no earlier one has its tree
 abbrev pub site_left : ℕ → Sited → Option ℕ → List (ℕ × Sited)
 site_left p x None = (p, x) ∷ []
 site_left p x (Some q) = []

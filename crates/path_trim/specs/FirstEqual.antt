@@ -8,7 +8,7 @@ use Rattle.path_code.specs.declared.code.PathCode.{PathCode}
 abbrev pub HasOther : {Y : Type 0} → Tree → PathCode Y → Type 0
 HasOther s p = same_tree s (shape p.tree.now) ≡ false
 
--- the path at this place has the tree, and none before it
+-- the path at this index has the tree, and none before it has
 pub record IsFirstEqual {Y : Type 0} (s : Tree) (ps : List (PathCode Y)) (i : ℕ) : Type 0 where
   pub within : i < length ps
   pub before : All (HasOther s) (take i ps)

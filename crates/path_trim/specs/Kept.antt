@@ -1,4 +1,4 @@
--- What trimmed paths show, and what they keep beside that.
+-- What contracts see of trimmed paths, and what these keep besides.
 use Rattle.std.specs.Prelude.{◌≡◌, List, map}
 use Rattle.path_model.specs.Trees.{Tree}
 use Rattle.path_model.specs.Declarations.{trees}
@@ -15,7 +15,7 @@ trees_shown l = trees l.decl.value.declaration
 abbrev pub shown : {Y : Type 0} → Inside Y → KnownTrees
 shown l = record { trees = trees_shown l; lawful = l.lawful }
 
--- they are the trimmed table of these trees, and beside it stand what was removed and what became of each path
+-- they are the trimmed table of these trees, with the list of what was removed and the fate of each path
 pub record IsKept {Y : Type 0} (l : Inside Y) : Type 0 where
   pub table : map row_of l.kept.items ≡ lean_table (trees_shown l)
   pub removed : l.removed.items ≡ removed_list (trees_shown l)

@@ -6,7 +6,7 @@ use Rattle.path_model.specs.Trees.{Tree}
 use Rattle.path_decl.specs.Stored.{tree_code}
 use Rattle.path_trim.specs.LawfulTrees.{LawfulTrees, LawfulTrees-prop}
 
--- the trees of all paths, those that are removed too, and what always holds of them
+-- the trees of all paths, the removed ones too, and what always holds of them
 pub record KnownTrees : Type 0 where
   pub trees : List Tree
   pub lawful : LawfulTrees trees

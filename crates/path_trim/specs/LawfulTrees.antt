@@ -16,7 +16,7 @@ pub record LawfulTrees (ss : List Tree) : Type 0 where
   pub few_operations : All (λ s. (a : OpId) → Names s a → a.0 < 256) ss
   pub few_paths : length ss ≤ 256
 
--- it is shown in one way at most
+-- there is at most one proof of it
 pub LawfulTrees-prop : (ss : List Tree) → IsProp (LawfulTrees ss)
 LawfulTrees-prop ss x y i = record {
   well_formed = Every-prop WellFormed WellFormed-prop _ x.well_formed y.well_formed i;

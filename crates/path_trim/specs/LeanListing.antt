@@ -42,7 +42,7 @@ value_text (Counter c) = codes " c" ++ decimal c
 value_text (Mutex m) = codes " m" ++ decimal m
 value_text (SamePath p q) = []
 
--- the line of the removed values, where there are any
+-- the line of the removed values, if there are any
 abbrev pub removed_line : List Removed → List ℕ
 removed_line [] = []
 removed_line (r ∷ rs) = codes "removed" ++ (flat_map value_text (r ∷ rs) ++ 10 ∷ [])
@@ -52,7 +52,7 @@ abbrev pub row_lines : Declaration → LeanRow → List ℕ
 row_lines d r =
     lines_text (map semaphore_line r.semaphores) ++ (lines_text (map counter_line r.counters) ++ flat_map (op_line d) r.ops)
 
--- how the lines of a path begin: with its resource, or with the path's own number where the declaration has no such path
+-- the first words of a path's lines: with its resource, or with `#` and the path's number if the declaration doesn't have the path
 abbrev pub header_of : Declaration → ℕ → Option Path → List ℕ
 header_of d n (Some p) = header_line d n p.resource
 header_of d n None = codes "path " ++ (decimal n ++ (codes " of #" ++ decimal n))
@@ -60,7 +60,7 @@ header_of d n None = codes "path " ++ (decimal n ++ (codes " of #" ++ decimal n)
 abbrev pub header : Declaration → ℕ → List ℕ
 header d n = header_of d n (slice_get d.paths n)
 
--- how the line of a path goes on whose tree the earlier path number q has
+-- the rest of the line of a path whose tree the earlier path number q has
 abbrev pub same_rest : ℕ → List ℕ
 same_rest q = codes " same as " ++ (decimal q ++ 10 ∷ [])
 
@@ -73,6 +73,6 @@ path_lines d p x None = header d p ++ 10 ∷ (removed_line (values_removed x) ++
 abbrev pub all_lines : Declaration → List Compared → List ℕ
 all_lines d xs = flat_map (λ x. path_lines d x.path x.site x.same) xs
 
--- the listing of the paths that have these trees
+-- the listing of the paths with these trees
 abbrev pub lean_text : Declaration → List Tree → List ℕ
 lean_text d ss = all_lines d (compared ss)

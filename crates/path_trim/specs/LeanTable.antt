@@ -35,11 +35,11 @@ op_left x a =
 abbrev pub ops_left : Sited → List LeanOp
 ops_left x = map (op_left x) (names_in x.tree)
 
--- where braces are the whole path, its own semaphore, which stands first, is gone
+-- if one pair of braces is the whole path, its own semaphore, the first, is gone
 abbrev pub semaphores_left : Sited → List (ℕ × ℕ)
 semaphores_left x = if is_burst x.tree then drop 1 (semaphores_of x) else semaphores_of x
 
--- and their counter
+-- and so is the braces' counter
 abbrev pub counters_left : Sited → List ℕ
 counters_left x = if is_burst x.tree then [] else braces_of x
 
@@ -59,6 +59,6 @@ lean_row x =
       ops = ops_left x.1;
     }
 
--- the trimmed table of the paths that have these trees
+-- the trimmed table of the paths with these trees
 abbrev pub lean_table : List Tree → List LeanRow
 lean_table ss = map lean_row (kept_sites ss)

@@ -1,4 +1,4 @@
--- What is made of paths, one after the other.
+-- The result for paths, one after the other.
 use Rattle.std.specs.Prelude.{◌≡◌, List, [], ◌∷◌, ◌++◌, map}
 use Rattle.path_trim.specs.declared.table.Removed.{Removed}
 use Rattle.path_trim.specs.declared.table.Fate.{Fate}

@@ -8,15 +8,15 @@ use Rattle.path_trim.specs.declared.table.Removed.{Removed}
 use Rattle.path_trim.specs.declared.table.Removed.TheVariants.{Semaphore, Counter, Mutex, SamePath}
 use Rattle.path_trim.specs.Compared.{Compared, compared}
 
--- where braces are the whole path, its own semaphore and their counter
+-- if one pair of braces is the whole path: its own semaphore and the braces' counter
 abbrev pub whole_removed : Sited → List Removed
 whole_removed x = if is_burst x.tree then Semaphore x.own ∷ Counter x.first ∷ [] else []
 
--- and each mutex
+-- all that is removed of a path that is kept: those, and each mutex
 abbrev pub values_removed : Sited → List Removed
 values_removed x = whole_removed x ++ map (λ m. Mutex m) (braces_of x)
 
--- of a path whose tree an earlier one has, the path; of another its values
+-- what is removed of a path: the path itself if an earlier one has its tree, else its values
 abbrev pub lost : ℕ → Sited → Option ℕ → List Removed
 lost p x None = values_removed x
 lost p x (Some q) = SamePath (record { 0 = p }) (record { 0 = q }) ∷ []
@@ -24,6 +24,6 @@ lost p x (Some q) = SamePath (record { 0 = p }) (record { 0 = q }) ∷ []
 abbrev pub all_lost : List Compared → List Removed
 all_lost xs = flat_map (λ x. lost x.path x.site x.same) xs
 
--- what is removed of the paths that have these trees
+-- what is removed of the paths with these trees
 abbrev pub removed_list : List Tree → List Removed
 removed_list ss = all_lost (compared ss)

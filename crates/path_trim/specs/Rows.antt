@@ -1,4 +1,4 @@
--- What a path that is kept shows, and what becomes of paths.
+-- What contracts see of a path that is kept, and what becomes of paths.
 use Rattle.std.specs.Prelude.{ℕ, List, map, length, Option, Some, None}
 use Rattle.path_model.specs.Flat.{Sited}
 use Rattle.path_trim.specs.declared.table.LeanPath.{LeanPath}

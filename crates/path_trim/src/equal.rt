@@ -9,8 +9,8 @@ use path_code::PathCode;
 use path_model::Expr;
 use std::alloc::Allocator;
 
-/// Whether the trees are equal, the bounds of braces too. One walk over what they share; right operands come first, which are the
-/// shallow ones.
+/// Whether the trees are equal, with the bounds of braces. One walk over what they share. Compares right operands first, because
+/// they are the shallow ones.
 fn is_same<A: Allocator + Copy>(left: &Expr<A>, right: &Expr<A>) -> bool
     ensures { result ≡ same_tree (shape left.now) (shape right.now) }
 {
@@ -30,7 +30,7 @@ fn is_same<A: Allocator + Copy>(left: &Expr<A>, right: &Expr<A>) -> bool
     }
 }
 
-/// The place of the first of these paths that has the tree. A walk over the tree for each of them at most.
+/// The index of the first of these paths that has the tree. At most one walk over the tree for each path.
 pub(crate) fn first_equal<A: Allocator + Copy>(
     paths: &[PathCode<'_, A>],
     tree: &Expr<A>,

@@ -1,4 +1,4 @@
-//! Trimmed paths, and what they answer.
+//! Trimmed paths.
 
 ghost use Rattle.std.specs.Prelude.{◌≡◌, map};
 ghost use Rattle.path_model.specs.Declarations.{trees};
@@ -13,11 +13,11 @@ use std::alloc::{Allocator, Global};
 use std::marker::Model;
 use std::snapshot::Snapshot;
 
-/// What is left of the paths of a file. Contracts see the trees of all its paths, the removed ones too, as its `trees`, and beside
-/// them what always holds of them, `lawful`.
+/// What trimming leaves of the paths of a file. Contracts see the trees of all its paths, the removed ones too, as its `trees`, and
+/// what always holds of them as `lawful`.
 #[derive(Drop)]
 pub struct Lean<A: Allocator + Copy = Global> {
-    /// The declaration whose paths were trimmed, which only contracts read: it takes no memory.
+    /// The declaration whose paths were trimmed. Only contracts read it, and it takes no memory.
     pub(crate) decl: Snapshot<Decl<A>>,
     /// The paths that are kept.
     pub(crate) kept: Vec<LeanPath<A>, A>,
@@ -42,16 +42,16 @@ impl<A: Allocator + Copy> Model for Lean<A> {
     ghost invariant = { IsKept };
 }
 
-/// The trimmed table: what is left of each path whose tree no earlier path has, in the order of the file. The cost is the same for
-/// any table.
+/// The trimmed table: what trimming leaves of each path whose tree no earlier path has, in the order of the file. Takes constant
+/// time.
 pub fn kept<A: Allocator + Copy>(lean: &Lean<A>) -> &[LeanPath<A>]
     ensures { map row_of result.now ≡ lean_table lean.now.trees }
 {
     lean.kept.as_slice()
 }
 
-/// What was removed, path after path: of a path whose tree an earlier path has only that it is the same as the first such path; of
-/// any other its semaphore, its counter, and then its mutexes, ascending. The cost is the same for any list.
+/// What was removed, path after path. Of a path whose tree an earlier path has: only that it is the same as the first path with that
+/// tree. Of any other path: its semaphore, its counter, and then its mutexes, ascending. Takes constant time.
 pub fn removed<A: Allocator + Copy>(lean: &Lean<A>) -> &[Removed]
     ensures { result.now ≡ removed_list lean.now.trees }
 {

@@ -1,4 +1,4 @@
-//! What is left of one path, and what of it is removed.
+//! What trimming leaves of one path, and what it removes.
 
 ghost use Rattle.std.specs.Prelude.{◌≡◌, ◌++◌, ◌∷◌, [], true, length, map, drop, if◌then◌else◌, IfOk, OnOk};
 ghost use Rattle.path_model.specs.Trees.{shape};
@@ -26,7 +26,7 @@ fn is_burst<A: Allocator + Copy>(tree: &Expr<A>) -> bool
     }
 }
 
-/// What is left of a prologue, where braces are the whole path or not.
+/// What is left of a prologue; `whole` says whether one pair of braces is the whole path.
 fn lean_prologue(whole: bool, prologue: Prologue) -> Option<Prologue>
     ensures { result ≡ prologue_kept whole prologue }
 {
@@ -37,7 +37,7 @@ fn lean_prologue(whole: bool, prologue: Prologue) -> Option<Prologue>
     }
 }
 
-/// What is left of an epilogue, where braces are the whole path or not.
+/// What is left of an epilogue; `whole` says whether one pair of braces is the whole path.
 fn lean_epilogue(whole: bool, epilogue: Epilogue) -> Option<Epilogue>
     ensures { result ≡ epilogue_kept whole epilogue }
 {
@@ -76,7 +76,7 @@ fn copied<T: Copy, A: Allocator + Copy>(alloc: A, values: &[T]) -> Result<Vec<T,
     Ok(copies)
 }
 
-/// The semaphores that are left: where braces are the whole path, all but the first.
+/// The semaphores that are left: all but the first if one pair of braces is the whole path, else all.
 fn semaphores_left(whole: bool, semaphores: &[(u16, u16)]) -> &[(u16, u16)]
     ensures { let left = if whole then drop 1 semaphores.now else semaphores.now in result.now ≡ left }
 {
@@ -86,7 +86,7 @@ fn semaphores_left(whole: bool, semaphores: &[(u16, u16)]) -> &[(u16, u16)]
     }
 }
 
-/// The counters that are left: where braces are the whole path, none.
+/// The counters that are left: none if one pair of braces is the whole path, else all.
 fn counters_left(whole: bool, braces: &[u16]) -> &[u16]
     ensures { let left = if whole then [] else braces.now in result.now ≡ left }
 {
@@ -110,7 +110,7 @@ pub(crate) fn lean_path<A: Allocator + Copy>(
     })
 }
 
-/// Notes that the own semaphore and the counter of a path are removed that is one pair of braces.
+/// For a path that is one pair of braces: notes that its own semaphore and the counter are removed.
 fn note_whole<A: Allocator + Copy>(
     removed: &mut Vec<Removed, A>,
     code: &PathCode<'_, A>,
@@ -139,7 +139,7 @@ fn note_mutexes<A: Allocator + Copy>(
     Ok(())
 }
 
-/// Notes what of a path that is kept is removed, and answers how many things these are. One pass over its braces.
+/// Notes what is removed of a path that is kept, and returns how many things that is. One pass over its braces.
 pub(crate) fn note_removed<A: Allocator + Copy>(
     removed: &mut Vec<Removed, A>,
     code: &PathCode<'_, A>,

@@ -1,7 +1,8 @@
-//! Trimming: what of the compiled paths is useless, and what is left of them.
+//! Trimming: which parts of the compiled paths are useless, and what is left without them.
 //!
 //! [`trim`] removes each mutex; the semaphore and the counter of braces that are a whole path; and each path whose tree an earlier
-//! path has. What is kept keeps its number, and the trimmed table answers each start as the whole one does.
+//! path has. What is kept keeps its number. The trimmed table admits the same starts as the whole one, and names the same path for
+//! a start that it refuses.
 #![tactic(auto)]
 
 mod equal;

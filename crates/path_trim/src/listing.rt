@@ -14,7 +14,7 @@ use path_decl::{Decl, path_resource};
 use path_model::{OutOfMemory, PathId};
 use std::alloc::{AllocError, Allocator};
 
-/// Writes how the lines of a path begin.
+/// Writes the first words of a path's lines: its number and resource.
 fn put_header<A: Allocator + Copy, C: Allocator + Copy>(
     out: &mut String<C>,
     decl: &Decl<A>,
@@ -119,7 +119,7 @@ fn put_values<C: Allocator + Copy>(
     Ok(())
 }
 
-/// Writes the line of the removed values, where there are any.
+/// Writes the line of the removed values, if there are any.
 fn put_removed<C: Allocator + Copy>(
     out: &mut String<C>,
     removed: &[Removed],
@@ -154,7 +154,7 @@ fn put_same<C: Allocator + Copy>(out: &mut String<C>, first: PathId) -> Result<(
     writeln!(out, " same as {}", first.0)
 }
 
-/// Writes what follows the header of a path that is kept, of which these things are removed.
+/// Writes what follows the header of a path that is kept; `removed` are the things removed from it.
 fn put_kept<A: Allocator + Copy, B: Allocator + Copy, C: Allocator + Copy>(
     out: &mut String<C>,
     decl: &Decl<A>,
@@ -169,14 +169,15 @@ fn put_kept<A: Allocator + Copy, B: Allocator + Copy, C: Allocator + Copy>(
     put_row(out, decl, path)
 }
 
-/// The listing of trimmed paths, path after path. A path whose tree an earlier one has gets the one line `path N of RESOURCE same as M`,
-/// where M is the first such path. Each other path gets the line `path N of RESOURCE`; the line `removed` with its removed values, where
-/// there are any; a line `sK = V` for each semaphore that is kept, and a line `cK = 0` for each such counter, ascending; and a line
-/// `NAME: PROLOGUE | EPILOGUE` for each operation, in the order of its names, where `-` is none. Each line ends with a line feed.
+/// The listing of trimmed paths, path after path. A path whose tree an earlier one has gets the single line
+/// `path N of RESOURCE same as M`, where M is the first path with that tree. Each other path gets the line `path N of RESOURCE`; the
+/// line `removed` with its removed values, if there are any; a line `sK = V` for each semaphore that is kept and a line `cK = 0` for each
+/// counter that is kept, ascending; and a line `NAME: PROLOGUE | EPILOGUE` for each operation, in the order of its names, with `-` for
+/// none. Each line ends with a line feed.
 ///
 /// Names are those of the declaration: the path's resource, by the path's number, and the operations. What the declaration doesn't have
-/// is written `#N`, with the number of the path or of the operation. `OutOfMemory` comes only where a growth of the text was refused.
-/// One pass over what is kept and what was removed: the cost is that of the text.
+/// is written `#N`, with the number of the path or of the operation. Fails only if allocation fails. One pass over what is kept and
+/// what was removed: the cost is that of the text.
 pub fn lean_listing<A: Allocator + Copy, B: Allocator + Copy, C: Allocator + Copy>(
     alloc: C,
     decl: &Decl<A>,

@@ -9,13 +9,13 @@ use std::alloc::{Allocator, Global};
 pub struct LeanOp {
     /// The operation.
     pub op: OpId,
-    /// What a start waits on; `None` where it always passes and does nothing.
+    /// What a start waits on; `None` if it always passes and does nothing.
     pub prologue: Option<Prologue>,
-    /// What a finish gives back; `None` where it does nothing.
+    /// What a finish gives back; `None` if it does nothing.
     pub epilogue: Option<Epilogue>,
 }
 
-/// A path that is kept, and what is left of it, with the numbers of the file.
+/// What is left of a path that is kept, with the numbers of the file.
 #[derive(Drop)]
 pub struct LeanPath<A: Allocator + Copy = Global> {
     /// The path.
@@ -28,24 +28,24 @@ pub struct LeanPath<A: Allocator + Copy = Global> {
     pub ops: Vec<LeanOp, A>,
 }
 
-/// A thing that was removed.
+/// Something that was removed.
 #[derive(Clone, Copy, Debug, PartialEq, Eq)]
 pub enum Removed {
     /// The own semaphore of a path that is one pair of braces.
     Semaphore(u16),
-    /// The counter of such braces.
+    /// The counter of those braces.
     Counter(u16),
     /// The mutex of a pair of braces.
     Mutex(u16),
-    /// The first path, since the second, which stands earlier and is the first such, has an equal tree.
+    /// The first of these two paths: it has the tree of the second, which comes earlier and is the first path with that tree.
     SamePath(PathId, PathId),
 }
 
 /// What becomes of a path.
 #[derive(Clone, Copy, Debug, PartialEq, Eq)]
 pub(crate) enum Fate {
-    /// It is removed, since its tree is first that of this path.
+    /// It is removed: this is the first path with its tree.
     SameAs(PathId),
-    /// It is kept, and so many of its things are removed.
+    /// It is kept, and this many things of it are removed.
     Stays(usize),
 }

@@ -19,7 +19,7 @@ use path_model::{OutOfMemory, PathId};
 use std::alloc::Allocator;
 use std::snapshot::Snapshot;
 
-/// What was made of the paths so far.
+/// The result for the paths so far.
 #[derive(Drop)]
 struct Parts<A: Allocator + Copy> {
     kept: Vec<LeanPath<A>, A>,
@@ -28,7 +28,7 @@ struct Parts<A: Allocator + Copy> {
 }
 
 impl<A: Allocator + Copy> Parts<A> {
-    /// Removes a path whose tree is first that of an earlier one.
+    /// Removes a path; `first` is the first path with its tree.
     fn remove(&mut self, path: PathId, first: PathId) -> Result<(), OutOfMemory>
         ensures { OnOk result (Adds self.old self.new [] (SamePath path first ∷ []) (SameAs first)) }
     {
@@ -50,7 +50,7 @@ impl<A: Allocator + Copy> Parts<A> {
     }
 }
 
-/// The trimmed paths of a code.
+/// The trimmed paths of a code. Fails only if allocation fails.
 fn trimmed<A: Allocator + Copy>(alloc: A, code: &Code<'_, A>) -> Result<Lean<A>, OutOfMemory>
     ensures { IfOk result (λ lean. lean.trees ≡ trees_in code.now) }
 {
@@ -75,12 +75,12 @@ fn trimmed<A: Allocator + Copy>(alloc: A, code: &Code<'_, A>) -> Result<Lean<A>,
     })
 }
 
-/// Trims compiled paths: removes each mutex; the own semaphore of a path that is one pair of braces, counted or not, and the counter of
-/// those; and each path whose tree, with its bounds, an earlier path has. All else is kept, with its number.
+/// Trims compiled paths. Removes each mutex; of a path that is one pair of braces, with or without a bound, its own semaphore and
+/// the counter of the braces; and each path whose tree, with its bounds, an earlier path has. All else is kept, with its number.
 ///
-/// The only error is want of memory; the code then comes back as it was. Each path is compared with each earlier one until one has its
+/// Fails only if allocation fails; the code then comes back as it was. Compares each path with the earlier ones until one has its
 /// tree: at most 256 paths of at most 64 names, so at most 32,640 comparisons, each of which ends where the trees first differ.
-/// Else the cost is one pass over the code.
+/// Apart from that, the cost is one pass over the code.
 pub fn trim<'d, A: Allocator + Copy>(
     alloc: A,
     code: Code<'d, A>,

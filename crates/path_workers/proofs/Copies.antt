@@ -1,4 +1,4 @@
--- A count as far as two says whether there is exactly one.
+-- A count up to 2 says whether there is exactly one.
 use Rattle.std.proofs.Common.{◌≡◌, ℕ, ◌+◌, ◌<◌, ◌≤◌, List, length, min, get_or, ap, arith, below_more}
 use Rattle.std.proofs.lemmas.List.{get_or_default}
 use Rattle.path_model.specs.declared.journal.Line.{Line}

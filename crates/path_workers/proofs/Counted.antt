@@ -1,4 +1,4 @@
--- Where there are as many receipts as lines, and each line has one, each has just one.
+-- If there are as many receipts as lines, and each line has one, each has just one.
 use Rattle.std.proofs.Common.{◌≡◌, ◌≢◌, inl, inr, ℕ, ◌+◌, ◌-◌, ◌<◌, ◌≤◌, suc, zero, Bool, true, false, List, [], ◌∷◌, length, cond, get_or, refl, ap, sym, subst, arith, below_more}
 use Rattle.std.specs.Prelude.{if◌then◌else◌, ◌==◌}
 use Rattle.std.specs.List.{count_by}

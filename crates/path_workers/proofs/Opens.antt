@@ -1,4 +1,4 @@
--- What a receipt more changes.
+-- What a further receipt changes.
 use Rattle.std.proofs.Common.{◌≡◌, ◌≢◌, ◌⊎◌, inl, inr, ℕ, ◌+◌, ◌<◌, ◌≤◌, List, [], ◌∷◌, ◌++◌, length, Bool, true, false, refl, sym, ap, ◌∙◌, subst, arith, length-append}
 use Rattle.std.specs.Prelude.{if◌then◌else◌, ◌==◌, Option, Some, None}
 use Rattle.std.proofs.lemmas.Bool.Decides.{nat_tests}
@@ -175,7 +175,7 @@ use_owed d room openings ls w n verb q (OwedToUse.refused a r fits own e) = subs
 use_owed d room openings ls w n verb q (OwedToUse.served a x rest fits own e) = refl
 use_owed d room openings ls w n verb q (OwedToUse.failed a x rest fits own e) = refl
 
--- so only an attempt that takes two places is answered by a start
+-- so only an attempt that takes two places gets a start as its reply
 pub starts_alone : (d : Declaration) (room : ℕ) (openings : List (List ℕ)) (ls : List Line) (w : ℕ) (a : Attempt) (q : Reply) → Owed d room openings ls w a q → places_for a ≡ 1 → opens q [] ≡ 0
 starts_alone d room openings ls w (Start op) q owed one = absurd (omega arith)
 starts_alone d room openings ls w (Apply n v) q owed one = use_owed d room openings ls w n v q owed
@@ -215,7 +215,7 @@ opens_none NoRoom not = refl
 abbrev pub Placed : Attempt → List Receipt → ℕ → ℕ → Type 0
 Placed a rs starts cap = (length rs + starts + places_for a ≤ cap) ⊎ (finishes_open a rs ≡ true)
 
--- as the taking of places tells it, of a list of that length
+-- the same with the length of the list as a number
 pub placed_of : (a : Attempt) (rs : List Receipt) (starts n cap : ℕ) → n ≡ length rs → ((n + starts + places_for a ≤ cap) ⊎ (finishes_open a rs ≡ true)) → Placed a rs starts cap
 placed_of a rs starts n cap same (inl room) = inl (subst (λ (k : ℕ). k + starts + places_for a ≤ cap) same room)
 placed_of a rs starts n cap same (inr o) = inr o

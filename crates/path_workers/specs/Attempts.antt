@@ -12,12 +12,12 @@ pub record Held : Type 0 where
   pub worker : ℕ
   pub receipts : List Receipt
 
--- one receipt more where the attempt has a place in the journal, and none where it has none
+-- one receipt more if the attempt has a place in the journal, else none
 abbrev pub receipts_then : List Receipt → Attempt → Option ℕ → Reply → List Receipt
 receipts_then rs attempt None reply = rs
 receipts_then rs attempt (Some place) reply = rs ++ record { place = place; attempt = attempt; reply = reply } ∷ []
 
--- how many lines a reply writes: none for want of room, else one
+-- how many lines a reply writes: none for NoRoom, else one
 abbrev pub lines_of : Reply → ℕ
 lines_of NoRoom = 0
 lines_of reply = 1

@@ -46,11 +46,11 @@ same_reply r s = false
 abbrev pub is_copy : ℕ → Line → Receipt → Bool
 is_copy place l r = (r.place == place) && (same_attempt l.attempt r.attempt && same_reply l.reply r.reply)
 
--- how many receipts of the pass equal this line at this place, the worker being the pass's
+-- how many receipts of the pass equal this line at this place, worker included
 abbrev pub copies_in : ℕ → Line → Held → ℕ
 copies_in place l h = if h.worker == l.worker then count_by (λ r. is_copy place l r) h.receipts else 0
 
--- how many receipts of all passes do
+-- how many receipts of all passes equal this line at this place
 abbrev pub copies : ℕ → Line → List Held → ℕ
 copies place l hs = sum_by (λ h. copies_in place l h) hs
 
@@ -62,7 +62,7 @@ receipts_of hs = sum_by (λ h. length h.receipts) hs
 abbrev pub AllCopied : ℕ → List Line → List Held → Type 0
 AllCopied b lines hs = (k : ℕ) (d : Line) → b ≤ k → k < length lines → copies k (slice_index_or lines k d) hs ≡ 1
 
--- and there are as many receipts as such lines
+-- each line from number b on is equal to exactly one receipt, and there are as many receipts as those lines
 abbrev pub IsSettled : ℕ → List Line → List Held → Type 0
 IsSettled b lines hs = (receipts_of hs ≡ length lines - b) × AllCopied b lines hs
 

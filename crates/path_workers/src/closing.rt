@@ -1,4 +1,4 @@
-//! The settlement of a desk by the passes that were made at it.
+//! The settling of a desk by its own passes.
 
 ghost use Rattle.std.specs.Prelude.{◌≡◌, ◌≤◌, length, vec_len, vec_capacity, IfOk, IfErr, MatchResult};
 ghost use Rattle.path_workers.specs.Later.{IsLater};
@@ -15,7 +15,7 @@ use crate::steps::Steps;
 use std::alloc::Allocator;
 use std::sync::ledger::Ledger;
 
-/// The slips of the passes, in their order, and how many lines they claim together.
+/// The slips of the passes, in their order, and the sum of their stakes.
 fn to_slips<L: Ledger, A: Allocator + Copy>(
     passes: Vec<Pass<L, A>, A>,
     mut slips: Vec<Slip<A>, A>,
@@ -34,9 +34,9 @@ fn to_slips<L: Ledger, A: Allocator + Copy>(
     (slips, all)
 }
 
-/// Closes a desk with passes that were made at it. Settled exactly where each line since it was opened is one receipt of these
-/// passes, and no receipt is left over. There are never more receipts than such lines. It takes no memory: the slips have their
-/// places in the vector that is handed in.
+/// Closes a desk with passes that were made at it. It is settled if and only if each line since it was opened is one receipt of these
+/// passes, and no receipt is left over. There are never more receipts than lines since then. Allocates nothing: the slips go into the
+/// vector `slips`, which must be empty and have the capacity.
 pub fn settle_own<L: Opening, S: Steps, A: Allocator + Copy>(
     hall: Hall<L, S>,
     before: u64,

@@ -67,7 +67,7 @@ fn copy_at(place: u64, line: &Line, receipt: &Receipt) -> u64
     u64::from(is_copy_of(place, line, receipt))
 }
 
-/// How many of the receipts are copies of the line, counted as far as two.
+/// The number of receipts that are copies of the line, counted up to 2.
 pub fn copies_among(place: u64, line: &Line, receipts: &[Receipt]) -> u64
     ensures { result ≡ min 2 (count_by (λ r. is_copy place line.now r) receipts.now) }
 {
@@ -78,7 +78,7 @@ pub fn copies_among(place: u64, line: &Line, receipts: &[Receipt]) -> u64
     found
 }
 
-/// The same where the places rise, by a binary search.
+/// The same for receipts whose places rise, by binary search.
 pub fn copies_found(place: u64, line: &Line, receipts: &[Receipt]) -> u64
     requires { (end : ℕ) × Rise 0 receipts.now end }
     ensures { result ≡ min 2 (count_by (λ r. is_copy place line.now r) receipts.now) }

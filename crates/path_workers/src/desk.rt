@@ -1,4 +1,4 @@
-//! One system for several threads, under one lock.
+//! One system shared by several threads, under one lock.
 
 ghost use Rattle.std.specs.Prelude.{◌≡◌, ◌↔◌, ◌≤◌, [], true, None, length, IsOk, IfOk, IfErr, IfSome, OnErr, MatchResult};
 ghost use Rattle.path_model.specs.declared.journal.Reply.TheVariants as replies;
@@ -19,11 +19,11 @@ use std::marker::Model;
 use std::sync::ledger::{Blank, Ledger};
 use std::sync::{Mutex, Wait};
 
-/// One system for several threads, under one lock.
+/// One system shared by several threads, under one lock.
 ///
 /// The type parameter `L` names this desk: its passes have it too, so a pass can't be used at another desk. Contracts see how many
-/// lines the system had when the desk was opened. Whatever the threads do, the system under the lock is one, so its journal is
-/// honest whenever the lock is free. A desk may be shared among threads where its system may be sent to one.
+/// lines the system had when the desk was opened. Whatever the threads do, there is one system under the lock, so its journal is
+/// honest whenever the lock is free. A desk may be shared among threads if its system may be sent to one.
 #[derive(Drop)]
 pub struct Desk<L: Opening, S: Steps> {
     hall: Mutex<Hall<L, S>>,
@@ -41,9 +41,10 @@ impl<L: Opening, S: Steps> Model for Desk<L, S> {
 }
 
 impl<L: Opening, S: Steps> Desk<L, S> {
-    /// A desk over the system as it stands, whose earlier lines need no receipt.
+    /// Opens a desk over the system as it is now. The lines that it has already need no receipts.
     ///
-    /// The blank is a new one with `u64::MAX` parts: `Blank::new(u64::MAX)`. It names the desk, and takes no memory; nor does this call.
+    /// The blank must be a new one with `u64::MAX` parts: `Blank::new(u64::MAX)`. It names the desk. Neither it nor this call
+    /// allocates.
     pub fn open(system: S, blank: Blank) -> Desk<L, S>
         requires name { blank.name ≡ L.name }
         requires parts { (blank.parts ≡ L.parts) × (blank.parts ≡ 18446744073709551615) }
@@ -57,24 +58,24 @@ impl<L: Opening, S: Steps> Desk<L, S> {
         }
     }
 
-    /// A pass of this desk for this worker, with no receipts. Several passes may have one worker.
+    /// Makes a pass of this desk for this worker, without receipts. Several passes may belong to one worker.
     ///
-    /// Its receipts take their places from the allocator; this call takes none, and waits for nobody.
+    /// Attempts allocate memory for receipts from `alloc`. This call allocates nothing, and waits for nobody.
     pub fn pass<A: Allocator + Copy>(&self, alloc: A, worker: u32) -> Pass<L, A>
         ensures { (result.worker ≡ worker) × (result.receipts ≡ []) }
     {
         Pass::new(alloc, worker)
     }
 
-    /// One attempt of the pass's worker: first the place of its receipt is taken, then the lock, and then the system makes one
-    /// [`step`](Steps::step). The pass gains one receipt with the place of the line, unless there is no room for a line.
+    /// Makes one attempt of the pass's worker: first allocates memory for its receipt, then takes the lock, and then lets the system
+    /// make one [`step`](Steps::step). The pass gains one receipt with the place of the line, unless there is no room for a line.
     ///
-    /// The only error is want of memory for receipts. Nothing was attempted then, and the pass is as it was; the same attempt may be
-    /// made again. A start takes the place of its finish too. So the finish of what this pass has started, and not finished, is never
-    /// refused for want of memory.
+    /// Fails only if allocation fails for receipts. Nothing was attempted then, and the pass is as it was; the same attempt may be
+    /// made again. A start also allocates memory for the receipt of its finish. So the finish of what this pass has started and not
+    /// finished never gets `OutOfMemory`.
     ///
-    /// It waits while another thread has the lock, and nobody says how long. It costs the step, one lock, and the places of receipts:
-    /// at most one and a half for each receipt and as many again, as a growing `Vec` has.
+    /// Waits while another thread has the lock, for an unknown time. Costs the step, one lock, and the memory for receipts: at most one
+    /// and a half for each receipt and as many again, as a growing `Vec` has.
     pub fn attempt<R: Wait, A: Allocator + Copy>(
         &self,
         rt: &R,
@@ -93,13 +94,13 @@ impl<L: Opening, S: Steps> Desk<L, S> {
 
     /// Closes the desk, and compares the lines since it was opened with the receipts of these passes, which may be of any desk.
     ///
-    /// It is settled exactly where each line is equal to one receipt of its place and of its worker's, and no receipt is left over.
-    /// The passes then come back as they were, in their order. Else it is a `MissingPass` where the numbers differ, or a `Mismatch`
-    /// that names the first line at fault; the passes are given up. The system comes back either way.
+    /// The desk is settled if and only if each line is equal to exactly one receipt, by place, worker, attempt and reply, and no receipt
+    /// is left over. The passes then come back as they were, in their order. Else fails with `MissingPass` if the numbers of lines and
+    /// receipts differ, and with `Mismatch` for the first line at fault if they don't; the passes are dropped. The system comes back
+    /// either way.
     ///
-    /// It takes no memory and waits for nobody. Where the desk is settled with passes of its own it costs a look at each line and each
-    /// receipt, and for each line one comparison for every doubling of the passes. Where a `Mismatch` has to be found it costs a
-    /// binary search in each pass for each line.
+    /// Allocates nothing and waits for nobody. A desk settled by its own passes costs a look at each line and each receipt, and for each
+    /// line one comparison for every doubling of the passes. A `Mismatch` costs a binary search in each pass for each line.
     pub fn settle<M: Ledger, A: Allocator + Copy>(
         self,
         passes: Vec<Pass<M, A>, A>,

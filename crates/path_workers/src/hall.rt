@@ -1,4 +1,4 @@
-//! What lies under the lock of a desk.
+//! What is under the lock of a desk.
 
 ghost use Rattle.std.specs.Prelude.{◌≡◌, ◌+◌, ◌<◌, ◌≤◌, ◌^◌, length, vec_len, vec_capacity, IfSome};
 ghost use Rattle.path_model.specs.Journals.{with_line};
@@ -15,7 +15,7 @@ use std::alloc::Allocator;
 use std::marker::Model;
 use std::sync::ledger::{Blank, Book, Share};
 
-/// What lies under the lock: the system, and the count of its lines since the desk was opened. Contracts see the system's account.
+/// What is under the lock: the system, and the count of its lines since the desk was opened. Contracts see the system's account.
 #[derive(Drop)]
 pub struct Hall<L: Opening, S: Steps> {
     system: S,
@@ -40,7 +40,7 @@ impl<L: Opening, S: Steps> Model for Hall<L, S> {
 }
 
 impl<L: Opening, S: Steps> Hall<L, S> {
-    /// A hall over the system as it stands.
+    /// A hall over the system as it is now.
     pub fn open(system: S, blank: Blank) -> Hall<L, S>
         requires name { blank.name ≡ L.name }
         requires parts { (blank.parts ≡ L.parts) × (blank.parts ≡ 18446744073709551615) }
@@ -77,7 +77,7 @@ impl<L: Opening, S: Steps> Hall<L, S> {
         self.system.journal()
     }
 
-    /// The system. Passes of this desk have no more receipts than it has lines since the desk was opened.
+    /// Closes the hall and returns the system. A stake of this desk is at most the number of lines since the desk was opened.
     pub(crate) fn close_with(self, stake: Stake<L>) -> S
         ensures system { S.account result ≡ self }
         ensures later { IsLater L.opened self }
@@ -93,7 +93,7 @@ impl<L: Opening, S: Steps> Hall<L, S> {
         system
     }
 
-    /// One step. The stake gains a line exactly where the journal does.
+    /// Makes one step. The stake gains a line exactly when the journal does.
     fn step(&mut self, stake: &mut Stake<L>, worker: u32, attempt: Attempt) -> Answer
         ensures owed { Owed self.old.declaration self.old.room self.old.openings self.old.journal worker attempt result.reply }
         ensures journal { self.new ≡ record self.old {
@@ -117,7 +117,7 @@ impl<L: Opening, S: Steps> Hall<L, S> {
         }
     }
 
-    /// One step, and its receipt.
+    /// Makes one step, and appends its receipt if the journal gained a line.
     pub(crate) fn stamp<A: Allocator + Copy>(
         &mut self,
         receipts: &mut Vec<Receipt, A>,

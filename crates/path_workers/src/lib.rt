@@ -1,7 +1,7 @@
-//! A desk: one system that threads share, with a receipt for each line of its journal.
+//! A desk: one system shared by threads, with a receipt for each line of its journal.
 //!
 //! Each thread holds a [`Pass`]. An attempt is one step of the system under the desk's lock; its line leaves a receipt in the pass.
-//! In the end [`Desk::settle`] compares the receipts of all passes with the journal, line by line.
+//! At the end [`Desk::settle`] compares the receipts of all passes with the journal, line by line.
 #![tactic(auto)]
 
 mod answer;

@@ -1,7 +1,7 @@
 //! A walk through the receipts of all passes in the order of their places.
 //!
-//! Settling takes no memory, so the walk keeps a heap in the passes themselves: each pass has a slot of it, and in the first slot
-//! stands the pass whose next receipt has the lowest place. That order is for speed alone, and no contract speaks of it: where the
+//! Settling allocates nothing, so the walk keeps a heap in the passes themselves: each pass holds one slot of it, and the first slot
+//! holds the pass whose next receipt has the lowest place. The order only makes the walk fast, and no contract speaks of it: if the
 //! walk found a receipt for each line, they are there.
 
 ghost use Rattle.std.specs.Prelude.{◌≡◌, ◌+◌, ◌<◌, ◌≤◌, ◌^◌, IsTrue};
@@ -13,15 +13,15 @@ use path_model::Line;
 use std::alloc::Allocator;
 use std::sync::ledger::Ledger;
 
-/// What stands in a slot of the heap: the number of a pass, and the place of that pass's next receipt.
+/// One slot of the heap: the number of a pass, and the place of that pass's next receipt.
 #[derive(Clone, Copy)]
 pub struct Slot {
     pub pass: usize,
-    /// The largest number where there is no next receipt.
+    /// The largest number if there is no next receipt.
     pub next: u64,
 }
 
-/// The place that counts in this slot; the largest number where there is no such slot.
+/// The place in this slot; the largest number if there is no slot of this number.
 fn next_in<L: Ledger, A: Allocator + Copy>(passes: &[Pass<L, A>], slot: usize) -> u64 {
     match passes.get(slot) {
         Some(holder) => holder.slot().next,
@@ -29,7 +29,7 @@ fn next_in<L: Ledger, A: Allocator + Copy>(passes: &[Pass<L, A>], slot: usize) -
     }
 }
 
-/// Of this slot and the one behind it, that with the lower place.
+/// Which of this slot and the next one has the lower place.
 fn lower_of_two<L: Ledger, A: Allocator + Copy>(passes: &[Pass<L, A>], left: usize) -> usize
     requires { left < 2 ^ 63 }
     ensures { (left ≤ result) × (result ≤ left + 1) }
@@ -48,7 +48,7 @@ fn swap_slots<L: Ledger, A: Allocator + Copy>(passes: &mut [Pass<L, A>], one: us
     }
 }
 
-/// Lets what stands in a slot sink until neither slot below it has a lower place.
+/// Moves a slot's content down until neither slot below it has a lower place.
 fn sink<L: Ledger, A: Allocator + Copy>(passes: &mut [Pass<L, A>], from: usize)
     ensures { passes.new ≡ passes.old }
 {
@@ -63,7 +63,7 @@ fn sink<L: Ledger, A: Allocator + Copy>(passes: &mut [Pass<L, A>], from: usize)
     }
 }
 
-/// Each pass in its own slot, at its first receipt.
+/// Puts each pass into its own slot, at its first receipt.
 fn begin<L: Ledger, A: Allocator + Copy>(passes: &mut [Pass<L, A>])
     ensures { passes.new ≡ passes.old }
 {
@@ -80,7 +80,7 @@ fn order<L: Ledger, A: Allocator + Copy>(passes: &mut [Pass<L, A>])
     }
 }
 
-/// Whether the next receipt of all is a copy of this line; it is met then.
+/// Whether the next receipt of all is a copy of this line. If so, the walk moves past it.
 fn meets<L: Ledger, A: Allocator + Copy>(passes: &mut [Pass<L, A>], place: u64, line: &Line) -> bool
     ensures same { passes.new ≡ passes.old }
     ensures met { IsTrue result → 1 ≤ copies place line.now passes.old }
@@ -98,11 +98,11 @@ fn meets<L: Ledger, A: Allocator + Copy>(passes: &mut [Pass<L, A>], place: u64, 
     true
 }
 
-/// Whether the walk finds a copy of each line from this number on. It finds them all where the receipts of each pass stand in the
-/// order of their places and each line has one copy.
+/// Whether the walk finds a copy of each line from this number on. It finds them all if the receipts of each pass are in the order
+/// of their places and each line has one copy.
 ///
-/// The passes stay as they are. The cost is that of a look at each line and its receipt, and of a comparison for each doubling of
-/// the number of passes.
+/// The passes stay as they are. The cost is a look at each line and its receipt, with a comparison for each doubling of the number of
+/// passes.
 pub fn finds_each<L: Ledger, A: Allocator + Copy>(
     journal: &[Line],
     before: u64,

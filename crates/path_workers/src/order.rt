@@ -1,8 +1,8 @@
-//! In which order the receipts of a pass stand.
+//! Whether the places of a pass's receipts rise.
 
 ghost use Rattle.std.specs.Prelude.{◌≡◌, ◌+◌, ◌<◌, ◌≤◌, ◌^◌, true, None, IfSome};
 
-/// Whether the places of receipts rise in the order of the receipts, and the end below which they all are then.
+/// Whether the places of receipts rise in the order of the receipts, and if so the end that they are all below.
 #[derive(Clone, Copy)]
 pub struct Order {
     pub rises: bool,
@@ -10,7 +10,7 @@ pub struct Order {
 }
 
 impl Order {
-    /// That of no receipts.
+    /// The order of no receipts.
     pub fn new() -> Order
         ensures { (result.rises ≡ true) × (result.end ≡ 0) }
     {
@@ -20,7 +20,7 @@ impl Order {
         }
     }
 
-    /// That after a receipt at this place, if there is one.
+    /// The order after a further receipt at this place, if there is one.
     pub fn then(self, place: Option<u64>) -> Order
         requires { IfSome place (λ p. p < 2 ^ 63) }
         ensures none { place ≡ None → (result.rises ≡ self.rises) × (result.end ≡ self.end) }

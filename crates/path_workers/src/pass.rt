@@ -22,19 +22,19 @@ use std::marker::Model;
 use std::sync::ledger::Ledger;
 use std::sync::{Mutex, Wait};
 
-/// The receipts of one worker at one desk: one for each line that the worker's attempts through this pass wrote.
+/// The receipts of one worker at one desk: one for each line that the attempts through this pass wrote.
 ///
-/// Contracts see the worker and the receipts. A receipt is a share of its desk's count of lines, which rises under the lock alone: so
-/// nobody has a receipt without a step of that desk's system. The share takes no bytes.
+/// Contracts see the worker and the receipts. Each receipt comes with a share of its desk's count of lines, which rises only under
+/// the lock: so a pass has no receipt without a step of that desk's system. The share takes no bytes.
 #[derive(Drop)]
 pub struct Pass<L: Ledger, A: Allocator + Copy = Global> {
     worker: u32,
     receipts: Vec<Receipt, A>,
-    /// How many receipts are of starts that were admitted.
+    /// How many receipts are those of admitted starts.
     starts: usize,
     order: Order,
     stake: Stake<L>,
-    /// How many receipts the walk of a settlement has met, and a slot of its heap.
+    /// How many receipts the walk of a settlement has passed, and a slot of its heap.
     met: usize,
     slot: Slot,
 }
@@ -52,7 +52,7 @@ impl<L: Ledger, A: Allocator + Copy> Model for Pass<L, A> {
 }
 
 impl<L: Ledger, A: Allocator + Copy> Pass<L, A> {
-    /// A pass with no receipts.
+    /// A pass without receipts.
     pub fn new(alloc: A, worker: u32) -> Pass<L, A>
         ensures { (result.worker ≡ worker) × (result.receipts ≡ []) }
     {
@@ -67,22 +67,22 @@ impl<L: Ledger, A: Allocator + Copy> Pass<L, A> {
         }
     }
 
-    /// The number of the worker whose pass it is.
+    /// The number of the pass's worker.
     pub fn worker(&self) -> u32
         ensures { result ≡ self.now.worker }
     {
         self.worker
     }
 
-    /// All receipts, in the order of the attempts. It waits for nobody.
+    /// All receipts, in the order of the attempts. Waits for nobody.
     pub fn receipts(&self) -> &[Receipt]
         ensures { result.now ≡ self.now.receipts }
     {
         self.receipts.as_slice()
     }
 
-    /// How many receipts equal the line at this place, this pass being the worker's, counted as far as two. The cost is a binary
-    /// search's where the places rise, and else that of a look at each receipt.
+    /// How many receipts equal the line at this place, worker included, counted up to 2. The cost is that of a binary search if the
+    /// places rise, and else that of a look at each receipt.
     pub fn copies(&self, place: u64, line: &Line) -> u64
         ensures { result ≡ min 2 (copies_in place line.now self.now) }
     {
@@ -106,7 +106,7 @@ impl<L: Ledger, A: Allocator + Copy> Pass<L, A> {
         self.slot = slot;
     }
 
-    /// At its first receipt, with itself in its slot.
+    /// Puts the walk at the first receipt of this pass, and this pass into its slot.
     pub fn begin(&mut self, pass: usize)
         ensures { self.new ≡ self.old }
     {
@@ -117,7 +117,7 @@ impl<L: Ledger, A: Allocator + Copy> Pass<L, A> {
         };
     }
 
-    /// The place of the next receipt that the walk meets; the largest number where there is none.
+    /// The place of the next receipt of the walk; the largest number if there is none.
     pub fn next_place(&self) -> u64 {
         match self.receipts.get(self.met) {
             Some(receipt) => receipt.place,
@@ -125,7 +125,7 @@ impl<L: Ledger, A: Allocator + Copy> Pass<L, A> {
         }
     }
 
-    /// Whether the next receipt equals the line at this place, this pass being the worker's; it is met then.
+    /// Whether the next receipt of the walk equals the line at this place, worker included. If so, the walk moves past it.
     pub fn meets(&mut self, place: u64, line: &Line) -> bool
         ensures same { self.new ≡ self.old }
         ensures met { IsTrue result → 1 ≤ copies_in place line.now self.old }
@@ -139,7 +139,7 @@ impl<L: Ledger, A: Allocator + Copy> Pass<L, A> {
         is_next
     }
 
-    /// The receipts without the desk, and how many of its lines they claim.
+    /// The receipts without the desk, and the stake.
     pub(crate) fn into_slip(self) -> (Slip<A>, Stake<L>)
         ensures slip { result.0 ≡ self }
         ensures stake { result.1 ≡ length self.receipts }
@@ -158,7 +158,7 @@ impl<L: Ledger, A: Allocator + Copy> Pass<L, A> {
 }
 
 impl<L: Opening, A: Allocator + Copy> Pass<L, A> {
-    /// Takes the places of the receipts, and then makes one step of what lies under the lock.
+    /// Reserves memory for the receipts, and then makes one step of the system under the lock. Fails only if allocation fails.
     pub fn attempt<S: Steps, R: Wait>(
         &mut self,
         rt: &R,
@@ -176,7 +176,8 @@ impl<L: Opening, A: Allocator + Copy> Pass<L, A> {
         self.make(&mut hall.lock(rt), attempt)
     }
 
-    /// Takes the places of the receipts, and then makes one step of what its caller holds the lock of. It waits for nobody.
+    /// Reserves memory for the receipts, and then makes one step while the caller holds the lock. Fails only if allocation fails. Waits
+    /// for nobody.
     pub fn make<S: Steps>(
         &mut self,
         hall: &mut Hall<L, S>,
@@ -207,8 +208,8 @@ fn started(reply: Reply) -> usize
     }
 }
 
-/// Takes the places for the receipt of this attempt, and for those of the finishes that may still be owed. Where memory is wanting,
-/// a finish that is owed has its place already.
+/// Reserves memory for the receipt of this attempt, and for those of the finishes that may still be owed. Fails only if allocation
+/// fails, and never for a finish that is owed: memory for its receipt is reserved already.
 fn take_places<A: Allocator + Copy>(
     receipts: &mut Vec<Receipt, A>,
     starts: usize,
@@ -235,7 +236,7 @@ fn take_places<A: Allocator + Copy>(
     }
 }
 
-/// Whether the pass has started this activation and not finished it.
+/// Whether the receipts have a start of this activation and no later finish.
 fn is_owed(receipts: &[Receipt], act: ActId) -> bool
     ensures { result ≡ is_open act receipts.now }
 {

@@ -1,4 +1,4 @@
-//! The settlement of a desk: each line against the receipts.
+//! The settling of a desk: each line against the receipts.
 
 ghost use Rattle.std.specs.Prelude.{◌≡◌, length, min, IfOk, IfErr, OnOk, IfNone, IfSome, MatchResult};
 ghost use Rattle.path_workers.specs.Settled.{copies, receipts_of, AllCopied, IsSettled, IsFirstMismatch};
@@ -15,15 +15,15 @@ use thiserror::Error;
 /// Why a desk isn't settled.
 #[derive(Clone, Copy, Debug, PartialEq, Eq, Error)]
 pub enum SettleFault {
-    /// The numbers of lines since the desk was opened and of receipts differ.
+    /// The number of lines since the desk was opened isn't the number of receipts.
     #[error("{lines} lines and {receipts} receipts")]
     MissingPass {
         /// How many lines there are.
         lines: u64,
-        /// How many receipts all passes have; the largest `u64` where they have more.
+        /// How many receipts all passes have; `u64::MAX` if there are more.
         receipts: u64,
     },
-    /// There are as many lines as receipts, but the line at this place isn't equal to exactly one of these. It is the first such line.
+    /// There are as many lines as receipts, but the line at this place is the first that isn't equal to exactly one receipt.
     #[error("line {place} is not one receipt")]
     Mismatch {
         /// The place in the journal, counted from 0.
@@ -31,7 +31,7 @@ pub enum SettleFault {
     },
 }
 
-/// What a settled desk was: each line since it was opened is one receipt of these passes, and no receipt is left over.
+/// A settled desk: each line since it was opened is one receipt of these passes, and no receipt is left over.
 #[derive(Drop)]
 pub struct Settled<M: Ledger, S: Steps, A: Allocator + Copy = Global> {
     /// The system, as the last step left it.
@@ -40,7 +40,7 @@ pub struct Settled<M: Ledger, S: Steps, A: Allocator + Copy = Global> {
     pub passes: Vec<Pass<M, A>, A>,
 }
 
-/// How many receipts of all passes are equal to the line, as far as two.
+/// The number of receipts of all passes that are equal to the line, counted up to 2.
 fn copies_in_all<M: Ledger, A: Allocator + Copy>(
     passes: &[Pass<M, A>],
     place: u64,
@@ -55,7 +55,7 @@ fn copies_in_all<M: Ledger, A: Allocator + Copy>(
     found
 }
 
-/// The number of all receipts, or the greatest u64 where there are more.
+/// The number of all receipts; `u64::MAX` if there are more.
 fn receipt_count<M: Ledger, A: Allocator + Copy>(passes: &[Pass<M, A>]) -> u64
     ensures { result ≡ min 18446744073709551615 (receipts_of passes.now) }
 {
@@ -82,7 +82,7 @@ fn first_mismatch<M: Ledger, A: Allocator + Copy>(
     None
 }
 
-/// Compares the lines from this number on with the receipts.
+/// Compares the lines from number `before` on with the receipts. Fails with the first reason why they aren't settled.
 pub fn check<M: Ledger, A: Allocator + Copy>(
     journal: &[Line],
     before: u64,
@@ -106,7 +106,7 @@ pub fn check<M: Ledger, A: Allocator + Copy>(
     }
 }
 
-/// The system and the passes, where the lines from this number on are the receipts; else the system, and why not.
+/// The system and the passes if the lines from number `before` on are settled by the receipts; else the system, and why not.
 pub fn compared<S: Steps, M: Ledger, A: Allocator + Copy>(
     system: S,
     before: u64,

@@ -1,4 +1,4 @@
-//! The receipts of a worker, once its desk is closed.
+//! The receipts of a worker after its desk is closed.
 
 ghost use Rattle.std.specs.Prelude.{◌≡◌, length, vec_items};
 
@@ -6,7 +6,7 @@ use crate::answer::Receipt;
 use std::alloc::{Allocator, Global};
 use std::marker::Model;
 
-/// The receipts of one worker, once its desk is closed. Contracts see the worker and the receipts, as of a pass.
+/// The receipts of one worker after its desk is closed. Contracts see the worker and the receipts, as of a pass.
 #[derive(Drop)]
 pub struct Slip<A: Allocator + Copy = Global> {
     worker: u32,
@@ -28,7 +28,7 @@ impl<A: Allocator + Copy> Slip<A> {
         Slip { worker, receipts }
     }
 
-    /// Whose they are.
+    /// The worker whose receipts these are.
     pub fn worker(&self) -> u32
         ensures { result ≡ self.now.worker }
     {

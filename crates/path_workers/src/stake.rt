@@ -1,11 +1,11 @@
-//! How many lines of its desk a pass has, so that nobody else can claim them.
+//! How many lines of its desk belong to a pass, so that no other pass can claim them.
 
 ghost use Rattle.std.specs.Prelude.{◌≡◌, ◌+◌, ◌<◌, ◌≤◌};
 
 use std::marker::Model;
 use std::sync::ledger::{Book, Ledger, Share};
 
-/// How many lines of its desk a pass has: none, or a share of the desk's count with a part for each. Contracts see the number.
+/// How many lines of its desk belong to a pass: none, or a share of the desk's count with a part for each. Contracts see the number.
 ///
 /// A share takes no bytes at run time. It rises only together with the count under the lock.
 #[derive(Drop)]
@@ -31,7 +31,7 @@ impl<L: Ledger> Stake<L> {
         Stake { share: None }
     }
 
-    /// One line more, in the book and here.
+    /// Adds one line, to the book and to this stake.
     pub fn gain(&mut self, book: &mut Book<L>, rest: &mut Share<L>)
         requires { (1 < rest.old.parts) × (rest.old.amount ≡ 0) }
         ensures stake { self.new ≡ self.old + 1 }
@@ -50,7 +50,7 @@ impl<L: Ledger> Stake<L> {
         }
     }
 
-    /// Both together.
+    /// The sum of both stakes.
     pub fn merge(self, other: Stake<L>) -> Stake<L>
         ensures { result ≡ self + other }
     {
@@ -66,7 +66,7 @@ impl<L: Ledger> Stake<L> {
         }
     }
 
-    /// It is no greater than the book's total.
+    /// Shows that the stake is at most the book's total. Nothing changes.
     pub fn audit(self, book: &mut Book<L>)
         ensures bound { self ≤ book.old.total }
         ensures total { book.new.total ≡ book.old.total }

@@ -16,7 +16,7 @@ use path_shelf::Device;
 use path_system::System;
 use std::alloc::Allocator;
 
-/// What a desk can share: something that takes one attempt after another and keeps a journal of them, as a [`System`] does.
+/// What a desk can share: it takes one attempt after another and keeps a journal of them, as a [`System`] does.
 ///
 /// Contracts see its `account`, which for a system is what they see of the system itself.
 pub trait Steps: Drop {
@@ -33,7 +33,7 @@ pub trait Steps: Drop {
     fn has_well_formed_paths(&self)
         ensures { Every WellFormed (paths_of (account self.now).declaration) };
 
-    /// One attempt of a worker, as [`System::step`] says.
+    /// Makes one attempt of a worker, as [`System::step`] says.
     fn step(&mut self, worker: u32, attempt: Attempt) -> Reply
         ensures owed { Owed (account self.old).declaration (account self.old).room (account self.old).openings
             (account self.old).journal worker attempt result }

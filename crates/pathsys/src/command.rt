@@ -4,10 +4,10 @@ use clap::{Arg, ArgAction, Command, value_parser};
 use path_model::MOST_LINES;
 use std::alloc::{AllocError, Global};
 
-/// What help says below the commands.
+/// The help text below the commands.
 const MORE_HELP: &str = "\
-A declaration says which operations a resource has, and in which order paths let them run. Workers
-attempt to start, use and finish operations; each attempt is answered, one line each.
+A declaration lists the operations of each resource, and paths that say in which order they may run.
+Workers attempt to start, use and finish operations; each attempt gets a reply, one line each.
 
 Without a command, standard input is a declaration, a line %, and attempts:
 
@@ -22,8 +22,8 @@ resource slot cell operation deposit, remove path deposit ; remove end end
 2 use 1 look
 END
 
-docs/language.md describes declarations, docs/attempts.md attempts, replies and reports,
-docs/journals.md journals and their audit, and docs/scripts.md scripts of processes.
+See docs/language.md for declarations, docs/attempts.md for attempts, replies and reports,
+docs/journals.md for journals and audits, and docs/scripts.md for scripts of processes.
 
 Exit statuses:
   0  done
@@ -32,14 +32,14 @@ Exit statuses:
   3  a file or stream failed
   4  the attempts, the journal or the script are refused
   5  a line of the journal is wrong, or not all processes are done
-  6  memory is wanting";
+  6  out of memory";
 
-/// The name of a file, which has to be there.
+/// A required file name.
 fn file<'a>(alloc: Global, id: &'a str, help: &'a str) -> Arg<'a> {
     Arg::new(alloc, id).required(true).help(help)
 }
 
-/// The room of a journal: 1 to the most lines that one may have, or 4,096 where it isn't given.
+/// The room of a journal: 1 to [`MOST_LINES`], or 4,096 if it isn't given.
 fn room<'a>(alloc: Global, help: &'a str) -> Arg<'a> {
     Arg::new(alloc, "room")
         .long("room")
@@ -49,13 +49,13 @@ fn room<'a>(alloc: Global, help: &'a str) -> Arg<'a> {
         .help(help)
 }
 
-/// Whether a report is asked for.
+/// The flag that asks for a report.
 fn report<'a>(alloc: Global) -> Arg<'a> {
     Arg::new(alloc, "report")
         .long("report")
         .action(ArgAction::SetTrue)
         .help(
-            "then also says what can start, what is blocked, what is live, and whether all is stuck",
+            "then writes what can start, what is blocked and what is live, and whether all is stuck",
         )
 }
 
@@ -63,26 +63,24 @@ fn report<'a>(alloc: Global) -> Arg<'a> {
 fn check<'a>(alloc: Global) -> Result<Command<'a>, AllocError> {
     Command::new(alloc, "check")
         .about("Reads a declaration and prints it")
-        .after_help("docs/language.md describes declarations.")
+        .after_help("See docs/language.md for declarations.")
         .arg(file(alloc, "DECL", "the file of the declaration"))
 }
 
 /// The command that compiles a declaration.
 fn compile<'a>(alloc: Global) -> Result<Command<'a>, AllocError> {
     Command::new(alloc, "compile")
-        .about(
-            "Prints the semaphores of a declaration, as they are translated and as they are trimmed",
-        )
-        .after_help("docs/translation.md says how they are read.")
+        .about("Prints the semaphores of a declaration's paths, before and after trimming")
+        .after_help("See docs/translation.md for how to read them.")
         .arg(file(alloc, "DECL", "the file of the declaration"))
 }
 
 /// The command that traces attempts.
 fn trace<'a>(alloc: Global) -> Result<Command<'a>, AllocError> {
     Command::new(alloc, "trace")
-        .about("Answers each attempt of a file")
+        .about("Writes each attempt of a file with its reply")
         .after_help(
-            "docs/language.md describes declarations, docs/attempts.md attempts, replies and reports.",
+            "See docs/language.md for declarations, docs/attempts.md for attempts, replies and reports.",
         )
         .arg(file(alloc, "DECL", "the file of the declaration"))?
         .arg(file(alloc, "ATTEMPTS", "the file of the attempts"))?
@@ -96,17 +94,15 @@ fn trace<'a>(alloc: Global) -> Result<Command<'a>, AllocError> {
 /// The command that audits a journal.
 fn audit<'a>(alloc: Global) -> Result<Command<'a>, AllocError> {
     Command::new(alloc, "audit")
-        .about(
-            "Says whether each reply of a journal was owed, or which line is the first that was not",
-        )
+        .about("Says whether a journal is sound, or names its first wrong line")
         .after_help(
-            "docs/language.md describes declarations, docs/journals.md journals and their audit.",
+            "See docs/language.md for declarations, docs/journals.md for journals and audits.",
         )
         .arg(file(alloc, "DECL", "the file of the declaration"))?
         .arg(file(alloc, "JOURNAL", "the file of the journal"))?
         .arg(room(
             alloc,
-            "how many lines the journal had room for, 1 to 1048576, where its text does not say so",
+            "how many lines the journal had room for, 1 to 1048576, unless its text says so",
         ))
 }
 
@@ -115,7 +111,7 @@ fn run<'a>(alloc: Global) -> Result<Command<'a>, AllocError> {
     Command::new(alloc, "run")
         .about("Runs the processes of a script, writes the journal and says how each process ended")
         .after_help(
-            "docs/language.md describes declarations, docs/scripts.md scripts and how processes end.",
+            "See docs/language.md for declarations, docs/scripts.md for scripts and how processes end.",
         )
         .arg(file(alloc, "DECL", "the file of the declaration"))?
         .arg(file(alloc, "SCRIPT", "the file of the script"))?
@@ -125,7 +121,7 @@ fn run<'a>(alloc: Global) -> Result<Command<'a>, AllocError> {
         ))
 }
 
-/// The program with one command more, where that was made.
+/// The program with one more command. Fails if that one couldn't be made.
 fn with<'a>(
     program: Command<'a>,
     command: Result<Command<'a>, AllocError>,
@@ -136,11 +132,11 @@ fn with<'a>(
     }
 }
 
-/// The words that the program takes. The only error is want of memory.
+/// The command line of the program. Fails only if allocation fails.
 pub fn command<'a>(alloc: Global) -> Result<Command<'a>, AllocError> {
     let program = Command::new(alloc, "pathsys")
         .version("0.1.0")
-        .about("Orders operations by path expressions")
+        .about("Enforces path expressions")
         .after_help(MORE_HELP);
     let program = with(program, check(alloc))?;
     let program = with(program, compile(alloc))?;

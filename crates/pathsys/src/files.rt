@@ -8,7 +8,7 @@ use std::fs;
 use std::fs::OpenFile;
 use std::rt::Files;
 
-/// How many bytes a file says that it has, and 0 where it doesn't say.
+/// How many bytes the file says it has; 0 if it doesn't say.
 fn size<F: OpenFile>(file: &F) -> usize {
     match file.metadata() {
         Ok(metadata) => metadata.len() as usize,
@@ -16,8 +16,8 @@ fn size<F: OpenFile>(file: &F) -> usize {
     }
 }
 
-/// The bytes of the file of this name, at most [`LIMIT`]. `Unreadable` where it can't be opened or read, `TooLong` where it
-/// has more. The cost is that of the bytes.
+/// Reads the file of this name, of at most [`LIMIT`] bytes. Fails with `Unreadable` if it can't be opened or read, with `TooLong` if
+/// it has more bytes, and with `OutOfMemory` if allocation fails. The cost is proportional to the bytes.
 pub fn read_file<'a, R: Files + AllocGlobal>(rt: &R, name: &'a str) -> Result<Vec<u8>, Fault<'a>>
     ensures { IfOk result (λ bytes. length bytes.items ≤ LIMIT) }
 {
@@ -30,8 +30,8 @@ pub fn read_file<'a, R: Files + AllocGlobal>(rt: &R, name: &'a str) -> Result<Ve
     }
 }
 
-/// The bytes of standard input, at most [`LIMIT`]. `Unreadable` where a read fails, `TooLong` where there are more. The cost
-/// is that of the bytes.
+/// Reads standard input, at most [`LIMIT`] bytes. Fails with `Unreadable` if a read fails, with `TooLong` if there are more bytes,
+/// and with `OutOfMemory` if allocation fails. The cost is proportional to the bytes.
 pub fn read_stdin<R: Input + AllocGlobal>(rt: &R) -> Result<Vec<u8>, Fault<'static>>
     ensures { IfOk result (λ bytes. length bytes.items ≤ LIMIT) }
 {

@@ -1,4 +1,4 @@
-//! The program: reads its command line, its files and standard input, and writes what a declaration answers.
+//! The program: reads its command line, its files and standard input, and runs the command.
 #![tactic(auto)]
 
 mod command;

@@ -1,4 +1,4 @@
-//! What the words of the command line ask for.
+//! Runs the command that the command line asks for.
 
 ghost use Rattle.std.specs.Prelude.{◌≢◌};
 ghost use Rattle.clap.specs.Words.{kind_of};
@@ -17,9 +17,9 @@ use std::rt::{Env, Files};
 use std::sync::Wait;
 use std::thread::Threads;
 
-/// Tells what clap has to say: help and the version on standard output, all else on standard error.
+/// Writes clap's message: help and the version on standard output, all else on standard error.
 fn tell_words<O: Write, E: Write>(error: &Error, out: &mut O, err: &mut E) -> Status
-    // What is refused isn't done.
+    // A refused command line doesn't end as done.
     ensures { kind_of error.now ≢ ErrorKind.DisplayHelp → kind_of error.now ≢ ErrorKind.DisplayVersion → result ≢ Status.Done }
 {
     if error.kind() == ErrorKind::OutOfMemory {
@@ -64,7 +64,7 @@ fn compile<R: Files + AllocGlobal, O: Write, E: Write>(
     }
 }
 
-/// The bytes of the declaration's file, and of the file that the command line gives under this id.
+/// The bytes of the declaration's file, and of the file under the id `second`.
 fn read_both<'a, R: Files + AllocGlobal>(
     rt: &R,
     words: &ArgMatches<'a>,
@@ -124,7 +124,7 @@ fn run<R: Files + AllocGlobal + Threads + Wait + Sync, O: Write, E: Write>(
     }
 }
 
-/// Traces what standard input holds.
+/// Traces standard input.
 fn without_words<R: Input + AllocGlobal, O: Write, E: Write>(
     rt: &R,
     out: &mut O,
@@ -139,7 +139,7 @@ fn without_words<R: Input + AllocGlobal, O: Write, E: Write>(
     }
 }
 
-/// Does what the words of the command line asked for, as clap matched them.
+/// Runs the command that clap matched.
 fn matched<R: Files + Input + AllocGlobal + Threads + Wait + Sync, O: Write, E: Write>(
     rt: &R,
     matches: &ArgMatches<'_>,
@@ -156,7 +156,7 @@ fn matched<R: Files + Input + AllocGlobal + Threads + Wait + Sync, O: Write, E: 
     }
 }
 
-/// Does what these words of the command line ask for.
+/// Runs the command that these words ask for.
 fn asked<R: Files + Input + AllocGlobal + Threads + Wait + Sync, O: Write, E: Write>(
     rt: &R,
     words: &[String],
@@ -172,8 +172,8 @@ fn asked<R: Files + Input + AllocGlobal + Threads + Wait + Sync, O: Write, E: Wr
     }
 }
 
-/// Does what the words of the command line ask for. Where several causes stand, the first counts: words, files,
-/// declaration, attempts, journal or script, room.
+/// Runs the command that the command line asks for, and returns its status. If several things are at fault, the first in this order
+/// counts: words, files, declaration, attempts, journal or script, room.
 pub fn perform<R: Env + Files + Input + AllocGlobal + Threads + Wait + Sync, O: Write, E: Write>(
     rt: &R,
     out: &mut O,

@@ -11,19 +11,19 @@ use path_model::{OutOfMemory, PathId};
 use path_trim::{LeanOp, LeanPath};
 use std::alloc::Allocator;
 
-/// The numbers of operations are below this.
+/// All operations have numbers below this.
 const OPERATIONS: u32 = 256;
 
-/// How many places are reserved for values; more are taken where they don't do.
+/// How much capacity to reserve for values. If it isn't enough, the lists grow.
 #[derive(Clone, Copy)]
 pub struct Places {
-    /// For those of semaphores.
+    /// For the semaphores.
     pub semaphores: usize,
-    /// For those of counters.
+    /// For the counters.
     pub counters: usize,
 }
 
-/// As many places as these paths have semaphores and counters.
+/// Capacity for as many semaphores and counters as these paths have.
 pub fn places_for<A: Allocator + Copy>(paths: &[LeanPath<A>]) -> Places {
     let mut places = Places {
         semaphores: 0,
@@ -36,7 +36,7 @@ pub fn places_for<A: Allocator + Copy>(paths: &[LeanPath<A>]) -> Places {
     places
 }
 
-/// Makes so many places at least, with 0 in the new ones.
+/// Makes the list at least this long, with 0 in the new places.
 fn reach<A: Allocator + Copy>(values: &mut Vec<u64, A>, places: usize) -> Result<(), OutOfMemory>
     ensures { OnOk result (values.new.items ≡ values.old.items ++ replicate (places - length values.old.items) 0) }
 {
@@ -47,7 +47,7 @@ fn reach<A: Allocator + Copy>(values: &mut Vec<u64, A>, places: usize) -> Result
     Ok(())
 }
 
-/// Writes a value at its number, and 0 in the places below it that weren't there.
+/// Writes a value at its number, and 0 in any new places below it.
 #[tactic(auto, using(crate::proofs::Appended::put_next))]
 fn put_at<A: Allocator + Copy>(
     values: &mut Vec<u64, A>,
@@ -133,7 +133,7 @@ pub fn add_path<A: Allocator + Copy>(
     add_terms(by_op, path.path, &path.ops)
 }
 
-/// How many terms these are together, at most `usize::MAX`.
+/// How many terms there are in all lists together, at most `usize::MAX`.
 fn length_of_all<A: Allocator + Copy>(by_op: &[Vec<Term, A>]) -> usize {
     let mut length: usize = 0;
     for run in by_op {
@@ -142,7 +142,7 @@ fn length_of_all<A: Allocator + Copy>(by_op: &[Vec<Term, A>]) -> usize {
     length
 }
 
-/// All terms in one list, with the places where those of each operation begin and end.
+/// All terms in one list, with the places where the terms of each operation begin and end.
 pub fn in_one_list<A: Allocator + Copy>(
     alloc: A,
     by_op: &[Vec<Term, A>],
@@ -183,7 +183,7 @@ fn paths_by_op<A: Allocator + Copy>(
     Ok(counts)
 }
 
-/// No terms, for each operation, with a place for each that these paths will give it.
+/// An empty list of terms for each operation, with capacity for those that these paths will add.
 pub fn no_terms<A: Allocator + Copy>(
     alloc: A,
     paths: &[LeanPath<A>],
@@ -198,7 +198,7 @@ pub fn no_terms<A: Allocator + Copy>(
     Ok(by_op)
 }
 
-/// No execution in progress, of any operation.
+/// A count of 0 for each operation.
 pub fn no_counts<A: Allocator + Copy>(alloc: A) -> Result<Vec<u32, A>, OutOfMemory>
     ensures { IfOk result (λ v. v.items ≡ replicate 256 0) }
 {

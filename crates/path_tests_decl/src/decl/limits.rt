@@ -5,7 +5,7 @@ use path_lex::DeclFault;
 use std::alloc::Global;
 use std::process::Abort;
 
-// A front, a piece so many times, and a back.
+// A front, a piece repeated this many times, and a back.
 fn repeated(
     rt: &impl Abort,
     heap: Global,
@@ -23,7 +23,7 @@ fn repeated(
     text
 }
 
-/// A front, a piece, how often it stands there, a back, and the fault of the text, if it has one.
+/// A front, a piece, how often it is repeated, a back, and the fault of the text, if it has one.
 type Repeated<'a> = (&'a str, &'a str, u32, &'a str, Option<DeclFault>);
 
 const REPEATED: &[Repeated<'static>] = &[
@@ -48,7 +48,7 @@ const REPEATED: &[Repeated<'static>] = &[
         "end",
         Some(DeclFault::TooMany(2844)),
     ),
-    // A path of very many names is no deep tree.
+    // The tree of a path with very many names isn't deep.
     (
         "resource r cell operation a path a",
         ";a",
@@ -58,7 +58,7 @@ const REPEATED: &[Repeated<'static>] = &[
     ),
 ];
 
-// Each of these texts has the fault beside it, or none.
+// Checks that each of these texts has the fault of its row, or none.
 fn expect_repeated(rt: &impl Abort, heap: Global, rows: &[Repeated<'_>]) {
     for (front, piece, times, back, want) in rows {
         let text = repeated(rt, heap, front, piece, *times, back);
@@ -71,7 +71,7 @@ fn repetitions(rt: HostRuntime) {
     expect_repeated(&rt, rt.alloc(), REPEATED);
 }
 
-// A path within so many parentheses has this fault, or none.
+// Checks that a path inside `depth` parentheses has this fault, or none.
 fn nested(rt: &impl Abort, heap: Global, depth: u32, want: Option<DeclFault>) {
     let front = "resource r cell operation a path ";
     let open = repeated(rt, heap, front, "(", depth, "a");
@@ -85,7 +85,7 @@ fn depth(rt: HostRuntime) {
     nested(&rt, rt.alloc(), 33, Some(DeclFault::TooDeep(65)));
 }
 
-// So many names that differ, with a sign after each but the last.
+// Appends this many different names, with a sign after each except the last.
 fn put_names(rt: &impl Abort, text: &mut String, sign: &str, times: u32) {
     for number in 0..times {
         put(rt, text, if number > 0 { sign } else { "" });
@@ -94,7 +94,7 @@ fn put_names(rt: &impl Abort, text: &mut String, sign: &str, times: u32) {
     }
 }
 
-// A declaration of so many operations has this fault, or none.
+// Checks that a declaration of `count` operations has this fault, or none.
 fn operations(rt: &impl Abort, heap: Global, count: u32, want: Option<DeclFault>) {
     let mut text = String::new(heap);
     put(rt, &mut text, "resource r cell operation ");
@@ -109,7 +109,7 @@ fn most_operations(rt: HostRuntime) {
     operations(&rt, rt.alloc(), 257, Some(DeclFault::TooMany(1196)));
 }
 
-// A path of so many of 65 operations has this fault, or none.
+// Checks that a path of `count` of 65 operations has this fault, or none.
 fn names(rt: &impl Abort, heap: Global, count: u32, want: Option<DeclFault>) {
     let mut text = String::new(heap);
     put(rt, &mut text, "resource r cell operation ");
@@ -126,7 +126,7 @@ fn most_names(rt: HostRuntime) {
     names(&rt, rt.alloc(), 65, Some(DeclFault::TooMany(527)));
 }
 
-// As many resources as a file may have, each with an operation, and then this text have this fault, or none.
+// Checks that as many resources as a file may have, each with an operation, followed by this text, have this fault, or none.
 fn after_resources(rt: &impl Abort, heap: Global, back: &str, want: Option<DeclFault>) {
     let mut text = String::new(heap);
     for number in 0..64 {

@@ -1,4 +1,4 @@
-//! Declarations, and the texts that they are printed as.
+//! Declarations, and their printed texts.
 
 use super::{declared, expect_text};
 use crate::in_turn::refuse_in_turn;
@@ -16,15 +16,15 @@ const LAWS: &str =
 
 const POOL: &str = "resource r cell operation read, write path { read: 2 }, write end end\n";
 
-// The text that a declaration of this text is printed as.
+// The printed text of the declaration in a text.
 fn printed(rt: &impl Abort, heap: Global, text: &str) -> String {
     let decl = declared(rt, heap, text);
     let printed = print(heap, &decl);
     drop(decl);
-    printed.expect(rt, "memory is ample")
+    printed.expect(rt, "enough memory")
 }
 
-// Each text is printed as the one beside it.
+// Checks that each text is printed as its row says.
 fn prints(rt: &impl Abort, heap: Global, rows: &[(&str, &str)]) {
     for (text, want) in rows {
         let printed = printed(rt, heap, text);
@@ -76,7 +76,7 @@ fn prints_the_tokens(rt: HostRuntime) {
     prints(&rt, rt.alloc(), PRINTED);
 }
 
-// Printing the text, which is laid out as it is printed, wants memory in turn.
+// Refuses each request of printing this text in turn; then it must be printed as it is laid out here.
 fn prints_in_turn(rt: &impl Abort, heap: Global, text: &str) {
     let decl = declared(rt, heap, text);
     refuse_in_turn(rt, heap, OutOfMemory, |refusing: &Refusing<Global>| {

@@ -1,4 +1,4 @@
--- One opening more fits.
+-- One more opening fits.
 use Rattle.std.proofs.Common.{arith}
 use Rattle.path_audit.proofs.Replayed.{fits_more}
 use Rattle.path_audit.proofs.auditor.first_misfit.Goals as goal

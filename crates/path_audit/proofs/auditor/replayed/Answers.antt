@@ -1,4 +1,4 @@
--- Each line that is told goes on; the first that isn't is wrong.
+-- A line with the owed reply goes on; the first without it is wrong.
 use Rattle.std.proofs.Common.{◌≡◌, ◌≢◌, ◌<◌, ◌∙◌, length, get_or, subst, arith, rules}
 use Rattle.std.specs.Prelude.{map}
 use Rattle.std.proofs.lemmas.List.{length-map, take_all}

@@ -1,4 +1,4 @@
--- The lines so far are honest, and the replay is what they tell.
+-- The lines so far are honest, and the replay agrees with them.
 use Rattle.std.proofs.Common.{take}
 use Rattle.std.specs.Prelude.{map}
 use Rattle.path_audit.specs.Replays.{IsReplayOf}

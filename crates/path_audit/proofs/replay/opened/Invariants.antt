@@ -1,4 +1,4 @@
--- So many openings were copied.
+-- The openings so far are copied.
 use Rattle.std.proofs.Common.{◌≡◌, take}
 use Rattle.std.specs.Prelude.{map}
 use Rattle.path_audit.proofs.replay.opened.Given as goal

@@ -1,4 +1,4 @@
--- The name is that at the operation's place.
+-- The name is that of the operation's number.
 use Rattle.std.proofs.Common.{◌≡◌, ◌++◌, OnOk, sym, ◌∙◌, subst}
 use Rattle.std.specs.String.{string_bytes}
 use Rattle.std.proofs.lemmas.Option.{slice_get-map}

@@ -1,4 +1,4 @@
--- Over the own devices' openings only the room is refused.
+-- Over the own devices' openings only the room can be refused.
 use Rattle.path_commands.proofs.AuditLemmas.{refuses_audit}
 use Rattle.path_commands.proofs.audit.verdict_on.Goals as goal
 

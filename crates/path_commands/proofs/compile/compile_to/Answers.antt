@@ -1,4 +1,4 @@
--- The text is refused, or what it is compiled to was written.
+-- The text is refused, or its listings were written.
 use Rattle.path_streams.specs.declared.status.Status.TheVariants.{Done, DeclarationRefused, CommandRefused, TextRefused, Unsound}
 use Rattle.path_streams.specs.Statuses.{status_of}
 use Rattle.path_streams.specs.Refusals.{IsUndeclared}

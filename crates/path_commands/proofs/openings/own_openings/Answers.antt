@@ -1,4 +1,4 @@
--- One opening more is that of the next resource.
+-- One more opening is that of the next resource.
 use Rattle.std.proofs.Common.{ap, ◌∙◌, arith}
 use Rattle.path_shelf.specs.Openings.{opening_numbers}
 use Rattle.path_commands.proofs.OpeningLemmas.{opening_more}

@@ -1,4 +1,4 @@
--- The digits read so far and the number that they write.
+-- The digits read so far and the number that they spell.
 use Rattle.std.proofs.Common.{◌≡◌, ◌+◌, ◌-◌, ◌++◌, decimal, length, get_or, take, ◌∙◌, ◌<◌, arith, sym, ap, subst, drop}
 use Rattle.std.proofs.lemmas.Grind.{common_steps}
 use Rattle.path_fields.specs.Splits.{HasNoDigitNext}

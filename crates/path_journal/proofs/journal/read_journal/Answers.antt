@@ -1,4 +1,4 @@
--- The first byte tells the version, and the lines that were read are the lines of the text.
+-- The first byte decides the version, and the lines that were read are the lines of the text.
 use Rattle.std.proofs.Common.{subst}
 use Rattle.std.proofs.lemmas.Result.{err_from_is_err_and}
 use Rattle.path_journal.specs.JournalTexts.{AreLinesOf, AreNoLines}

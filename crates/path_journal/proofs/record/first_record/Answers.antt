@@ -1,4 +1,4 @@
--- A line is cut at its colon: the attempt stands before it, the reply behind it.
+-- A line is cut at its colon, between the attempt and the reply.
 use Rattle.std.proofs.lemmas.Result.{err_from_is_err_and}
 use Rattle.path_model.specs.declared.journal.Line.{Line}
 use Rattle.path_journal.proofs.RecordLemmas.{untold, no_attempt, spelled_whole, record_first}

@@ -1,4 +1,4 @@
--- A reply has its words up to the line's end, or a number behind them.
+-- A reply has its words up to the line's end, or a number after them.
 use Rattle.std.proofs.Common.{◌≡◌, ◌≢◌, ℕ, ◌<◌, ◌^◌, ◌++◌, List, decimal, arith, ap, sym, ◌∙◌}
 use Rattle.std.proofs.lemmas.Grind.{common_steps}
 use Rattle.path_fields.specs.Splits.{EndsAt}

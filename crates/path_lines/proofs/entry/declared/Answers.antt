@@ -1,4 +1,4 @@
--- Names are text of ASCII.
+-- Names are ASCII texts.
 use Rattle.std.proofs.Common.{rules}
 use Rattle.std.proofs.lemmas.List.Elements.{All-contains}
 use Rattle.std.proofs.lemmas.Str.{IsUtf8-from_ascii}

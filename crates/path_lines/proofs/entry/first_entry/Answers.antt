@@ -1,4 +1,4 @@
--- A line is cut behind the worker's number, and a line that is no attempt refutes each text that it is a line of.
+-- A line is cut after the worker's number, and a line that isn't an attempt refutes each text with that line.
 use Rattle.std.proofs.Common.{◌≡◌, ◌<◌, ◌^◌, arith, ◌∷◌, ◌++◌, ◌∙◌, ap, decimal, rules, sym}
 use Rattle.std.proofs.lemmas.Result.{err_from_is_err_and}
 use Rattle.path_lines.specs.LineTexts.{attempt_text, line_text}

@@ -1,4 +1,4 @@
--- What has neither a name nor a number is no operation.
+-- Without a name and without a number there is no operation.
 use Rattle.path_lines.proofs.EntryLemmas.{no_operation}
 use Rattle.path_lines.proofs.entry.read_operation.Goals as goal
 

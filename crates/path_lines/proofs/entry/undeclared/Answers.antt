@@ -1,4 +1,4 @@
--- Behind `#` stands one number.
+-- One number follows `#`.
 use Rattle.std.proofs.Common.{◌≡◌, [], arith, rules, ap, length}
 use Rattle.std.proofs.lemmas.Grind.{common_steps}
 use Rattle.path_fields.proofs.CallerLemmas.{same_number}

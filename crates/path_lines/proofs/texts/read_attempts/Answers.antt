@@ -1,4 +1,4 @@
--- Each line read is one attempt more, and a faulty line refutes the text.
+-- Each line read is one more attempt, and a faulty line refutes the text.
 use Rattle.std.proofs.Common.{rules, arith, ◌≡◌, ◌≢◌, ◌∙◌, [], length, ap}
 use Rattle.std.proofs.lemmas.Grind.{common_steps}
 use Rattle.std.proofs.lemmas.List.{nil_from_length}

@@ -1,4 +1,4 @@
--- The name at a place is the first of those that the resource has from there on.
+-- The name at an index is the first of those that the resource has from there on.
 use Rattle.std.proofs.Common.{sym, ap, ◌∙◌, option_map}
 use Rattle.path_print.proofs.PrintedWalk.{seen_at, unseen_at, past_at}
 use Rattle.path_print.proofs.printer.own_name.Goals as goal

@@ -1,4 +1,4 @@
--- Each name goes on with the text, and where the last one ends the next resource begins.
+-- Each name continues the text, and the next resource begins after the last one.
 use Rattle.std.proofs.Common.{◌≤◌, length, rules, arith, sym, ◌∙◌}
 use Rattle.std.proofs.lemmas.List.{drop_all}
 use Rattle.path_print.proofs.PrintedWalk.{named_end, named_first, named_next, none_past}

@@ -1,4 +1,4 @@
--- Each path goes on with the text, and where the last one ends the next resource begins.
+-- Each path continues the text, and the next resource begins after the last one.
 use Rattle.std.proofs.Common.{◌≤◌, length, rules, arith, sym, ◌∙◌}
 use Rattle.std.proofs.lemmas.List.{drop_all}
 use Rattle.path_print.proofs.PrintedWalk.{pathed_end, pathed_first, pathed_more, none_past}

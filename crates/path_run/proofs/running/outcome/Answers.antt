@@ -1,4 +1,4 @@
--- What the journal and the receipts agree on, and where not.
+-- Where the journal and the receipts agree, and where they don't.
 use Rattle.std.proofs.Common.{◌≡◌, inr, ◌∙◌, sym, ap, subst, List}
 use Rattle.path_model.specs.declared.journal.Line.{Line}
 use Rattle.path_workers.specs.declared.settle.SettleFault.TheVariants.{Mismatch}

@@ -1,4 +1,4 @@
--- What the processes handed back is what the outcome tells.
+-- The outcome is what the processes handed back.
 use Rattle.std.proofs.Common.{rules, arith, ◌≡◌, ℕ, List, sym, ap, ◌∙◌, subst, get_or, length}
 use Rattle.path_system.specs.Accounts.{Account}
 use Rattle.path_workers.specs.Attempts.{Held}

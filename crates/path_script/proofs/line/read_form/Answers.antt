@@ -1,4 +1,4 @@
--- A line that begins as a use has a verb behind that, up to its end.
+-- A line that begins as a use has a verb after that, up to its end.
 use Rattle.path_script.proofs.LineLemmas.{no_use, whole_use}
 use Rattle.path_lines.specs.LineTexts.{verb_text}
 use Rattle.path_script.proofs.line.read_form.Goals as goal

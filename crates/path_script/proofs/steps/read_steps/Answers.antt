@@ -1,4 +1,4 @@
--- Each line read is one step more, and a line that can't follow is a fault.
+-- Each line read is one more step, and a line that can't follow is a fault.
 use Rattle.std.proofs.Common.{arith, ◌≡◌, ◌≢◌, ◌<◌, ◌+◌, [], length, ap, ◌∙◌}
 use Rattle.std.proofs.lemmas.Grind.{common_steps}
 use Rattle.std.proofs.lemmas.List.{nil_from_length}

@@ -1,4 +1,4 @@
--- Names are text of ASCII.
+-- Names are ASCII texts.
 use Rattle.std.proofs.lemmas.Str.{IsUtf8-from_ascii}
 use Rattle.path_lines.proofs.CallerLemmas.{name_is_ascii}
 use Rattle.path_script.proofs.texts.own_name.Goals as goal

@@ -1,4 +1,4 @@
--- What was read is all, where it is within the limit.
+-- If what was read is within the limit, it is all there is.
 use Rattle.std.proofs.Common.{arith}
 use Rattle.path_streams.proofs.InputLemmas.{read_whole}
 use Rattle.path_streams.proofs.input.read_all.Goals as goal

@@ -1,4 +1,4 @@
--- The text was written, or a fault of writing was told.
+-- The text was written, or a fault of writing was reported.
 use Rattle.path_streams.proofs.FaultLemmas.{tells_write}
 use Rattle.path_streams.proofs.put.put_text.Goals as goal
 

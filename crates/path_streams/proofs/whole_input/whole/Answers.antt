@@ -1,4 +1,4 @@
--- Each way out cuts the input, and a cut is one.
+-- Each way out of the loop cuts the input.
 use Rattle.std.proofs.Common.{refl}
 use Rattle.path_fields.proofs.CallerLemmas.{is_text, is_other}
 use Rattle.path_streams.proofs.WholeLemmas.{passes, ends_at_mark, ends_at_last, ends_past, only_cut}

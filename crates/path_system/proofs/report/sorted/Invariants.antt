@@ -1,4 +1,4 @@
--- So many operations are sorted.
+-- The operations so far are sorted.
 use Rattle.path_system.specs.Reports.{IsSorting, MeetsAt}
 use Rattle.path_system.proofs.report.sorted.Given as goal
 

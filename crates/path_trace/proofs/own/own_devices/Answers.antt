@@ -1,4 +1,4 @@
--- One device more is that of the next resource.
+-- One more device is that of the next resource.
 use Rattle.std.proofs.Common.{ap, ◌∙◌, arith}
 use Rattle.std.specs.Prelude.{map}
 use Rattle.path_shelf.specs.Openings.{opening_state}

@@ -1,4 +1,4 @@
--- One line more.
+-- One more line.
 use Rattle.std.proofs.Common.{arith}
 use Rattle.path_trace.specs.ReportTexts.{live_line}
 use Rattle.path_trace.proofs.ReportLemmas.{piece_more}

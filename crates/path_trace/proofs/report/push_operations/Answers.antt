@@ -1,4 +1,4 @@
--- One operation more.
+-- One more operation.
 use Rattle.std.proofs.Common.{arith}
 use Rattle.path_trace.specs.ReportTexts.{operation_word}
 use Rattle.path_trace.proofs.ReportLemmas.{piece_more}

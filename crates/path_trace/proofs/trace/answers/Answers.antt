@@ -1,4 +1,4 @@
--- Line after line is answered, and a line that is no attempt refutes the text.
+-- Each line in turn gets its reply, and a line that isn't an attempt refutes the text.
 use Rattle.std.proofs.Common.{refl, arith}
 use Rattle.std.proofs.lemmas.Grind.{common_steps}
 use Rattle.std.proofs.lemmas.List.{nil_from_length, length-take}

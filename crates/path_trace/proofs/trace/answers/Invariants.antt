@@ -1,4 +1,4 @@
--- The first attempts were answered.
+-- The first attempts got their replies.
 use Rattle.std.proofs.Common.{length}
 use Rattle.path_shelf.specs.States.{MayFail}
 use Rattle.path_trace.proofs.TraceLemmas.{AnswersSoFar}

@@ -1,4 +1,4 @@
--- The attempts are refused, or they were read, answered and written.
+-- The attempts are refused, or they were read, stepped and written.
 use Rattle.std.specs.Prelude.{map}
 use Rattle.path_shelf.specs.States.{MayFail}
 use Rattle.path_streams.specs.declared.status.Status.TheVariants.{Done, DeclarationRefused, CommandRefused, TextRefused, Unsound}

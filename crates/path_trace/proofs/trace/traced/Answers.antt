@@ -1,4 +1,4 @@
--- The system that was opened answers.
+-- The trace is that of the system that was opened.
 use Rattle.std.specs.Prelude.{map}
 use Rattle.std.proofs.lemmas.Result.{IfErr-weaker}
 use Rattle.path_streams.specs.Statuses.{status_of}

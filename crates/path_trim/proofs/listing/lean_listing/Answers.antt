@@ -1,4 +1,4 @@
--- Each path has its lines: by what became of it, and of what is left of the lists.
+-- Each path has its lines: by its fate, and by what is left of the lists.
 use Rattle.std.proofs.Common.{◌≡◌, ◌≤◌, length, ap, ◌∙◌, arith}
 use Rattle.path_trim.specs.Known.{KnownTrees}
 use Rattle.path_trim.specs.Compared.{compared}

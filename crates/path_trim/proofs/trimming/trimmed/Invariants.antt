@@ -1,4 +1,4 @@
--- What was made of the paths so far.
+-- The result for the paths so far.
 use Rattle.std.proofs.Common.{take}
 use Rattle.path_code.specs.PathCodes.{sites}
 use Rattle.path_trim.proofs.Walk.{Made}

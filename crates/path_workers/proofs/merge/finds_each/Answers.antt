@@ -1,4 +1,4 @@
--- A copy of one line more.
+-- A copy of one more line.
 use Rattle.std.proofs.Common.{◌∙◌, arith, rules}
 use Rattle.path_workers.proofs.Counted.{found_more, found_there}
 use Rattle.path_workers.proofs.merge.finds_each.Goals as goal

@@ -1,4 +1,4 @@
--- Where no term blocks, the passes move the gate by one start; elsewhere nothing is written.
+-- If no term blocks, the passes move the gate by one start; otherwise nothing is written.
 use Rattle.std.proofs.Common.{◌≡◌, ◌<◌, None, Ok, Err, ap, arith}
 use Rattle.path_gate.specs.Levels.{levels}
 use Rattle.path_gate.specs.Terms.{blocking, all_started, one_more}

@@ -1,4 +1,4 @@
--- The first term that blocks tells the first path that forbids.
+-- The first term that blocks is that of the first path that forbids.
 use Rattle.path_gate.proofs.Sound.{within, judges}
 use Rattle.path_gate.proofs.gate.Gate.would_admit.Goals as goal
 

@@ -1,4 +1,4 @@
--- So many operations have no terms so far.
+-- The operations so far have no terms.
 use Rattle.std.proofs.Common.{◌≡◌, map, replicate, []}
 use Rattle.path_gate.proofs.gate.table.no_terms.Given as goal
 

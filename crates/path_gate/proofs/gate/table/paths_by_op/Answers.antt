@@ -1,4 +1,4 @@
--- The counts stay as many.
+-- The number of counts stays.
 use Rattle.std.proofs.Common.{◌∙◌, sym}
 use Rattle.std.specs.List.{length_refill}
 use Rattle.path_gate.proofs.gate.table.paths_by_op.Goals as goal

@@ -1,4 +1,4 @@
--- The device at the place acts, and is put back.
+-- The device at the index serves, and is put back.
 use Rattle.std.proofs.Common.{length, ◌<◌, ap, arith}
 use Rattle.std.proofs.lemmas.List.{length-map}
 use Rattle.path_shelf.proofs.Shelved.{acts_at, acts_failed}

@@ -1,4 +1,4 @@
--- The device at the place is another.
+-- The device at the index is another.
 use Rattle.std.proofs.lemmas.List.{map-set}
 use Rattle.path_shelf.proofs.shelf.Shelf.replace.Goals as goal
 

@@ -1,4 +1,4 @@
--- One row more is written, and then all are.
+-- One more row is written, and at the end all are.
 use Rattle.std.proofs.Common.{length, ap, ◌∙◌, arith}
 use Rattle.std.specs.Prelude.{map}
 use Rattle.std.proofs.lemmas.List.{length-set}

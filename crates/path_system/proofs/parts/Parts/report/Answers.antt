@@ -1,4 +1,4 @@
--- What the gate and the ledger tell.
+-- What the gate and the ledger say.
 use Rattle.std.proofs.Common.{◌∙◌, ◌++◌, ap, sym, subst}
 use Rattle.path_system.specs.Reports.{IsSorting, MeetsAt}
 use Rattle.path_system.proofs.parts.Parts.report.Goals as goal

@@ -1,4 +1,4 @@
--- The device is replaced where nothing uses it and no line asked it.
+-- The device is replaced if nothing uses it and no line asked it.
 use Rattle.std.proofs.Common.{◌≡◌, ◌<◌, length, ap, sym, subst, ◌∙◌, arith}
 use Rattle.std.proofs.Math.ListN.{set}
 use Rattle.std.proofs.lemmas.List.{map-set}

@@ -1,4 +1,4 @@
--- The parts are what the journal tells.
+-- The parts agree with the journal.
 use Rattle.std.proofs.Common.{refl}
 use Rattle.path_system.proofs.Reported.{reported, if_ok}
 use Rattle.path_system.proofs.system.System.report.Goals as goal

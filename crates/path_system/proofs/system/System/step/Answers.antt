@@ -1,4 +1,4 @@
--- The reply is owed, and the parts are what the journal tells with its line.
+-- The reply is owed, and the parts agree with the journal and its new line.
 use Rattle.std.proofs.Common.{◌≡◌, ◌≢◌, ℕ, length, arith, ◌∙◌, subst, sym}
 use Rattle.path_model.specs.declared.journal.Reply.TheVariants.{NoRoom}
 use Rattle.path_system.specs.Openings.{AreFor, numbers_of}
