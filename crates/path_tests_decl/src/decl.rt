@@ -13,6 +13,7 @@ use std::alloc::{Allocator, Global};
 use std::process::Abort;
 
 mod limits;
+mod pairs;
 mod printing;
 
 const SLOT: &str = "resource slot cell operation deposit, remove path deposit ; remove end end";
