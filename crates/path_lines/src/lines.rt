@@ -99,8 +99,8 @@ fn push_numbered<A: Allocator + Copy>(
     Ok(())
 }
 
-/// Appends what follows an attempt in its line: `: `, the text of the reply and a line feed. Where memory is wanting, a
-/// front of it may have been appended. Grows the list only where its capacity doesn't suffice.
+/// Appends what follows an attempt in its line: `: `, the text of the reply and a line feed. If allocation fails,
+/// what the list contains then isn't specified. Grows the list only where its capacity doesn't suffice.
 pub fn push_told<A: Allocator + Copy>(out: &mut Vec<u8, A>, reply: Reply) -> Result<(), OutOfMemory>
     ensures { OnOk result (out.new.items ≡ out.old.items ++ (codes ": " ++ (reply_text reply ++ 10 ∷ []))) }
 {
@@ -122,7 +122,7 @@ pub fn push_told<A: Allocator + Copy>(out: &mut Vec<u8, A>, reply: Reply) -> Res
     Ok(())
 }
 
-/// Appends the text of a reply. Where memory is wanting, a front of it may have been appended. Grows the text only where its
+/// Appends the text of a reply. If allocation fails, what the text contains then isn't specified. Grows the text only where its
 /// capacity doesn't suffice.
 pub fn push_reply<A: Allocator + Copy>(out: &mut String<A>, reply: Reply) -> Result<(), OutOfMemory>
     ensures { OnOk result (string_bytes out.new ≡ string_bytes out.old ++ reply_text reply) }
@@ -136,7 +136,7 @@ pub fn push_reply<A: Allocator + Copy>(out: &mut String<A>, reply: Reply) -> Res
 }
 
 /// Appends the text of a line without a line feed: the attempt, `: ` and the reply. An operation that isn't declared
-/// is written as `#` and its number. Where memory is wanting, a front of the text may have been appended. Grows the
+/// is written as `#` and its number. If allocation fails, what the text contains then isn't specified. Grows the
 /// text only where its capacity doesn't suffice.
 pub fn push_line<A: Allocator + Copy, B: Allocator + Copy>(
     out: &mut String<A>,

@@ -1,7 +1,8 @@
 //! Reads declarations: from bytes to resources, operations and paths.
 //!
-//! [`read`] answers a [`Decl`](path_decl::Decl) exactly where the text, the rules and the limits allow one, and names the
-//! first fault otherwise. What bytes are a declaration is defined in path_decl's `specs/Text.antt`.
+//! [`read`] returns a [`Decl`](path_decl::Decl) only if the text is a declaration; any fault but `OutOfMemory` means that it isn't
+//! one. That the first fault is named is proved of bad bytes, and of words and numbers past their limits. What bytes are a
+//! declaration is defined in path_decl's `specs/Text.antt`.
 #![tactic(auto)]
 
 mod ahead;

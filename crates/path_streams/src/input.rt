@@ -9,7 +9,7 @@ use std::io::Read;
 /// All bytes of a reader, which is told by its name in a fault: `TooLong` where it has more than the limit, `Unreadable`
 /// where it fails, `OutOfMemory` for want of memory. Reads at most one byte past the limit. Places for the bytes that are
 /// expected are taken at once; where there are more or fewer, that costs time alone. What the bytes leave of the memory that was
-/// taken for them is given back.
+/// taken for them is given back. That these are all bytes is proved only of readers that say what remains in them, as a `&[u8]` does.
 pub fn read_all<'a, A: Allocator + Copy, R: Read + Drop>(
     alloc: A,
     reader: R,

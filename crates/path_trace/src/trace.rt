@@ -9,7 +9,7 @@ ghost use Rattle.path_streams.specs.Statuses.{status_of};
 ghost use Rattle.path_streams.specs.Writes.{AppendsSome, IsFrontOf};
 ghost use Rattle.path_streams.specs.Refusals.{IsNoDeclaration};
 ghost use Rattle.path_trace.specs.Traces.{GrowsBehind, IsAnswered, IsToldBy, IsTraceBy, IsTraceOf, IsTraceOfTexts, own_states};
-ghost use Rattle.path_trace.specs.Traces.{IsBadAttempts, IsBadText, IsBadTextUnder, IsRefused, IsUnopened};
+ghost use Rattle.path_trace.specs.Traces.{IsBadAttempts, IsBadText, IsBadTextUnder, IsRefused, LacksRoomUnder, LacksSystem, TellsAttempts};
 
 use crate::own::own_devices;
 use crate::report::push_report;
@@ -223,9 +223,9 @@ pub fn trace_to<D: Device, A: Allocator + Copy, O: Write, E: Write>(
     // Nothing is done in a room that no system has, nor over devices of other laws.
     ensures room { IsBadRoom room → result ≢ Status.Done }
     ensures laws { result ≡ Status.Done → laws_of (map D.state devices.items) ≡ declared_laws decl.declaration }
-    // No system is opened so, and nothing was written.
-    ensures unopened { result ≡ Status.CommandRefused
-        → Keeps (O.contents out.old) (O.contents out.new) × IsUnopened decl.declaration (map D.state devices.items) room }
+    // The text tells attempts, but no system is opened so, and nothing was written.
+    ensures unopened { result ≡ Status.CommandRefused → Keeps (O.contents out.old) (O.contents out.new)
+        × LacksSystem decl.declaration (map D.state devices.items) room attempts.now }
     // The text is too long or tells no attempts, and nothing was written.
     ensures refused { result ≡ Status.TextRefused
         → Keeps (O.contents out.old) (O.contents out.new) × IsBadText decl.declaration attempts.now }
@@ -253,7 +253,8 @@ fn trace_own<A: Allocator + Copy, O: Write, E: Write>(
     ensures done { result ≡ Status.Done → AppendsSome (O.contents out.old) (O.contents out.new)
         (IsTraceOf decl.declaration (own_states decl.declaration) ⊥ room report attempts.now) }
     ensures room { IsBadRoom room → result ≢ Status.Done }
-    ensures bad_room { result ≡ Status.CommandRefused → Keeps (O.contents out.old) (O.contents out.new) × IsBadRoom room }
+    ensures bad_room { result ≡ Status.CommandRefused
+        → Keeps (O.contents out.old) (O.contents out.new) × (TellsAttempts decl.declaration attempts.now × IsBadRoom room) }
     ensures refused { result ≡ Status.TextRefused
         → Keeps (O.contents out.old) (O.contents out.new) × IsBadText decl.declaration attempts.now }
     ensures memory { result ≡ Status.NoMemory → AppendsSome (O.contents out.old) (O.contents out.new)
@@ -292,8 +293,9 @@ pub fn trace_bytes<A: Allocator + Copy, O: Write, E: Write>(
         → Keeps (O.contents out.old) (O.contents out.new) × IsNoDeclaration declaration.now }
     // Nothing is done in a room that no system has.
     ensures room { IsBadRoom room → result ≢ Status.Done }
-    // No system has the room, and nothing was written.
-    ensures bad_room { result ≡ Status.CommandRefused → Keeps (O.contents out.old) (O.contents out.new) × IsBadRoom room }
+    // The text is a declaration and the attempts are attempts, but no system has the room; nothing was written.
+    ensures bad_room { result ≡ Status.CommandRefused
+        → Keeps (O.contents out.old) (O.contents out.new) × LacksRoomUnder declaration.now room attempts.now }
     // The attempts are too long or none of the declaration's, and nothing was written.
     ensures refused { result ≡ Status.TextRefused
         → Keeps (O.contents out.old) (O.contents out.new) × IsBadTextUnder declaration.now attempts.now }
