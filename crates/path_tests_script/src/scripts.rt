@@ -1,11 +1,10 @@
 //! Scripts that are read.
 
 use crate::declaration::declared;
-use crate::in_turn::refuse_in_turn;
 use path_decl::Decl;
 use path_model::{OpId, Verb};
 use path_script::{Process, ScriptFault, Step, read_script};
-use refusing::Refusing;
+use refusing::{Refusing, refuse_in_turn};
 use std::alloc::{Allocator, Global};
 use std::process::Abort;
 
@@ -98,12 +97,12 @@ fn reads_scripts(rt: HostRuntime) {
 
 // Each request for memory of the reading of a text is refused in turn, and then these processes are read.
 fn is_refused_in_turn(rt: &impl Abort, heap: Global, decl: &Decl, text: &str, want: Told) {
-    refuse_in_turn(
-        rt,
+    let refused = refuse_in_turn(
         heap,
         ScriptFault::OutOfMemory,
         |heap: &Refusing<Global>| { tells(heap, decl, text, want) },
     );
+    assert_eq!(rt; refused, Ok(()));
 }
 
 #[test]
