@@ -1,6 +1,5 @@
 -- What an audit finds.
 use Rattle.std.specs.Prelude.{◌≡◌, ◌≢◌, ◌⊎◌, ◌+◌, ◌<◌, ◌≤◌, ℕ, List, [], length, take, slice_index_or}
-use Rattle.path_model.specs.declared.journal.TheConstants.{MOST_LINES}
 use Rattle.path_model.specs.declared.journal.Line.{Line}
 use Rattle.path_model.specs.Declarations.{Declaration, law_of}
 use Rattle.path_model.specs.Devices.{Fits}
@@ -23,7 +22,7 @@ IsVerdict d room openings lines (WrongLine n) = IsFirstWrong d room openings lin
 
 -- a journal may have this room
 abbrev pub IsRoom : ℕ → Type 0
-IsRoom room = (1 ≤ room) × (room ≤ MOST_LINES)
+IsRoom room = (1 ≤ room) × (room ≤ 1048576)
 
 -- the list for resource r fits its law
 abbrev pub FitsAt : Declaration → List (List ℕ) → ℕ → Type 0
@@ -48,7 +47,7 @@ pub record IsAuditable (d : Declaration) (room : ℕ) (openings : List (List ℕ
 -- the first that applies: the room is out of range; the number of openings is wrong; an opening doesn't fit. OutOfMemory comes only
 -- if none of these does
 abbrev pub IsAuditFault : Declaration → ℕ → List (List ℕ) → AuditFault → Type 0
-IsAuditFault d room openings BadRoom = (room ≡ 0) ⊎ (MOST_LINES < room)
+IsAuditFault d room openings BadRoom = (room ≡ 0) ⊎ (1048576 < room)
 IsAuditFault d room openings WrongCount = IsRoom room × (length openings ≢ length d.resources)
 IsAuditFault d room openings (BadOpening r) = IsRoom room × (length openings ≡ length d.resources) × IsFirstMisfit d openings r.0
 IsAuditFault d room openings OutOfMemory = IsAuditable d room openings

@@ -52,7 +52,7 @@ impl<'d, A: Allocator + Copy> Code<'d, A> {
     ghost use Rattle.std.specs.Prelude.{◌≡◌};
     ghost use Rattle.path_code.specs.PathCodes.{ArePathCodes, sites};
 
-    /// The declaration that was translated.
+    /// The declaration that was translated. The contract says of it only which paths it has.
     pub fn decl(&self) -> &'d Decl<A>
         ensures { result.now.declaration.paths ≡ self.now.paths }
     {

@@ -26,8 +26,8 @@ fn push_name<B: Allocator + Copy>(
     Ok(())
 }
 
-/// Appends the name of an operation, or `#` and its number if the declaration doesn't have it. Fails only if allocation fails; a
-/// front of the text may have been appended then.
+/// Appends the name of an operation, or `#` and its number if the declaration doesn't have it. Fails only if allocation fails; what
+/// the text contains then isn't specified.
 pub fn push_operation<A: Allocator + Copy, B: Allocator + Copy>(
     out: &mut String<B>,
     decl: &Decl<A>,
@@ -38,9 +38,8 @@ pub fn push_operation<A: Allocator + Copy, B: Allocator + Copy>(
     push_name(out, op_name(decl, op), op.0)
 }
 
-/// Appends the name of a resource, or `#` and its number if the declaration doesn't have it. Fails only if allocation fails; a
-/// front of the text may have been appended then.
-pub fn push_resource<A: Allocator + Copy, B: Allocator + Copy>(
+/// Appends the name of a resource, or `#` and its number if the declaration doesn't have it.
+fn push_resource<A: Allocator + Copy, B: Allocator + Copy>(
     out: &mut String<B>,
     decl: &Decl<A>,
     resource: ResId,
@@ -83,7 +82,7 @@ fn push_epilogue<B: Allocator + Copy>(
 }
 
 /// Appends `path N of RESOURCE` without a line feed, with `#` and the number for a resource that the declaration doesn't have.
-/// Fails only if allocation fails; a front of the text may have been appended then.
+/// Fails only if allocation fails; what the text contains then isn't specified.
 pub fn push_header<A: Allocator + Copy, B: Allocator + Copy>(
     out: &mut String<B>,
     decl: &Decl<A>,
@@ -97,8 +96,8 @@ pub fn push_header<A: Allocator + Copy, B: Allocator + Copy>(
     push_resource(out, decl, resource)
 }
 
-/// Appends a line `sK = V` for each of these semaphores and its opening value, in order. Fails only if allocation fails; a front of
-/// the text may have been appended then. The cost is that of the text.
+/// Appends a line `sK = V` for each of these semaphores and its opening value, in order. Fails only if allocation fails;
+/// what the text contains then isn't specified. The cost is that of the text.
 pub fn push_semaphores<B: Allocator + Copy>(
     out: &mut String<B>,
     semaphores: &[(u16, u16)],
@@ -111,8 +110,8 @@ pub fn push_semaphores<B: Allocator + Copy>(
     Ok(())
 }
 
-/// Appends a line `cK = 0` for each of these counters, in order. Fails only if allocation fails; a front of the text may have been
-/// appended then. The cost is that of the text.
+/// Appends a line `cK = 0` for each of these counters, in order. Fails only if allocation fails; what the text contains then isn't
+/// specified. The cost is that of the text.
 pub fn push_counters<B: Allocator + Copy>(
     out: &mut String<B>,
     counters: &[u16],

@@ -4,7 +4,6 @@ use Rattle.std.specs.Option.{unwrap_or}
 use Rattle.path_model.specs.declared.journal.Line.{Line}
 use Rattle.path_model.specs.Declarations.{Declaration}
 use Rattle.path_decl.specs.Text.{IsDeclarationText}
-use Rattle.path_lines.specs.declared.texts.TheConstants.{LIMIT}
 use Rattle.path_journal.specs.JournalTexts.{IsJournalText, IsNoJournalText}
 use Rattle.path_shelf.specs.Openings.{opening_numbers}
 use Rattle.path_system.specs.Faults.{IsBadRoom}
@@ -54,7 +53,7 @@ TellsWrong d room text bytes = (n : ℕ) × IsWrongText d room text n × (bytes 
 
 -- the text is too long, or isn't a journal
 abbrev pub IsBadJournal : Declaration → List ℕ → Type 0
-IsBadJournal d text = (LIMIT < length text) ⊎ IsNoJournalText d text
+IsBadJournal d text = (134217728 < length text) ⊎ IsNoJournalText d text
 
 -- the text is a journal that names no room, and the room that is given is out of range
 pub record LacksRoom (d : Declaration) (room : ℕ) (text : List ℕ) : Type 0 where

@@ -3,7 +3,6 @@ use Rattle.std.specs.Prelude.{◌≡◌, ◌≢◌, ℕ, ◌+◌, ◌<◌, List,
 use Rattle.path_model.specs.declared.journal.Reply.{Reply}
 use Rattle.path_model.specs.declared.journal.Line.{Line}
 use Rattle.path_model.specs.Declarations.{Declaration}
-use Rattle.path_lines.specs.declared.texts.TheConstants.{LIMIT}
 use Rattle.path_lines.specs.declared.entry.LineFault.{LineFault}
 use Rattle.path_lines.specs.declared.entry.LineFault.TheVariants as line_faults
 use Rattle.path_lines.specs.declared.texts.TextFault.{TextFault}
@@ -82,7 +81,7 @@ IsFaultAt d text n fault = (line : List ℕ) × IsFaultyLine d text n line × Is
 
 -- the fault of a text: it is too long, or its first faulty line has this fault
 abbrev pub IsJournalFault : Declaration → List ℕ → TextFault → Type 0
-IsJournalFault d text faults.TooLong = LIMIT < length text
+IsJournalFault d text faults.TooLong = 134217728 < length text
 IsJournalFault d text (faults.BadLine n) = IsFaultAt d text n line_faults.Bad
 IsJournalFault d text (faults.Undeclared n) = IsFaultAt d text n line_faults.Undeclared
 IsJournalFault d text faults.OutOfMemory = Unit {0}

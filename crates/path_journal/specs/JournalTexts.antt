@@ -1,7 +1,6 @@
 -- Texts of journals: a line for each line of the journal, and in version 2 a first line that names the room.
 use Rattle.std.specs.Prelude.{◌≡◌, ℕ, ◌<◌, ◌≤◌, ◌^◌, List, [], ◌∷◌, ◌++◌, codes, decimal, All, ◌⊎◌, Option, Some, None}
 use Rattle.std.specs.List.{flat_map}
-use Rattle.path_model.specs.declared.journal.TheConstants.{MOST_LINES}
 use Rattle.path_model.specs.declared.journal.Reply.{Reply}
 use Rattle.path_model.specs.declared.journal.Reply.TheVariants.{Started, Blocked, UnknownOperation, Used, NotOffered, Empty, Full}
 use Rattle.path_model.specs.declared.journal.Reply.TheVariants.{Overflow, DeviceFailed, Finished, Stale, NotYours, NoRoom}
@@ -45,7 +44,7 @@ head_text room = codes "journal 2 room " ++ decimal room
 
 -- a journal may have this room
 abbrev pub IsRoom : ℕ → Type 0
-IsRoom room = (1 ≤ room) × (room ≤ MOST_LINES)
+IsRoom room = (1 ≤ room) × (room ≤ 1048576)
 
 -- a room that is named is in range
 abbrev pub RoomFits : Option ℕ → Type 0

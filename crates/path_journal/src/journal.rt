@@ -68,7 +68,7 @@ pub fn read_journal<A: Allocator + Copy, B: Allocator + Copy>(
     ensures one { IfOk result (λ j. (room : Option ℕ) (ls : List Line)
         → IsJournalText decl.now.declaration text.now room ls → (room ≡ j.room) × (ls ≡ j.lines.items)) }
     ensures err { IfErr result (λ e. IsJournalFault decl.now.declaration text.now e) }
-    ensures too_long { IsErrOf result faults.TooLong ↔ (LIMIT < length text.now) }
+    ensures too_long { IsErrOf result faults.TooLong ↔ (134217728 < length text.now) }
     // Any error but TooLong and OutOfMemory: the text isn't a journal.
     ensures none { IfErr result (λ e. e ≢ faults.TooLong → e ≢ faults.OutOfMemory → IsNoJournalText decl.now.declaration text.now) }
 {

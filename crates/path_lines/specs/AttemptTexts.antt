@@ -4,7 +4,6 @@ use Rattle.std.specs.List.{flat_map}
 use Rattle.path_model.specs.declared.journal.Attempt.{Attempt}
 use Rattle.path_model.specs.Declarations.{Declaration}
 use Rattle.path_lex.specs.Names.{IsName}
-use Rattle.path_lines.specs.declared.texts.TheConstants.{LIMIT}
 use Rattle.path_lines.specs.declared.entry.LineFault.{LineFault}
 use Rattle.path_lines.specs.declared.entry.LineFault.TheVariants as line_faults
 use Rattle.path_lines.specs.declared.texts.TextFault.{TextFault}
@@ -100,7 +99,7 @@ fault_of n line_faults.Undeclared = faults.Undeclared n
 
 -- the fault of a text: it is too long, or its first faulty line has this fault
 abbrev pub IsTextFault : Declaration → List ℕ → TextFault → Type 0
-IsTextFault d text faults.TooLong = LIMIT < length text
+IsTextFault d text faults.TooLong = 134217728 < length text
 IsTextFault d text (faults.BadLine n) = IsFaultAt d text n line_faults.Bad
 IsTextFault d text (faults.Undeclared n) = IsFaultAt d text n line_faults.Undeclared
 IsTextFault d text faults.OutOfMemory = Unit {0}

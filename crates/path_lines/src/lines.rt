@@ -23,8 +23,8 @@ fn push_verb<A: Allocator + Copy>(out: &mut String<A>, verb: Verb) -> Result<(),
     Ok(())
 }
 
-/// Appends the name of a declared operation, or `#` and the number of an undeclared one. If allocation fails, a front of that may have
-/// been appended. Grows the text only if its capacity is too small.
+/// Appends the name of a declared operation, or `#` and the number of an undeclared one. If allocation fails, what the text contains
+/// then isn't specified. Allocates only if the capacity of the text isn't enough.
 pub fn push_operation<A: Allocator + Copy, B: Allocator + Copy>(
     out: &mut String<A>,
     decl: &Decl<B>,
@@ -100,8 +100,8 @@ fn push_numbered<A: Allocator + Copy>(
     Ok(())
 }
 
-/// Appends what follows an attempt in its line: `: `, the text of the reply and a line feed. If allocation fails, a front of it may
-/// have been appended. Allocates only if the capacity of the list isn't enough.
+/// Appends what follows an attempt in its line: `: `, the text of the reply and a line feed. If allocation fails, what the
+/// list contains then isn't specified. Allocates only if the capacity of the list isn't enough.
 pub fn push_told<A: Allocator + Copy>(out: &mut Vec<u8, A>, reply: Reply) -> Result<(), OutOfMemory>
     ensures { OnOk result (out.new.items ≡ out.old.items ++ (codes ": " ++ (reply_text reply ++ 10 ∷ []))) }
 {
@@ -123,8 +123,8 @@ pub fn push_told<A: Allocator + Copy>(out: &mut Vec<u8, A>, reply: Reply) -> Res
     Ok(())
 }
 
-/// Appends the text of a reply. If allocation fails, a front of it may have been appended. Allocates only if the capacity of the
-/// text isn't enough.
+/// Appends the text of a reply. If allocation fails, what the text contains then isn't specified. Allocates only if the
+/// capacity of the text isn't enough.
 pub fn push_reply<A: Allocator + Copy>(out: &mut String<A>, reply: Reply) -> Result<(), OutOfMemory>
     ensures { OnOk result (string_bytes out.new ≡ string_bytes out.old ++ reply_text reply) }
 {
@@ -137,7 +137,7 @@ pub fn push_reply<A: Allocator + Copy>(out: &mut String<A>, reply: Reply) -> Res
 }
 
 /// Appends the text of a line without a line feed: the attempt, `: ` and the reply. An operation that isn't declared is written as
-/// `#` and its number. If allocation fails, a front of the text may have been appended. Allocates only if the capacity of the text
+/// `#` and its number. If allocation fails, what the text contains then isn't specified. Allocates only if the capacity of the text
 /// isn't enough.
 pub fn push_line<A: Allocator + Copy, B: Allocator + Copy>(
     out: &mut String<A>,

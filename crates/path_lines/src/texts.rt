@@ -75,7 +75,7 @@ pub fn read_attempts<A: Allocator + Copy, B: Allocator + Copy>(
     // A text has one list of attempts.
     ensures one { IfOk result (λ v. (es : List Entry) → IsAttemptsText decl.now.declaration text.now es → es ≡ v.items) }
     ensures err { IfErr result (λ e. IsTextFault decl.now.declaration text.now e) }
-    ensures too_long { IsErrOf result TextFault.TooLong ↔ (LIMIT < length text.now) }
+    ensures too_long { IsErrOf result TextFault.TooLong ↔ (134217728 < length text.now) }
     // Any error but TooLong and OutOfMemory: the text isn't a list of attempts.
     ensures none { IfErr result (λ e. e ≢ TextFault.TooLong → e ≢ TextFault.OutOfMemory → IsNoAttemptsText decl.now.declaration text.now) }
 {

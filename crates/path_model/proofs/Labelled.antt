@@ -11,7 +11,7 @@ use Rattle.path_model.specs.Words.{IsWord}
 use Rattle.path_model.specs.Behaviour.{IsFront, IsPartLabelling}
 use Rattle.path_model.proofs.Lists.{not_nil}
 use Rattle.path_model.proofs.Counts.{entry, exit, inn, out, May, Foreign, Named, foreign_entry, foreign_exit}
-use Rattle.path_model.proofs.Same.{Balanced, May_weaken, inn_nil, out_nil, foreign_left, Starts, start_may, May_split}
+use Rattle.path_model.proofs.Same.{Balanced, May_weaken, inn_nil, out_nil, foreign_left, Starts, start_may, May_split, May_nothing}
 use Rattle.std.proofs.Common.{true, false, ◌↔◌}
 use Rattle.std.proofs.lemmas.Bool.{cases_eq, cases_Bool}
 use Rattle.path_model.specs.Labellings.{Member, events_of, carrying}
@@ -352,3 +352,16 @@ module _ (b : Tree) (f : NoBraces b) (nr : NoRepeats b) (ls : List (ℕ × Event
     where
       none : carrying k ls ≡ []
       none = elim (nil_or (carrying k ls)) [ inl z ↦ z | inr u ↦ absurd (n u) ]
+
+  -- what isn't first can be given to labels in use alone
+  pub only_in_use : (e : Event) → (Starts b e → ⊥) → (k : ℕ) → IsPartLabelling b (ls ++ (k, e) ∷ []) → InUse ls k
+  only_in_use e later k p none = elim (May_split b [] e (solo_last b one [] e refl).1) [ inl m ↦ May_nothing b e m | inr x ↦ later x.1 ]
+    where
+      same : carrying k (ls ++ (k, e) ∷ []) ≡ e ∷ []
+      same = carrying_same k e ls ∙ ap (λ u. u ++ e ∷ []) none
+
+      front : IsFront (IsWord b) (e ∷ [])
+      front = subst (IsFront (IsWord b)) same (p k (λ z. not_nil [] e (sym same ∙ z)))
+
+      one : Solo b (e ∷ [])
+      one = solo_front b (mb.whole _ front.1) (e ∷ []) front.0 refl

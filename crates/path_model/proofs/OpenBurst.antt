@@ -286,7 +286,7 @@ module _ (bd : Bound) (b : Tree) (i j : ℕ) (s : Tree) (at : Inside (burst bd b
 
     module _ (ls : List (ℕ × Event)) (e : events_of ls ≡ w) (pl : IsPartLabelling b ls) where
       counted : Counts s b bd i j h ls
-      counted = record { counter = counter; spare = spare; room = may_begin; semaphores = semaphores; goes_on = goes_on; begins = begins }
+      counted = record { counter = counter; spare = spare; room = may_begin; semaphores = semaphores; goes_on = goes_on; only_in_use = only_in_use; begins = begins }
         where
           counter : Many (Unfinished b ls) (v.counter j)
           counter = unfinished_many b flat once ls pl (v.counter j) (omega (arith, H.1, ob_same.1, ob_count, ap (inn b) e, ap (out b) e))
@@ -306,23 +306,26 @@ module _ (bd : Bound) (b : Tree) (i j : ℕ) (s : Tree) (at : Inside (burst bd b
               same : Same (seq l r') h w
               same = subst (λ u. Same (seq l r') u w) (sym ob.joined) (Same_after (seq l r') ob.before w (inside_balanced ob.before k ob_balanced.0))
 
+          not_first : (a : OpId) (q : ℕ) → Names b a → prologue s a ≡ Plain q → Starts b (Began a) → ⊥
+          not_first a q k p st = plain_through bd q j (waits_on ups.0) (sym p ∙ term_of a k ∙ start_term b once flat i (j + 1) a (Within bd j ∷ ups.0) st)
+
           goes_on : (a : OpId) (q : ℕ) → Names b a → prologue s a ≡ Plain q → CanPass s h a ↔ ((k : ℕ) × InUse ls k × IsPartLabelling b (ls ++ (k, Began a) ∷ []))
           goes_on a q k p = (λ c. g.0 (to c), λ x. (passes a k).1 (from (g.1 x)))
             where
               g : May b (events_of ls) (Began a) ⊥ ↔ ((k : ℕ) × InUse ls k × IsPartLabelling b (ls ++ (k, Began a) ∷ []))
               g = Labelled.goes_on b flat once ls pl (Began a)
 
-              not_first : Starts b (Began a) → ⊥
-              not_first st = plain_through bd q j (waits_on ups.0) (sym p ∙ term_of a k ∙ start_term b once flat i (j + 1) a (Within bd j ∷ ups.0) st)
-
               to : CanPass s h a → May b (events_of ls) (Began a) ⊥
               to c = elim (May_split b h (Began a) ((passes a k).0 c)) [
                 | inl m ↦ subst (λ u. May b u (Began a) ⊥) (sym e) (May_same b h w (Began a) (λ x. x) ob_same.0 m)
-                | inr x ↦ absurd (not_first x.1)
+                | inr x ↦ absurd (not_first a q k p x.1)
               ]
 
               from : May b (events_of ls) (Began a) ⊥ → May b h (Began a) (Passes (through bd j (waits_on ups.0)) v)
               from m = May_same b w h (Began a) absurd (Same_sym b h w ob_same.0) (subst (λ u. May b u (Began a) ⊥) e m)
+
+          only_in_use : (a : OpId) (q : ℕ) → Names b a → prologue s a ≡ Plain q → (k : ℕ) → IsPartLabelling b (ls ++ (k, Began a) ∷ []) → InUse ls k
+          only_in_use a q k p = Labelled.only_in_use b flat once ls pl (Began a) (not_first a q k p)
 
           begins : (a : OpId) (q : ℕ) → Names b a → prologue s a ≡ through bd j q → (k : ℕ) → (InUse ls k → ⊥) → IsPartLabelling b (ls ++ (k, Began a) ∷ [])
           begins a q k p = Labelled.begins b flat once ls pl (Began a) (elim (other_term b once flat i (j + 1) a (Within bd j ∷ ups.0) k) [

@@ -64,6 +64,10 @@ pub record Counts (s b : Tree) (bd : Bound) (i j : ℕ) (h : List Event) (ls : L
   pub goes_on :
       (a : OpId) (q : ℕ) → Names b a → prologue s a ≡ Plain q
       → CanPass s h a ↔ ((k : ℕ) × InUse ls k × IsPartLabelling b (ls ++ (k, Began a) ∷ []))
+  -- and it can be given to no other label
+  pub only_in_use :
+      (a : OpId) (q : ℕ) → Names b a → prologue s a ≡ Plain q
+      → (k : ℕ) → IsPartLabelling b (ls ++ (k, Began a) ∷ []) → InUse ls k
   -- a start whose prologue is PP can begin any label that isn't in use if the bound has room; it can pass exactly then
   pub room : (a : OpId) (q : ℕ) → prologue s a ≡ through bd j q → CanPass s h a ↔ Room bd ((values_after s h).counter j)
   pub begins :

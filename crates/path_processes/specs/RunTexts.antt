@@ -19,7 +19,8 @@ use Rattle.path_streams.specs.declared.status.Status.TheVariants.{CommandRefused
 use Rattle.path_trace.specs.Traces.{IsUnopened, own_states}
 
 -- The plans were run over devices in these states, in a journal of this room: it has these lines then, and the processes ended so.
-pub record IsRunOf (d : Declaration) (states : List State) (room : ℕ) (plans : List Plan) (lines : List Line) (ends : List End) : Type 0 where
+pub record IsRunOf (d : Declaration) (states : List State) (room : ℕ) (plans : List Plan) (lines : List Line)
+    (ends : List End) : Type 0 where
   pub passes : List Held
   pub as_many : (length passes ≡ length plans) × (length ends ≡ length plans)
   pub honest : IsHonest d room (contents_of states) lines
@@ -29,7 +30,8 @@ pub record IsRunOf (d : Declaration) (states : List State) (room : ℕ) (plans :
   pub blocked : EachIsBlockedNow d lines ends
 
 -- The bytes are the text of the journal of a run of the script that a text is, and the processes ended so.
-pub record IsRunText (d : Declaration) (states : List State) (room : ℕ) (script : List ℕ) (ended : List End → Type 0) (bytes : List ℕ) : Type 0 where
+pub record IsRunText (d : Declaration) (states : List State) (room : ℕ) (script : List ℕ) (ended : List End → Type 0)
+    (bytes : List ℕ) : Type 0 where
   pub plans : List Plan
   pub lines : List Line
   pub ends : List End

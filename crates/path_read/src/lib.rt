@@ -1,7 +1,8 @@
 //! Reads declarations: from bytes to resources, operations and paths.
 //!
-//! [`read`] returns a [`Decl`](path_decl::Decl) if the text, the rules and the limits allow one, and the first fault otherwise; any
-//! error but `OutOfMemory` means that the text isn't a declaration. path_decl's `specs/Text.antt` defines which bytes are one.
+//! [`read`] returns a [`Decl`](path_decl::Decl) only if the text is a declaration; any fault but `OutOfMemory` means that it isn't
+//! one. That the first fault is named is proved of bad bytes, and of words and numbers past their limits. path_decl's
+//! `specs/Text.antt` defines which bytes are a declaration.
 #![tactic(auto)]
 
 mod ahead;

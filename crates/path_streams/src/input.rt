@@ -9,7 +9,7 @@ use std::io::Read;
 /// Reads all bytes of a reader, which a fault names by `name`. Fails with `TooLong` if there are more than the limit, with
 /// `Unreadable` if the reader fails, and with `OutOfMemory` if allocation fails. Reads at most one byte past the limit.
 /// Allocates memory for the expected number of bytes at once; a wrong expectation only costs time. Gives back the memory that the
-/// bytes don't fill.
+/// bytes don't fill. That these are all bytes is proved only of readers that say what remains in them, as a `&[u8]` does.
 pub fn read_all<'a, A: Allocator + Copy, R: Read + Drop>(
     alloc: A,
     reader: R,

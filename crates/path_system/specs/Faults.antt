@@ -1,6 +1,5 @@
 -- When a system can't be opened, and when a device can't be replaced.
 use Rattle.std.specs.Prelude.{◌≡◌, ◌≢◌, ◌⊎◌, ◌<◌, ℕ, List, Any}
-use Rattle.path_model.specs.declared.journal.TheConstants.{MOST_LINES}
 use Rattle.path_model.specs.declared.journal.Line.{Line}
 use Rattle.path_model.specs.declared.resource.Law.{Law}
 use Rattle.path_model.specs.Declarations.{Declaration, resource_of, law_of}
@@ -15,9 +14,9 @@ use Rattle.path_system.specs.declared.fault.OpenFault.TheVariants.{BadRoom, Wron
 use Rattle.path_system.specs.declared.fault.ReplaceFault.{ReplaceFault}
 use Rattle.path_system.specs.declared.fault.ReplaceFault.TheVariants.{Busy, Used, OtherLaw}
 
--- the room isn't 1 to MOST_LINES
+-- a journal's room is 1 to 1,048,576
 abbrev pub IsBadRoom : ℕ → Type 0
-IsBadRoom room = (room ≡ 0) ⊎ (MOST_LINES < room)
+IsBadRoom room = (room ≡ 0) ⊎ (1048576 < room)
 
 -- the fault of a shelf, as that of a system
 abbrev pub as_open_fault : ShelfFault → OpenFault

@@ -77,7 +77,7 @@ fn places<A: Allocator + Copy>(
 ) -> Result<(Vec<Line, A>, Openings<A>), OpenFault>
     ensures journal { IfOk result (λ places. (places.0.items ≡ []) × (room ≤ vec_capacity places.0)) }
     ensures openings { IfOk result (λ places. AreFor places.1 decl.now.declaration) }
-    ensures good_room { OnOk result ((1 ≤ room) × (room ≤ MOST_LINES)) }
+    ensures good_room { OnOk result ((1 ≤ room) × (room ≤ 1048576)) }
     ensures fault { IfErr result (λ fault. (states : List State) → IsOpenFault room states decl.now.declaration fault) }
 {
     if room == 0 || room > MOST_LINES {
@@ -108,7 +108,7 @@ impl<D: Device, A: Allocator + Copy> System<D, A> {
         ensures ok { IfOk result (λ system. system ≡ account_of decl.declaration room (map D.state devices.items)) }
         ensures laws { OnOk result (laws_of (map D.state devices.items) ≡ declared_laws decl.declaration) }
         ensures fault { IfErr result (λ refusal. IsOpenFault room (map D.state devices.items) decl.declaration refusal.0) }
-        ensures good_room { OnOk result ((1 ≤ room) × (room ≤ MOST_LINES)) }
+        ensures good_room { OnOk result ((1 ≤ room) × (room ≤ 1048576)) }
         ensures back { IfErr result (λ refusal. refusal.1.items ≡ devices.items) }
     {
         let (journal, mut openings) = match places(alloc, &decl, room) {

@@ -7,6 +7,8 @@ use path_model::ResId;
 use path_streams::{Fault, Status, tell};
 use path_system::OpenFault;
 use std::alloc::Global;
+use std::io;
+use std::io::ErrorKind;
 use std::process::Abort;
 
 /// A fault, its exit status and its text.
@@ -75,6 +77,26 @@ fn are_told(rt: &impl Abort, heap: Global, rows: &[Row]) {
 #[test]
 fn tells_each_fault(rt: HostRuntime) {
     are_told(&rt, rt.alloc(), FAULTS);
+}
+
+// Why the words of a command line were not read, and the fault that it is.
+const OF_ARGUMENTS: &[(ErrorKind, Fault<'static>)] = &[
+    (ErrorKind::OutOfMemory, Fault::OutOfMemory),
+    (ErrorKind::InvalidData, Fault::Arguments),
+    (ErrorKind::Other, Fault::Arguments),
+];
+
+// Each of these errors is the fault beside it.
+fn are_of_arguments(rt: &impl Abort, rows: &[(ErrorKind, Fault<'static>)]) {
+    for (kind, want) in rows {
+        let error = io::Error::from(*kind);
+        assert_eq!(rt; Fault::of_arguments(&error), *want);
+    }
+}
+
+#[test]
+fn faults_of_arguments(rt: HostRuntime) {
+    are_of_arguments(&rt, OF_ARGUMENTS);
 }
 
 // The numbers of the statuses that no fault has.

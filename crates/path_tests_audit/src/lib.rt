@@ -6,8 +6,6 @@ mod audit;
 #[cfg(test)]
 mod forged;
 #[cfg(test)]
-mod in_turn;
-#[cfg(test)]
 mod memory;
 #[cfg(test)]
 mod overlap;

@@ -1,6 +1,5 @@
 //! Refuses each request for memory of an audit.
 
-use crate::in_turn::refuse_in_turn;
 use crate::verdict::{DEPOSITED, Refusal, SLOT, opening, verdict};
 use path_audit::{AuditFault, Verdict};
 use path_decl::Decl;
@@ -8,7 +7,7 @@ use path_lex::DeclFault;
 use path_lines::TextFault;
 use path_model::OutOfMemory;
 use path_read::read;
-use refusing::Refusing;
+use refusing::{Refusing, refuse_in_turn};
 use std::alloc::{Allocator, Global};
 
 // Whether a text is a sound journal of a slot that opens with 0.
@@ -48,7 +47,8 @@ fn is_sound<A: Allocator + Copy>(
 
 #[test]
 fn each_request_is_refused(rt: HostRuntime) {
-    refuse_in_turn(&rt, rt.alloc(), OutOfMemory, |heap: &Refusing<Global>| {
+    let refused = refuse_in_turn(rt.alloc(), OutOfMemory, |heap: &Refusing<Global>| {
         is_sound(heap, SLOT, DEPOSITED)
     });
+    assert_eq!(rt; refused, Ok(()));
 }

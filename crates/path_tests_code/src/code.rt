@@ -1,12 +1,11 @@
 //! The code of paths, and the listings that show it.
 
-use crate::in_turn::refuse_in_turn;
 use path_code::{Code, Epilogue, OpCode, PathCode, Prologue, listing, translate};
 use path_decl::Decl;
 use path_lex::DeclFault;
 use path_model::{OpId, OutOfMemory, ResId};
 use path_read::read;
-use refusing::Refusing;
+use refusing::{Refusing, refuse_in_turn};
 use std::alloc::{Allocator, Global};
 use std::process::Abort;
 
@@ -263,9 +262,10 @@ fn translates<A: Allocator + Copy>(
 
 // Refuses each request of reading and translating the text in turn; then the code must have this many paths.
 fn translates_in_turn(rt: &impl Abort, heap: Global, text: &str, paths: usize) {
-    refuse_in_turn(rt, heap, OutOfMemory, |refusing: &Refusing<Global>| {
+    let refused = refuse_in_turn(heap, OutOfMemory, |refusing: &Refusing<Global>| {
         Ok(translates(rt, refusing, text)? == paths)
     });
+    assert_eq!(rt; refused, Ok(()));
 }
 
 #[test]
@@ -288,9 +288,10 @@ fn is_listed<A: Allocator + Copy>(
 
 // Refuses each request of the listing in turn; then it must be this one.
 fn lists_in_turn(rt: &impl Abort, heap: Global, code: &Code<'_>, want: &str) {
-    refuse_in_turn(rt, heap, OutOfMemory, |refusing: &Refusing<Global>| {
+    let refused = refuse_in_turn(heap, OutOfMemory, |refusing: &Refusing<Global>| {
         is_listed(refusing, code, want)
     });
+    assert_eq!(rt; refused, Ok(()));
 }
 
 #[test]

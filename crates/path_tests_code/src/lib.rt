@@ -4,6 +4,4 @@
 #[cfg(test)]
 mod code;
 #[cfg(test)]
-mod in_turn;
-#[cfg(test)]
 mod trim;

@@ -1,12 +1,11 @@
 //! Trimmed paths, and the listings that show them.
 
 use crate::code::{self, declared, expect_text, listed_code, read_by, translated};
-use crate::in_turn::refuse_in_turn;
 use path_code::{Epilogue, Prologue, translate};
 use path_decl::Decl;
 use path_model::{OpId, OutOfMemory, PathId};
 use path_trim::{Lean, LeanOp, LeanPath, Removed, kept, lean_listing, removed, trim};
-use refusing::Refusing;
+use refusing::{Refusing, refuse_in_turn};
 use std::alloc::{Allocator, Global};
 use std::process::Abort;
 
@@ -306,9 +305,10 @@ fn trims<A: Allocator + Copy>(
 fn trims_in_turn(rt: &impl Abort, heap: Global, text: &str, paths: usize) {
     let whole = code::listed(rt, heap, text);
     let want = whole.as_str();
-    refuse_in_turn(rt, heap, OutOfMemory, |refusing: &Refusing<Global>| {
+    let refused = refuse_in_turn(heap, OutOfMemory, |refusing: &Refusing<Global>| {
         Ok(trims(rt, refusing, text, heap, want)? == paths)
     });
+    assert_eq!(rt; refused, Ok(()));
 }
 
 #[test]
@@ -333,9 +333,10 @@ fn is_listed<A: Allocator + Copy>(
 
 // Refuses each request of the listing of what is left in turn; then it must be this one.
 fn lists_in_turn(rt: &impl Abort, heap: Global, decl: &Decl, lean: &Lean, want: &str) {
-    refuse_in_turn(rt, heap, OutOfMemory, |refusing: &Refusing<Global>| {
+    let refused = refuse_in_turn(heap, OutOfMemory, |refusing: &Refusing<Global>| {
         is_listed(refusing, decl, lean, want)
     });
+    assert_eq!(rt; refused, Ok(()));
 }
 
 #[test]

@@ -1,6 +1,5 @@
 //! Texts, and the declarations that are read from them.
 
-use crate::in_turn::refuse_in_turn;
 use path_decl::{
     Decl, counts, op_name, operation, path_resource, paths_of, resource, resource_name,
     resource_of, tree_of,
@@ -8,11 +7,12 @@ use path_decl::{
 use path_lex::{DeclFault, is_name};
 use path_model::{Expr, OpId, PathId, ResId};
 use path_read::read;
-use refusing::Refusing;
+use refusing::{Refusing, refuse_in_turn};
 use std::alloc::{Allocator, Global};
 use std::process::Abort;
 
 mod limits;
+mod pairs;
 mod printing;
 
 const SLOT: &str = "resource slot cell operation deposit, remove path deposit ; remove end end";
@@ -294,12 +294,12 @@ fn paths_that_name(rt: HostRuntime) {
 
 // Refuses each request of reading the text in turn; then it must declare this many resources, operations and paths.
 pub(crate) fn reads_in_turn(rt: &impl Abort, heap: Global, text: &str, totals: (u32, u32, u32)) {
-    refuse_in_turn(
-        rt,
+    let refused = refuse_in_turn(
         heap,
         DeclFault::OutOfMemory,
         |refusing: &Refusing<Global>| Ok(counted(refusing, text)? == totals),
     );
+    assert_eq!(rt; refused, Ok(()));
 }
 
 const THREE: &str = "resource r cell operation a, b, c path a ; ( b , c ) end path c end end";

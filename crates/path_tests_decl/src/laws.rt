@@ -1,12 +1,11 @@
 //! The laws of resources, and the faults of capacities.
 
 use crate::decl::{SEVERAL, expect, expect_faults, put, put_number};
-use crate::in_turn::refuse_in_turn;
 use path_decl::law_of;
 use path_lex::DeclFault;
 use path_model::{Law, ResId};
 use path_read::read;
-use refusing::Refusing;
+use refusing::{Refusing, refuse_in_turn};
 use std::alloc::{Allocator, Global};
 use std::process::Abort;
 
@@ -175,12 +174,12 @@ fn capacity_of_one_resource_too_many(rt: HostRuntime) {
 
 // Refuses each request of reading the text in turn; then resource 1 must have this law.
 fn reads_law_in_turn(rt: &impl Abort, heap: Global, text: &str, law: Law) {
-    refuse_in_turn(
-        rt,
+    let refused = refuse_in_turn(
         heap,
         DeclFault::OutOfMemory,
         |refusing: &Refusing<Global>| Ok(law_in(refusing, text, 1)? == Some(law)),
     );
+    assert_eq!(rt; refused, Ok(()));
 }
 
 const QUEUE_SECOND: &str =

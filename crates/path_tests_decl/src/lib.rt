@@ -11,8 +11,8 @@ mod faults;
 #[cfg(test)]
 mod hostile;
 #[cfg(test)]
-mod in_turn;
-#[cfg(test)]
 mod laws;
 #[cfg(test)]
 mod model;
+#[cfg(test)]
+mod turns;

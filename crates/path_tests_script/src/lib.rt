@@ -6,8 +6,6 @@ mod declaration;
 #[cfg(test)]
 mod faults;
 #[cfg(test)]
-mod in_turn;
-#[cfg(test)]
 mod limits;
 #[cfg(test)]
 mod scripts;

@@ -1,11 +1,10 @@
 //! Scripts that are read.
 
 use crate::declaration::declared;
-use crate::in_turn::refuse_in_turn;
 use path_decl::Decl;
 use path_model::{OpId, Verb};
 use path_script::{Process, ScriptFault, Step, read_script};
-use refusing::Refusing;
+use refusing::{Refusing, refuse_in_turn};
 use std::alloc::{Allocator, Global};
 use std::process::Abort;
 
@@ -98,12 +97,10 @@ fn reads_scripts(rt: HostRuntime) {
 
 // Refuses each request of reading a text in turn; then these processes must be read.
 fn is_refused_in_turn(rt: &impl Abort, heap: Global, decl: &Decl, text: &str, want: Told) {
-    refuse_in_turn(
-        rt,
-        heap,
-        ScriptFault::OutOfMemory,
-        |heap: &Refusing<Global>| { tells(heap, decl, text, want) },
-    );
+    let refused = refuse_in_turn(heap, ScriptFault::OutOfMemory, |heap: &Refusing<Global>| {
+        tells(heap, decl, text, want)
+    });
+    assert_eq!(rt; refused, Ok(()));
 }
 
 #[test]

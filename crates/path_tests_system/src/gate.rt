@@ -6,7 +6,7 @@ use path_decl::Decl;
 use path_gate::Gate;
 use path_model::{OpId, OutOfMemory, PathId};
 use path_trim::trim;
-use refusing::Refusing;
+use refusing::{Refusing, refuse_in_turn};
 use std::alloc::{Allocator, Global};
 use std::process::Abort;
 
@@ -232,27 +232,15 @@ fn first_answer<M: Allocator + Copy>(
     Ok(gate.would_admit(B))
 }
 
-// Whether the gate of the text opens if request `number` is refused.
-fn opens_but(rt: &impl Abort, heap: Global, text: &[u8], number: u64) -> bool {
-    let refusing = Refusing::new(heap, number);
-    let answer = first_answer(rt, &refusing, text);
-    let is_refused = refusing.has_refused();
-    let want = if is_refused {
-        Err(OutOfMemory)
-    } else {
-        Ok(Err(PathId(0)))
-    };
-    assert_eq!(rt; answer, want);
-    !is_refused
+// Refuses each request in turn while a gate of the text is opened, until path 0 forbids the second operation.
+fn opens_in_turn(rt: &impl Abort, heap: Global, text: &[u8]) {
+    let refused = refuse_in_turn(heap, OutOfMemory, |refusing: &Refusing<Global>| {
+        Ok(first_answer(rt, refusing, text)? == Err(PathId(0)))
+    });
+    assert_eq!(rt; refused, Ok(()));
 }
 
 #[test]
 fn each_request_of_open_is_refused(rt: HostRuntime) {
-    for number in 1..400u64 {
-        if opens_but(&rt, rt.alloc(), FORK, number) {
-            assert!(rt; number > 1);
-            return;
-        }
-    }
-    panic!(rt; "it was never passed");
+    opens_in_turn(&rt, rt.alloc(), FORK);
 }

@@ -4,7 +4,7 @@ use crate::stepping::{ROOM, SLOT, Step, declared, held, lines, steps, tried};
 use path_model::{ActId, Attempt, MOST_LINES, OpId, OutOfMemory, PathId, Reply, ResId, Verb};
 use path_shelf::Cell;
 use path_system::{OpenFault, ReplaceFault, System};
-use refusing::Refusing;
+use refusing::{Refusing, refuse_in_turn};
 use std::alloc::{Allocator, Global};
 use std::fmt::Display;
 use std::process::Abort;
@@ -71,29 +71,17 @@ fn slot_passes(rt: HostRuntime) {
     assert_eq!(rt; seen, Ok((Some(7), 6)));
 }
 
-// Whether no request `number` was made. Checks that the slot passes, or that a refused request fails it.
-fn passes(rt: &impl Abort, heap: Global, number: u64, rows: &[Step]) -> bool {
-    let refusing = Refusing::new(heap, number);
-    let seen = after(rt, &refusing, ROOM, rows);
-    let is_refused = refusing.has_refused();
-    let want = if is_refused {
-        Err(OutOfMemory)
-    } else {
-        Ok((Some(7), 6))
-    };
-    assert_eq!(rt; seen, want);
-    !is_refused
+// Refuses each request of the slot in turn, until it passes.
+fn passes_in_turn(rt: &impl Abort, heap: Global, rows: &[Step]) {
+    let refused = refuse_in_turn(heap, OutOfMemory, |refusing: &Refusing<Global>| {
+        Ok(after(rt, refusing, ROOM, rows)? == (Some(7), 6))
+    });
+    assert_eq!(rt; refused, Ok(()));
 }
 
 #[test]
 fn each_request_is_refused(rt: HostRuntime) {
-    for number in 1..1000u64 {
-        if passes(&rt, rt.alloc(), number, DEPOSIT_AND_REMOVE) {
-            assert!(rt; number > 1);
-            return;
-        }
-    }
-    panic!(rt; "never passed");
+    passes_in_turn(&rt, rt.alloc(), DEPOSIT_AND_REMOVE);
 }
 
 const OWNERS_AND_STALE: &[Step] = &[

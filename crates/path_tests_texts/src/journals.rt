@@ -1,12 +1,11 @@
 //! Texts of journals.
 
 use crate::declaration::declared;
-use crate::in_turn::refuse_in_turn;
 use path_decl::Decl;
 use path_journal::{read_journal, write_head};
 use path_lines::{TextFault, write_line};
 use path_model::{ActId, Attempt, Line, MOST_LINES, OpId, OutOfMemory, PathId, Reply, Verb};
-use refusing::Refusing;
+use refusing::{Refusing, refuse_in_turn};
 use std::alloc::{Allocator, Global};
 use std::process::Abort;
 
@@ -356,19 +355,18 @@ fn each_head_is_read_again(rt: HostRuntime) {
 
 #[test]
 fn each_request_of_a_head_is_refused(rt: HostRuntime) {
-    refuse_in_turn(&rt, rt.alloc(), OutOfMemory, |heap: &Refusing<Global>| {
+    let refused = refuse_in_turn(rt.alloc(), OutOfMemory, |heap: &Refusing<Global>| {
         is_head_of(heap, MOST_LINES, "journal 2 room 1048576")
     });
+    assert_eq!(rt; refused, Ok(()));
 }
 
 // Refuses each request of reading a text in turn; then these lines must be read.
 fn is_refused_in_turn(rt: &impl Abort, heap: Global, decl: &Decl, text: &str, room: Option<u32>) {
-    refuse_in_turn(
-        rt,
-        heap,
-        TextFault::OutOfMemory,
-        |heap: &Refusing<Global>| { is_journal(heap, decl, text, room, &LINES) },
-    );
+    let refused = refuse_in_turn(heap, TextFault::OutOfMemory, |heap: &Refusing<Global>| {
+        is_journal(heap, decl, text, room, &LINES)
+    });
+    assert_eq!(rt; refused, Ok(()));
 }
 
 #[test]

@@ -9,8 +9,6 @@ mod declaration;
 #[cfg(test)]
 mod fields;
 #[cfg(test)]
-mod in_turn;
-#[cfg(test)]
 mod journals;
 #[cfg(test)]
 mod lines;

@@ -1,11 +1,10 @@
 //! Texts of lines.
 
 use crate::declaration::declared;
-use crate::in_turn::refuse_in_turn;
 use path_decl::Decl;
 use path_lines::{push_told, write_line};
 use path_model::{ActId, Attempt, Line, OpId, OutOfMemory, PathId, Reply, Verb};
-use refusing::Refusing;
+use refusing::{Refusing, refuse_in_turn};
 use std::alloc::{Allocator, Global};
 use std::process::Abort;
 
@@ -151,9 +150,10 @@ fn is_text_of<A: Allocator + Copy>(
 #[test]
 fn each_request_of_a_line_is_refused(rt: HostRuntime) {
     let decl = declared(&rt, rt.alloc(), DECLARATION);
-    refuse_in_turn(&rt, rt.alloc(), OutOfMemory, |heap: &Refusing<Global>| {
+    let refused = refuse_in_turn(rt.alloc(), OutOfMemory, |heap: &Refusing<Global>| {
         is_text_of(heap, &decl, &LONGEST, LONGEST_TEXT)
     });
+    assert_eq!(rt; refused, Ok(()));
     drop(decl);
 }
 
@@ -167,11 +167,12 @@ fn is_told<A: Allocator + Copy>(alloc: A, reply: Reply, want: &[u8]) -> Result<b
 
 #[test]
 fn each_request_of_a_reply_is_refused(rt: HostRuntime) {
-    refuse_in_turn(&rt, rt.alloc(), OutOfMemory, |heap: &Refusing<Global>| {
+    let refused = refuse_in_turn(rt.alloc(), OutOfMemory, |heap: &Refusing<Global>| {
         is_told(
             heap,
             Reply::Used(u64::MAX),
             b": used 18446744073709551615\n",
         )
     });
+    assert_eq!(rt; refused, Ok(()));
 }

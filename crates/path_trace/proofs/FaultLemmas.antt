@@ -1,15 +1,17 @@
 -- The status with which a trace is refused.
-use Rattle.std.proofs.Common.{◌≡◌, ℕ, List, [], Option, Some, None, ◌⊎◌, inl, inr, refl, sym, ◌∙◌, subst}
+use Rattle.std.proofs.Common.{◌≡◌, ℕ, ◌<◌, List, [], Option, Some, None, ◌⊎◌, inl, inr, refl, sym, ap, ◌∙◌, subst, length, get_or, arith}
 use Rattle.std.specs.Io.KnownBytes.{Appends}
-use Rattle.std.proofs.lemmas.List.{append-nil}
-use Rattle.path_model.specs.Declarations.{Declaration}
+use Rattle.std.proofs.lemmas.List.{append-nil, get_or-map, length-map}
+use Rattle.path_model.specs.declared.resource.Law.TheVariants.{Cell}
+use Rattle.path_model.specs.Declarations.{Declaration, Resource}
 use Rattle.path_lines.specs.declared.entry.LineFault.{LineFault}
 use Rattle.path_lines.specs.declared.entry.LineFault.TheVariants as line_faults
 use Rattle.path_lines.specs.AttemptTexts.{Entry, IsAttemptsText, fault_of}
-use Rattle.path_shelf.specs.States.{State}
+use Rattle.path_shelf.specs.Shelves.{declared_laws}
+use Rattle.path_shelf.specs.States.{State, laws_of}
 use Rattle.path_system.specs.declared.fault.OpenFault.{OpenFault}
 use Rattle.path_system.specs.declared.fault.OpenFault.TheVariants as openings
-use Rattle.path_system.specs.Faults.{IsOpenFault}
+use Rattle.path_system.specs.Faults.{IsBadRoom, IsOpenFault}
 use Rattle.path_streams.specs.declared.status.Status.{Status}
 use Rattle.path_streams.specs.declared.status.Status.TheVariants.{CommandRefused, NoMemory, StreamFailed}
 use Rattle.path_streams.specs.Statuses.{open_status, text_status}
@@ -27,12 +29,23 @@ pub refuses_attempts : (d : Declaration) (states : List State) (room : ℕ) (tex
 refuses_attempts d states room text CommandRefused bad = absurd bad
 refuses_attempts d states room text s bad = bad
 
--- what refuses a system refuses its trace
-pub refuses_opening : (d : Declaration) (states : List State) (room : ℕ) (text : List ℕ) (f : OpenFault) → IsOpenFault room states d f → IsRefused d states room text (open_status f)
-refuses_opening d states room text openings.BadRoom is = (openings.BadRoom, λ e. cc, is)
-refuses_opening d states room text openings.WrongCount is = (openings.WrongCount, λ e. cc, is)
-refuses_opening d states room text (openings.WrongDevice r) is = (openings.WrongDevice r, λ e. cc, is)
-refuses_opening d states room text openings.OutOfMemory is = tt
+abbrev undeclared : Resource
+undeclared = record { name = []; law = Cell }
+
+abbrev no_state : State
+no_state = record { law = Cell; contents = []; failures = 0 }
+
+-- where the room and the laws are good only memory refuses
+pub refuses_memory : (d : Declaration) (states : List State) (room : ℕ) (text : List ℕ) (f : OpenFault) → (IsBadRoom room → ⊥) → laws_of states ≡ declared_laws d → IsOpenFault room states d f → IsRefused d states room text (open_status f)
+refuses_memory d states room text openings.BadRoom good same is = absurd (good is)
+refuses_memory d states room text openings.WrongCount good same is = absurd (is.1 (sym (length-map states (λ (s : State). s.law)) ∙ ap length same ∙ length-map d.resources (λ (r : Resource). r.law)))
+refuses_memory d states room text (openings.WrongDevice r) good same is =
+    let first = is.1.1 in
+    absurd (first.other (sym (get_or-map (λ (s : State). s.law) states r.0 no_state Cell within) ∙ ap (λ ls. get_or ls r.0 Cell) same ∙ get_or-map (λ (x : Resource). x.law) d.resources r.0 undeclared Cell first.declared))
+  where
+    within : r.0 < length states
+    within = omega (arith, is.1.0, is.1.1.declared)
+refuses_memory d states room text openings.OutOfMemory good same is = tt
 
 -- how a command ends that reports a refused declaration
 abbrev pub EndsUndeclared : List ℕ → Status → Type 0

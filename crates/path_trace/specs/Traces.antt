@@ -1,5 +1,5 @@
 -- What a trace is: each attempt with a reply that was owed to it, and then the report if asked for.
-use Rattle.std.specs.Prelude.{◌≡◌, ◌≢◌, ◌<◌, ℕ, Bool, true, false, List, [], ◌∷◌, ◌++◌, ◌⊎◌, length, map, codes}
+use Rattle.std.specs.Prelude.{◌≡◌, ◌≢◌, ◌<◌, ◌≤◌, ℕ, Bool, true, false, List, [], ◌∷◌, ◌++◌, ◌⊎◌, length, map, codes}
 use Rattle.path_model.specs.declared.ids.OpId.{OpId}
 use Rattle.path_model.specs.declared.ids.PathId.{PathId}
 use Rattle.path_model.specs.declared.journal.Attempt.{Attempt}
@@ -11,7 +11,6 @@ use Rattle.path_model.specs.Declarations.{Declaration}
 use Rattle.path_model.specs.Journals.{with_line}
 use Rattle.path_model.specs.Owed.{Owed}
 use Rattle.path_decl.specs.Text.{IsDeclarationText}
-use Rattle.path_lines.specs.declared.texts.TheConstants.{LIMIT}
 use Rattle.path_lines.specs.LineTexts.{journal_line_text, reply_text}
 use Rattle.path_lines.specs.AttemptTexts.{Entry, IsAttemptsText}
 use Rattle.path_shelf.specs.States.{State}
@@ -19,7 +18,7 @@ use Rattle.path_shelf.specs.Openings.{opening_state}
 use Rattle.path_system.specs.declared.fault.OpenFault.{OpenFault}
 use Rattle.path_system.specs.declared.fault.OpenFault.TheVariants.{OutOfMemory}
 use Rattle.path_system.specs.Accounts.{Account, account_of}
-use Rattle.path_system.specs.Faults.{IsOpenFault}
+use Rattle.path_system.specs.Faults.{IsBadRoom, IsOpenFault}
 use Rattle.path_system.specs.Reports.{IsReport}
 use Rattle.path_streams.specs.declared.status.Status.{Status}
 use Rattle.path_streams.specs.declared.status.Status.TheVariants.{CommandRefused, TextRefused, NoMemory}
@@ -98,9 +97,24 @@ IsTraceOfTexts declaration room report attempts bytes =
 abbrev pub IsUnopened : Declaration → List State → ℕ → Type 0
 IsUnopened d states room = (fault : OpenFault) × (fault ≢ OutOfMemory) × IsOpenFault room states d fault
 
+-- the text isn't too long, and is a list of attempts
+pub record HasAttempts (d : Declaration) (text : List ℕ) : Type 0 where
+  pub short : length text ≤ 134217728
+  pub entries : List Entry
+  pub listed : IsAttemptsText d text entries
+
+-- the text is a list of attempts, and no system can be opened to answer them, whatever memory there is
+abbrev pub LacksSystem : Declaration → List State → ℕ → List ℕ → Type 0
+LacksSystem d states room text = HasAttempts d text × IsUnopened d states room
+
+-- the text is a list of attempts under the declaration that another text is, and no system can have the room
+abbrev pub LacksRoomUnder : List ℕ → ℕ → List ℕ → Type 0
+LacksRoomUnder declaration room attempts =
+    (d : Declaration) × IsDeclarationText declaration d × HasAttempts d attempts × IsBadRoom room
+
 -- the text is too long, or isn't a list of attempts
 abbrev pub IsBadText : Declaration → List ℕ → Type 0
-IsBadText d text = (LIMIT < length text) ⊎ ((es : List Entry) → IsAttemptsText d text es → ⊥)
+IsBadText d text = (134217728 < length text) ⊎ ((es : List Entry) → IsAttemptsText d text es → ⊥)
 
 -- the text is too long, or isn't a list of attempts, under the declaration in another text
 abbrev pub IsBadTextUnder : List ℕ → List ℕ → Type 0
@@ -114,5 +128,5 @@ IsBadAttempts d text status = ⊥
 
 -- why a trace is refused before anything is written, by the status
 abbrev pub IsRefused : Declaration → List State → ℕ → List ℕ → Status → Type 0
-IsRefused d states room text CommandRefused = IsUnopened d states room
+IsRefused d states room text CommandRefused = LacksSystem d states room text
 IsRefused d states room text status = IsBadAttempts d text status

@@ -146,7 +146,7 @@ fn frozen_words(frozen: bool) -> &'static [u8]
 /// activation, A its number and W its worker; and `frozen yes` or `frozen no`. Each line ends with a line feed. An operation
 /// that isn't declared is written as `#` and its number.
 ///
-/// Fails only if allocation fails; a front of the text may then have been appended. The cost is proportional to the text.
+/// Fails only if allocation fails; what the text contains then isn't specified. The cost is proportional to the text.
 pub fn push_report<A: Allocator + Copy>(
     text: &mut Vec<u8, A>,
     decl: &Decl<A>,

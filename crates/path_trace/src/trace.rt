@@ -9,7 +9,7 @@ ghost use Rattle.path_streams.specs.Statuses.{status_of};
 ghost use Rattle.path_streams.specs.Writes.{AppendsSome, IsFrontOf};
 ghost use Rattle.path_streams.specs.Refusals.{IsNoDeclaration};
 ghost use Rattle.path_trace.specs.Traces.{GrowsBehind, IsAnswered, IsToldBy, IsTraceBy, IsTraceOf, IsTraceOfTexts, own_states};
-ghost use Rattle.path_trace.specs.Traces.{IsBadAttempts, IsBadText, IsBadTextUnder, IsRefused, IsUnopened};
+ghost use Rattle.path_trace.specs.Traces.{IsBadAttempts, IsBadText, IsBadTextUnder, IsRefused, LacksRoomUnder, LacksSystem, HasAttempts};
 
 use crate::own::own_devices;
 use crate::report::push_report;
@@ -224,9 +224,9 @@ pub fn trace_to<D: Device, A: Allocator + Copy, O: Write, E: Write>(
     // Done means that a system can have the room and that the devices have the declared laws.
     ensures room { IsBadRoom room → result ≢ Status.Done }
     ensures laws { result ≡ Status.Done → laws_of (map D.state devices.items) ≡ declared_laws decl.declaration }
-    // The system can't be opened, and nothing was written.
-    ensures unopened { result ≡ Status.CommandRefused
-        → Keeps (O.contents out.old) (O.contents out.new) × IsUnopened decl.declaration (map D.state devices.items) room }
+    // The text is a list of attempts, but the system can't be opened; nothing was written.
+    ensures unopened { result ≡ Status.CommandRefused → Keeps (O.contents out.old) (O.contents out.new)
+        × LacksSystem decl.declaration (map D.state devices.items) room attempts.now }
     // The text is too long or isn't a list of attempts, and nothing was written.
     ensures refused { result ≡ Status.TextRefused
         → Keeps (O.contents out.old) (O.contents out.new) × IsBadText decl.declaration attempts.now }
@@ -254,7 +254,8 @@ fn trace_own<A: Allocator + Copy, O: Write, E: Write>(
     ensures done { result ≡ Status.Done → AppendsSome (O.contents out.old) (O.contents out.new)
         (IsTraceOf decl.declaration (own_states decl.declaration) ⊥ room report attempts.now) }
     ensures room { IsBadRoom room → result ≢ Status.Done }
-    ensures bad_room { result ≡ Status.CommandRefused → Keeps (O.contents out.old) (O.contents out.new) × IsBadRoom room }
+    ensures bad_room { result ≡ Status.CommandRefused
+        → Keeps (O.contents out.old) (O.contents out.new) × (HasAttempts decl.declaration attempts.now × IsBadRoom room) }
     ensures refused { result ≡ Status.TextRefused
         → Keeps (O.contents out.old) (O.contents out.new) × IsBadText decl.declaration attempts.now }
     ensures memory { result ≡ Status.NoMemory → AppendsSome (O.contents out.old) (O.contents out.new)
@@ -293,8 +294,9 @@ pub fn trace_bytes<A: Allocator + Copy, O: Write, E: Write>(
         → Keeps (O.contents out.old) (O.contents out.new) × IsNoDeclaration declaration.now }
     // Done means that a system can have the room.
     ensures room { IsBadRoom room → result ≢ Status.Done }
-    // No system can have the room, and nothing was written.
-    ensures bad_room { result ≡ Status.CommandRefused → Keeps (O.contents out.old) (O.contents out.new) × IsBadRoom room }
+    // The texts are a declaration and a list of attempts, but no system can have the room; nothing was written.
+    ensures bad_room { result ≡ Status.CommandRefused
+        → Keeps (O.contents out.old) (O.contents out.new) × LacksRoomUnder declaration.now room attempts.now }
     // The attempts are too long or don't fit the declaration, and nothing was written.
     ensures refused { result ≡ Status.TextRefused
         → Keeps (O.contents out.old) (O.contents out.new) × IsBadTextUnder declaration.now attempts.now }

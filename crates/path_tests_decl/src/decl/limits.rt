@@ -6,7 +6,7 @@ use std::alloc::Global;
 use std::process::Abort;
 
 // A front, a piece repeated this many times, and a back.
-fn repeated(
+pub(super) fn repeated(
     rt: &impl Abort,
     heap: Global,
     front: &str,
@@ -86,7 +86,7 @@ fn depth(rt: HostRuntime) {
 }
 
 // Appends this many different names, with a sign after each except the last.
-fn put_names(rt: &impl Abort, text: &mut String, sign: &str, times: u32) {
+pub(super) fn put_names(rt: &impl Abort, text: &mut String, sign: &str, times: u32) {
     for number in 0..times {
         put(rt, text, if number > 0 { sign } else { "" });
         put(rt, text, "a");
@@ -126,16 +126,21 @@ fn most_names(rt: HostRuntime) {
     names(&rt, rt.alloc(), 65, Some(DeclFault::TooMany(527)));
 }
 
-// Checks that as many resources as a file may have, each with an operation, followed by this text, have this fault, or none.
+// Appends as many resources as a file may have, each with an operation.
+pub(super) fn put_resources(rt: &impl Abort, text: &mut String) {
+    for number in 0..64 {
+        put(rt, text, "resource r");
+        put_number(rt, text, number);
+        put(rt, text, " cell operation a");
+        put_number(rt, text, number);
+        put(rt, text, " end ");
+    }
+}
+
+// Checks that as many resources as a file may have, followed by this text, have this fault, or none.
 fn after_resources(rt: &impl Abort, heap: Global, back: &str, want: Option<DeclFault>) {
     let mut text = String::new(heap);
-    for number in 0..64 {
-        put(rt, &mut text, "resource r");
-        put_number(rt, &mut text, number);
-        put(rt, &mut text, " cell operation a");
-        put_number(rt, &mut text, number);
-        put(rt, &mut text, " end ");
-    }
+    put_resources(rt, &mut text);
     put(rt, &mut text, back);
     expect(rt, heap, &text, want);
 }

@@ -1,10 +1,9 @@
 //! Declarations, and their printed texts.
 
 use super::{declared, expect_text};
-use crate::in_turn::refuse_in_turn;
 use path_model::OutOfMemory;
 use path_print::print;
-use refusing::Refusing;
+use refusing::{Refusing, refuse_in_turn};
 use std::alloc::Global;
 use std::process::Abort;
 
@@ -79,10 +78,11 @@ fn prints_the_tokens(rt: HostRuntime) {
 // Refuses each request of printing this text in turn; then it must be printed as it is laid out here.
 fn prints_in_turn(rt: &impl Abort, heap: Global, text: &str) {
     let decl = declared(rt, heap, text);
-    refuse_in_turn(rt, heap, OutOfMemory, |refusing: &Refusing<Global>| {
+    let refused = refuse_in_turn(heap, OutOfMemory, |refusing: &Refusing<Global>| {
         let printed = print(refusing, &decl)?;
         Ok(printed.as_str() == text)
     });
+    assert_eq!(rt; refused, Ok(()));
     drop(decl);
 }
 

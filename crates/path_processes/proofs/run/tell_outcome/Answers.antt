@@ -16,7 +16,7 @@ wrote g c =
     let d : Declaration = c.decl-decl.result.now.declaration in
     let lines : List Line = c.args.outcome.now.system.journal in
     let text = c.as_bytes.ensures.value ∙ c.in-Ok.ensures ∙ ap (λ (ls : List Line). journal_text d (Some c.args.room) ls) c.journal.ensures.value
-        ∙ ap (λ (x : Declaration). journal_text x (Some c.args.room) lines) c.decl-decl.ensures in
+    ∙ ap (λ (x : Declaration). journal_text x (Some c.args.room) lines) c.decl-decl.ensures in
     subst (λ (bytes : List ℕ). Appends (g.O.Write.contents c.args.out.now) (g.O.Write.contents c.put_text.new.out) bytes) text (c.put_text.ensures.done c.in-Done.is)
 
 pub returns-in-Done-clause-unsound : goal.returns-in-Done-clause-unsound

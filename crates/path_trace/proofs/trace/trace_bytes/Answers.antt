@@ -19,7 +19,9 @@ pub returns-in-Ok-clause-room : goal.returns-in-Ok-clause-room
 returns-in-Ok-clause-room g c = c.trace_own.ensures.room
 
 pub returns-in-Ok-clause-bad_room : goal.returns-in-Ok-clause-bad_room
-returns-in-Ok-clause-bad_room g c = c.trace_own.ensures.bad_room
+returns-in-Ok-clause-bad_room g c = λ e.
+    let kept = c.trace_own.ensures.bad_room e in
+    (kept.0, (c.in-Ok.decl.declaration, c.in-Ok.ensures.ok, kept.1.0, kept.1.1))
 
 pub returns-in-Ok-clause-refused : goal.returns-in-Ok-clause-refused
 returns-in-Ok-clause-refused g c = λ e.

@@ -14,7 +14,7 @@ returns-in-Ok-clause-room g c = c.trace_to.ensures.room
 pub returns-in-Ok-clause-bad_room : goal.returns-in-Ok-clause-bad_room
 returns-in-Ok-clause-bad_room g c = λ e.
     let kept = c.trace_to.ensures.unopened e in
-    (kept.0, own_room c.args.decl.declaration _ c.args.room c.in-Ok.ensures kept.1)
+    (kept.0, (kept.1.0, own_room c.args.decl.declaration _ c.args.room c.in-Ok.ensures kept.1.1))
 
 pub returns-in-Ok-clause-refused : goal.returns-in-Ok-clause-refused
 returns-in-Ok-clause-refused g c = c.trace_to.ensures.refused

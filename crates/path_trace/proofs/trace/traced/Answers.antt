@@ -2,7 +2,7 @@
 use Rattle.std.specs.Prelude.{map}
 use Rattle.std.proofs.lemmas.Result.{IfErr-weaker}
 use Rattle.path_streams.specs.Statuses.{status_of}
-use Rattle.path_trace.proofs.FaultLemmas.{refuses_attempts, refuses_opening}
+use Rattle.path_trace.proofs.FaultLemmas.{refuses_attempts, refuses_memory}
 use Rattle.path_trace.proofs.trace.traced.Goals as goal
 
 pub returns-in-Ok-clause-ok : goal.returns-in-Ok-clause-ok
@@ -15,4 +15,6 @@ returns-in-Ok-clause-err g c =
     (rw c.in-Ok.ensures.ok at c.told_by-told.ensures.err)
 
 pub returns-clause-err : goal.returns-clause-err
-returns-clause-err g c = refuses_opening c.args.decl.declaration (map g.D.Device.state c.args.devices.items) c.args.room c.args.attempts.now c.in-Err.fault c.in-Err.ensures.fault
+returns-clause-err g c =
+    refuses_memory c.args.decl.declaration (map g.D.Device.state c.args.devices.items) c.args.room c.args.attempts.now c.in-Err.fault
+    c.in_default.ensures.none.1 (rw c.deref.ensures.value at c.in_default.ensures.none.2) c.in-Err.ensures.fault
