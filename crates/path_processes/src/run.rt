@@ -130,13 +130,13 @@ fn tell_outcome<D: Device, O: Write, E: Write>(
 /// `out`, as a text of version 2, and on `err` a line for each process: its name, `: `, and how it ended. The journal has room for
 /// `room` lines, 1 to [`MOST_LINES`](path_model::MOST_LINES).
 ///
-/// `Done`: all processes are done. `Unsound`: some aren't; or the journal didn't match what the processes did, which no process
-/// causes, and nothing was written. `TextRefused`: the script is refused. `CommandRefused`: the room or the devices are, as
+/// `Done`: all processes are done. `Unsound`: some aren't; or the journal didn't match what the processes did, and nothing
+/// was written; no run has shown this. `TextRefused`: the script is refused. `CommandRefused`: the room or the devices are, as
 /// [`System::open`](path_system::System::open) says. In these two cases no process ran and nothing was written. `StreamFailed`: a
 /// writer failed. `NoMemory`: memory ran out for the run, for one of its processes or for the text, and a front of the text was
 /// written. A fault is one line on `err`.
 ///
-/// It waits for the processes, which wait for one another; nothing says that they end.
+/// Waits for the processes, which wait for one another; nothing says that they end.
 pub fn run_to<D: Device + Send, R: Threads + Wait + Sync, O: Write, E: Write>(
     rt: &R,
     alloc: Global,
@@ -157,7 +157,7 @@ pub fn run_to<D: Device + Send, R: Threads + Wait + Sync, O: Write, E: Write>(
     // The script is too long or isn't one, and nothing was written.
     ensures refused { result ≡ Status.TextRefused
         → Keeps (O.contents out.old) (O.contents out.new) × IsBadScript decl.declaration script.now }
-    // No system is opened so, and nothing was written.
+    // The system can't be opened, and nothing was written.
     ensures unopened { result ≡ Status.CommandRefused
         → Keeps (O.contents out.old) (O.contents out.new) × IsUnopened decl.declaration (map D.state devices.items) room }
     // Only a front of the journal of a run was written.
@@ -195,13 +195,13 @@ pub fn run_bytes<R: Threads + Wait + Sync, O: Write, E: Write>(
     // Nothing was written, or the journal of a run after which some process isn't done.
     ensures unsound { result ≡ Status.Unsound → Keeps (O.contents out.old) (O.contents out.new)
         ⊎ AppendsSome (O.contents out.old) (O.contents out.new) (IsRunOfTexts declaration.now room script.now NotAllDone) }
-    // The text is no declaration, and nothing was written.
+    // The text isn't a declaration, and nothing was written.
     ensures undeclared { result ≡ Status.DeclarationRefused
         → Keeps (O.contents out.old) (O.contents out.new) × IsNoDeclaration declaration.now }
     // The script is too long or isn't one, and nothing was written.
     ensures refused { result ≡ Status.TextRefused
         → Keeps (O.contents out.old) (O.contents out.new) × IsBadScriptUnder declaration.now script.now }
-    // No system has the room, and nothing was written.
+    // No system can have the room, and nothing was written.
     ensures bad_room { result ≡ Status.CommandRefused → Keeps (O.contents out.old) (O.contents out.new) × IsBadRoom room }
     // Only a front of the journal of a run was written.
     ensures memory { result ≡ Status.NoMemory → AppendsSome (O.contents out.old) (O.contents out.new)

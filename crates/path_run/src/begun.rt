@@ -24,7 +24,7 @@ pub struct Worked<L: Ledger> {
     pub end: End,
 }
 
-/// That the receipts are those of a process of this number with these steps.
+/// The promise that the receipts are those of a process of this number with these steps.
 #[derive(Clone, Copy)]
 pub struct RunOf<'a> {
     worker: u32,
@@ -98,7 +98,7 @@ fn work_there<L: Opening, S: Steps, T: Turnstile, R: Wait>(
     Worked { pass, end }
 }
 
-/// One thread for each process, joined in order. Its memory is taken before the first begins. Where no thread can be made for a
+/// Starts one thread for each process, and joins them in order. Allocates memory before the first begins. If no thread can be made for a
 /// process, it is marked as ended at once, so that nobody waits for it.
 pub fn work_in_threads<
     L: Opening + Send + Sync,

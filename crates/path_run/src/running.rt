@@ -52,7 +52,7 @@ fn passes_of<L: Ledger>(
     (passes, ends)
 }
 
-/// The outcome of processes that have ended, with these passes and ends. The slips have their places in the vector that is handed in.
+/// The outcome of processes that have ended, with these passes and ends. The slips go into the vector `slips`.
 fn outcome<L: Opening, S: Steps>(
     hall: Hall<L, S>,
     before: u64,
@@ -143,23 +143,22 @@ fn run_at<L: Opening + Send + Sync, S: Steps + Send, T: Turnstile, R: Threads + 
     }
 }
 
-/// Runs each process of the script in a thread of its own, over a system that they share. The number of a process is that of its
-/// worker. `use` and `leave` act on the activation that the process entered last and hasn't left.
+/// Runs each process of the script in a thread of its own, over a system that they share. The number of a process is its worker's
+/// number. `use` and `leave` act on the activation that the process entered last and hasn't left.
 ///
-/// Before each step the turnstile is asked, while nobody holds the lock. An enter that a path blocks is marked as waiting in the same
-/// hold of the lock, and is tried again only once a finish has been admitted since; each admitted finish wakes all that wait. Where
-/// each process that hasn't ended waits, all of them end as [`End::Stalled`] and finish nothing. A process that ends as
+/// Before each step the turnstile is asked, while nobody holds the lock. An enter that a path blocks is marked as waiting before the
+/// lock is let go, and is tried again only after a finish has been admitted since; each admitted finish wakes all that wait. If every
+/// process that hasn't ended waits, all of them end as [`End::Stalled`] and finish nothing. A process that ends as
 /// [`End::NoRoom`], [`End::Faulted`], [`End::Stopped`] or [`End::NoMemory`] first finishes what it had entered, the last first.
 ///
 /// The outcome has one pass and one end for each process, in order. Each line that was written is one receipt of one pass; the
 /// receipts of a pass are those of its script, up to its end; and what a process stalled at is blocked in the system that is left.
 ///
 /// `OutOfMemory`: memory ran out before any process began, and the system comes back. `Unsettled`: the journal doesn't
-/// match what the processes were answered, which no process of a run causes. It names the first place where the desk isn't settled,
-/// where the receipts of a process don't rise or are blocked again with no finish between, or where one stalled before a later
-/// finish.
+/// match the replies that the processes got; no run has shown this. It names the first place where the desk isn't settled, where the
+/// receipts of a process don't rise or are blocked again with no finish between, or where a process stalled before a later finish.
 ///
-/// It waits for all processes. Beside their steps it takes a walk through the lines for each process, and a settlement.
+/// Waits for all processes. The cost is that of their steps, of a walk through the lines for each process, and of settling.
 pub fn run<S: Steps + Send, T: Turnstile, R: Threads + Wait + Sync>(
     rt: &R,
     alloc: Global,
@@ -175,7 +174,7 @@ pub fn run<S: Steps + Send, T: Turnstile, R: Threads + Wait + Sync>(
     ensures blocked { IfOk result (λ o. EachIsBlockedNow (S.account o.system).declaration (S.account o.system).journal o.ends.items) }
     ensures honest { IfOk result (λ o. IsHonest (S.account o.system).declaration (S.account o.system).room (S.account o.system).openings
         (S.account o.system).journal) }
-    // The system that comes back is the one that was handed in, with the lines of the run behind those that it had.
+    // The system that comes back is the one that was handed in, with the lines of the run after those that it had.
     ensures later { IfOk result (λ o. IsLater (S.account system) (S.account o.system)) }
     ensures memory { IfErr result (λ e. (left : _) → e ≡ faults.OutOfMemory left → IsLater (S.account system) (S.account left)) }
     ensures left { IfErr result (λ e. (fault : Fault) (left : _) → e ≡ faults.Unsettled fault left

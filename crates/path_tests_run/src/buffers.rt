@@ -9,7 +9,7 @@ use path_shelf::{Cell, Queue};
 const BUFFER: &[u8] = b"resource buf queue 2 operation put0, put1, get0, get1
 path put0 ; put1 end path get0 ; get1 end path put0 ; get0 end path put1 ; get1 end end";
 
-/// How many lines of the worker are of uses that were answered this number.
+/// How many lines of the worker are uses that got this number.
 fn used(journal: &[Line], worker: u32, number: u64) -> usize {
     journal
         .iter()
@@ -17,7 +17,7 @@ fn used(journal: &[Line], worker: u32, number: u64) -> usize {
         .count()
 }
 
-/// Adds a process to the text that takes the steps in each of so many rounds.
+/// Adds a process to the text, which takes the steps in each of these rounds.
 fn add_process(text: &mut Vec<u8>, steps: &[u8], rounds: u32) -> Result<(), OutOfMemory> {
     text.extend_from_slice(b"process p\n")?;
     for _ in 0..rounds {

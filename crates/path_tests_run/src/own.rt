@@ -20,7 +20,7 @@ pub(crate) const SLOT: &[u8] =
 pub(crate) const BOOK: &[u8] =
     b"resource book cell operation read, write path { read } , write end end";
 
-/// As many lines as the program has room for.
+/// The room that the program has if none is given.
 pub(crate) const ROOM: u32 = 4096;
 
 /// A system of the text, which has one resource, over this device.
@@ -56,7 +56,7 @@ pub(crate) fn script_of<D: Device>(
     }
 }
 
-/// What is run: a script, over a new system of a declaration with so much room.
+/// What is run: a script, over a new system of a declaration with this room.
 #[derive(Clone, Copy)]
 pub(crate) struct Case<'a> {
     pub(crate) declaration: &'a [u8],
@@ -72,7 +72,7 @@ fn outcome_of<S: Steps>(rt: &impl Abort, answer: Result<Outcome<S>, RunFault<S>>
     }
 }
 
-/// The outcome of a run over this device, with everyone let through.
+/// The outcome of a run over this device, if the turnstile lets everyone through.
 pub(crate) fn ran<D: Device + Send, R: Threads + Wait + Abort + Sync>(
     rt: &R,
     alloc: Global,
@@ -114,7 +114,7 @@ pub(crate) fn started(journal: &[Line]) -> usize {
         .count()
 }
 
-/// Whether the ends are these.
+/// Whether these are the ends.
 pub(crate) fn end_so(ends: &[End], wanted: &[End]) -> bool {
     ends == wanted
 }

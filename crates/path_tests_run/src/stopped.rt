@@ -47,7 +47,7 @@ impl Turnstile for Stopping {
     }
 }
 
-/// The steps below this number were asked for once, and no others.
+/// Whether each step below this number was asked for once, and no other was.
 fn asked_below(counts: &[AtomicU64; 9], steps: usize) -> bool {
     for i in 0..9 {
         if counts[i].load(Ordering::SeqCst) != u64::from(i < steps) {

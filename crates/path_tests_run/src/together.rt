@@ -1,4 +1,4 @@
-//! Processes that must run at once, and two that hold what the other wants.
+//! Processes that must run at once, and two that each hold what the other needs.
 
 use crate::own::{BOOK, Case, ROOM, end_so, ran_through, started};
 use path_model::OpId;

@@ -14,8 +14,8 @@ use std::process::Abort;
 use std::sync::Wait;
 use std::sync::ledger::Blank;
 
-// An attempt that is answered so. Where memory is wanting it is no finish, the pass stays as it was, and the same attempt
-// made again is answered so.
+// Makes an attempt that gets this reply. If allocation fails, it isn't a finish, the pass stays as it was, and the same attempt gets the
+// reply when it is made again.
 fn makes<L: Opening, A: Allocator + Copy, R: Wait + Abort>(
     rt: &R,
     desk: &Desk<L, System<Cell>>,
@@ -37,7 +37,7 @@ fn makes<L: Opening, A: Allocator + Copy, R: Wait + Abort>(
     }
 }
 
-// Rounds of a deposit and its removal, so many times.
+// This many rounds of a deposit and its removal.
 fn rounds<L: Opening, A: Allocator + Copy, R: Wait + Abort>(
     rt: &R,
     desk: &Desk<L, System<Cell>>,
@@ -63,7 +63,7 @@ fn rounds<L: Opening, A: Allocator + Copy, R: Wait + Abort>(
 
 const ROUNDS: u32 = 8;
 
-// How many lines a desk is settled with whose only pass takes memory from this allocator.
+// How many lines a desk has when it is settled with its only pass, which allocates from `alloc`.
 fn lines<L: Opening, A: Allocator + Copy, R: Wait + Abort>(
     rt: &R,
     alloc: A,

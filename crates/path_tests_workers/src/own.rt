@@ -1,4 +1,4 @@
-//! Systems to share, and attempts that are answered as told.
+//! Systems to share, and attempts with the replies that they get.
 
 use path_model::{Attempt, OpId, Reply};
 use path_read::read;
@@ -16,7 +16,7 @@ pub(crate) type Row = (Attempt, Option<u64>, Reply);
 pub(crate) const SLOT: &[u8] =
     b"resource slot cell operation deposit, remove path deposit ; remove end end";
 
-/// As many lines as the program has room for.
+/// The room that the program has if none is given.
 pub(crate) const ROOM: u32 = 4096;
 
 /// The start of the first operation.
@@ -45,7 +45,7 @@ pub(crate) fn system_of<D: Device>(
     }
 }
 
-/// The attempt of the row is answered as told.
+/// Makes the attempt of the row, and checks its place and reply.
 pub(crate) fn makes<L: Opening, S: Steps, A: Allocator + Copy, R: Wait + Abort>(
     rt: &R,
     desk: &Desk<L, S>,
@@ -56,7 +56,7 @@ pub(crate) fn makes<L: Opening, S: Steps, A: Allocator + Copy, R: Wait + Abort>(
     assert!(rt; desk.attempt(rt, pass, attempt) == Ok(Answer { place, reply }));
 }
 
-/// Each of them is.
+/// Makes the attempts of all rows.
 pub(crate) fn makes_all<L: Opening, S: Steps, A: Allocator + Copy, R: Wait + Abort>(
     rt: &R,
     desk: &Desk<L, S>,

@@ -28,7 +28,7 @@ const REMOVE: &[Row] = &[
     (Attempt::Finish(ActId(1)), Some(4), Reply::Finished),
 ];
 
-/// What worker 2 holds in the end.
+/// The receipts of worker 2 in the end.
 const REMOVED: [Receipt; 2] = [
     Receipt {
         place: 3,
@@ -50,7 +50,7 @@ enum Given {
     FirstAlone,
 }
 
-/// How many lines the journal has and how many receipts the passes, in their order; or why the desk isn't settled.
+/// How many lines the journal has, and how many receipts each pass has; or why the desk isn't settled.
 type Outcome = Result<(usize, usize, usize), SettleFault>;
 
 fn chosen<L: Ledger>(
@@ -124,8 +124,7 @@ fn slot_settled<R: Wait + Abort>(
     exchanged::<Brand, R>(rt, alloc, system, Blank::new(u64::MAX), given)
 }
 
-// It also finds a desk that settles another system than it was opened with, and one that steps another attempt than it was given:
-// no clause can see these.
+// Also finds a desk that makes another attempt than the one it was given, which no clause can see.
 #[test]
 fn settle(rt: HostRuntime) {
     let outcome = slot_settled(&rt, rt.alloc(), Given::Both);
@@ -148,7 +147,7 @@ fn missing_pass(rt: HostRuntime) {
     assert!(rt; outcome == Ok(Err(fault)));
 }
 
-// What a desk over one system answers where it is settled with the pass of a desk over another.
+// How settling a desk ends with the pass of a desk over another system.
 fn crossed<L: Opening, M: Opening, R: Wait + Abort>(
     rt: &R,
     alloc: Global,
@@ -197,7 +196,7 @@ fn foreign_pass(rt: HostRuntime) {
     assert!(rt; outcome == Ok(Err(SettleFault::Mismatch { place: 0 })));
 }
 
-// A desk with one pass, whose attempts are answered as told.
+// A desk with one pass, which makes the attempts of these rows.
 fn alone<L: Opening, R: Wait + Abort>(
     rt: &R,
     alloc: Global,

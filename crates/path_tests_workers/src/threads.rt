@@ -15,10 +15,10 @@ use std::sync::ledger::Blank;
 use std::thread;
 use std::thread::Threads;
 
-/// What each worker does in a round: it starts an operation and, where that is admitted, uses it and finishes.
+/// What each worker does in a round: it starts an operation and, if that is admitted, uses it and finishes.
 type Round<'a> = &'a [(Attempt, &'a [Verb])];
 
-/// So many workers, each with so many rounds.
+/// How many workers there are, and how many rounds each makes.
 #[derive(Clone, Copy)]
 struct Plan<'a> {
     workers: u32,
@@ -88,7 +88,7 @@ fn all_work<L: Opening + Send + Sync, S: Steps + Send, R: Threads + Wait + Abort
     Ok(thread::map_vec(rt, passes, &|pass| works(rt, desk, pass, plan))?)
 }
 
-// The system that is settled once all have worked.
+// The system, settled after all have worked.
 fn settled<L: Opening + Send + Sync, S: Steps + Send, R: Threads + Wait + Abort + Sync>(
     rt: &R,
     alloc: Global,
