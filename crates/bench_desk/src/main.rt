@@ -1,41 +1,22 @@
-//! Times what threads that share a system take. Standard output says how many lines they wrote, standard error the times.
-//!
-//! `bench_desk THREADS ROUNDS`: each thread starts and finishes a read in each round at one desk; then the desk is settled.
-//! `bench_desk slot` and `bench_desk book`: a run of two processes at a slot, and of sixteen at a book.
+//! Measures a desk: `bench_desk THREADS ROUNDS`. Each thread starts and finishes a read in each round; then the desk is
+//! settled. Standard output has the number of receipts, standard error the times.
 #![tactic(auto)]
 
 mod readers;
-mod runs;
 
 use crate::readers::timed;
-use crate::runs::{BOOK, Play, SLOT, timed_run};
 use anyhow::{Context, Result};
 use std::env;
 
-const USAGE: &str = "usage: bench_desk THREADS ROUNDS, bench_desk slot or bench_desk book";
-
 fn number(words: &[String], place: usize) -> Result<u32> {
-    let word = words.get(place).context(USAGE)?;
+    let word = words
+        .get(place)
+        .context("usage: bench_desk THREADS ROUNDS")?;
     Ok(word.parse()?)
-}
-
-/// What is run, if a run is asked for.
-fn play_of(words: &[String]) -> Option<Play> {
-    match words.get(1)?.as_str() {
-        "slot" => Some(SLOT),
-        "book" => Some(BOOK),
-        _ => None,
-    }
 }
 
 fn main(rt: HostRuntime) -> Result<()> {
     let words: Vec<String> = env::args(&rt)?.collect(rt.alloc())?;
-    if let Some(play) = play_of(words.as_slice()) {
-        let times = timed_run(&rt, rt.alloc(), play)?;
-        println!(rt; "run: {} lines", times.lines)?;
-        eprintln!(rt; "{} ns a line", times.nanos / times.lines.max(1))?;
-        return Ok(());
-    }
     let threads = number(words.as_slice(), 1)?;
     let rounds = number(words.as_slice(), 2)?;
     let times = timed(&rt, rt.alloc(), threads, rounds)?;

@@ -65,8 +65,7 @@ fn all_read<L: Opening + Send + Sync, S: Steps + Send, R: Threads + Wait + Sync>
     thread::map_vec(rt, passes, &|pass| read_rounds(rt, desk, pass, rounds))
 }
 
-/// How many nanoseconds have passed.
-pub fn nanos_since(rt: &impl Clock, start: Instant) -> io::Result<u64> {
+fn nanos_since(rt: &impl Clock, start: Instant) -> io::Result<u64> {
     Ok(u64::try_from(start.elapsed(rt)?.as_nanos()).unwrap_or(u64::MAX))
 }
 
