@@ -1,0 +1,9 @@
+//! Tests of runs from bytes to bytes. The crate has no other code, so that no library is proved twice.
+#![tactic(auto)]
+
+#[cfg(test)]
+mod own;
+#[cfg(test)]
+mod refused;
+#[cfg(test)]
+mod runs;
