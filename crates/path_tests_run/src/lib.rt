@@ -4,6 +4,8 @@
 #[cfg(test)]
 mod buffers;
 #[cfg(test)]
+mod dropped;
+#[cfg(test)]
 mod ends;
 #[cfg(test)]
 mod own;
