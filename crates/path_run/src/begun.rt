@@ -10,17 +10,17 @@ use crate::turnstile::Turnstile;
 use crate::work::work;
 use path_script::{Process, Step};
 use path_workers::{Opening, Pass, Steps};
-use std::alloc::{AllocError, Global};
+use std::alloc::{AllocError, Allocator};
 use std::marker::Model;
 use std::sync::Wait;
 use std::sync::ledger::Ledger;
 use std::thread;
-use std::thread::{Promise, PromisedHandle, Threads};
+use std::thread::{Promise, PromisedHandle, Scope, Threads};
 
 /// What a process hands back.
 #[derive(Drop)]
-pub struct Worked<L: Ledger> {
-    pub pass: Pass<L>,
+pub struct Worked<L: Ledger, A: Allocator + Copy> {
+    pub pass: Pass<L, A>,
     pub end: End,
 }
 
@@ -31,7 +31,7 @@ pub struct RunOf<'a> {
     steps: &'a [Step],
 }
 
-impl<'a, L: Ledger> Promise<Worked<L>> for RunOf<'a> {
+impl<'a, L: Ledger, A: Allocator + Copy> Promise<Worked<L, A>> for RunOf<'a> {
     ghost use Rattle.std.specs.Prelude.{◌≡◌, []};
     ghost use Rattle.path_run.specs.Runs.{IsRun};
 
@@ -40,13 +40,13 @@ impl<'a, L: Ledger> Promise<Worked<L>> for RunOf<'a> {
 
 /// A process for which a thread was made, or none could be. Contracts see its number and its steps.
 #[derive(Drop)]
-struct Begun<'a, L: Ledger> {
-    child: Option<PromisedHandle<Worked<L>, RunOf<'a>>>,
+struct Begun<'a, L: Ledger, A: Allocator + Copy> {
+    child: Option<PromisedHandle<Worked<L, A>, RunOf<'a>>>,
     worker: u32,
     steps: &'a [Step],
 }
 
-impl<'a, L: Ledger> Model for Begun<'a, L> {
+impl<'a, L: Ledger, A: Allocator + Copy> Model for Begun<'a, L, A> {
     ghost use Rattle.std.specs.Prelude.{◌≡◌, ℕ, List, IfSome};
     ghost use Rattle.path_script.specs.declared.script.Step.{Step};
 
@@ -57,9 +57,9 @@ impl<'a, L: Ledger> Model for Begun<'a, L> {
     ghost invariant = { λ b. IfSome b.child (λ h. (h.promise.worker ≡ b.worker) × (h.promise.steps.now ≡ b.steps.now)) };
 }
 
-impl<'a, L: Opening> Begun<'a, L> {
+impl<'a, L: Opening, A: Allocator + Copy> Begun<'a, L, A> {
     /// What the process hands back, once its thread has ended.
-    fn join<R: Threads + Wait>(self, rt: &R, alloc: Global) -> Worked<L>
+    fn join<R: Threads + Wait>(self, rt: &R, alloc: A) -> Worked<L, A>
         ensures worker { result.pass.worker ≡ self.entry.0 }
         ensures run { IsRun self.entry.1 [] result.pass.receipts result.end }
     {
@@ -79,14 +79,14 @@ impl<'a, L: Opening> Begun<'a, L> {
 }
 
 /// What the thread of a process does: its steps, and then it is marked as ended.
-fn work_there<L: Opening, S: Steps, T: Turnstile, R: Wait>(
+fn work_there<L: Opening, S: Steps, T: Turnstile, A: Allocator + Copy, R: Wait>(
     rt: &R,
     floor: &Floor<L, S>,
     turnstile: &T,
-    alloc: Global,
+    alloc: A,
     worker: u32,
     steps: &[Step],
-) -> Worked<L>
+) -> Worked<L, A>
     requires balanced { IsBalanced steps.now }
     requires few { length steps.now ≤ 4096 }
     ensures worker { result.pass.worker ≡ worker }
@@ -98,20 +98,62 @@ fn work_there<L: Opening, S: Steps, T: Turnstile, R: Wait>(
     Worked { pass, end }
 }
 
+/// Starts the thread of a process. If none can be made, the process is marked as ended at once, so that nobody waits for it.
+fn begin<
+    's,
+    E,
+    L: Opening + Send + Sync + 's,
+    S: Steps + Send + 's,
+    T: Turnstile + 's,
+    A: Allocator + Copy + Send + Sync + 's,
+    R: Threads + Wait + Sync + 's,
+>(
+    scope: &Scope<'s, E>,
+    rt: &'s R,
+    floor: &'s Floor<L, S>,
+    turnstile: &'s T,
+    alloc: A,
+    worker: u32,
+    steps: &'s [Step],
+) -> Begun<'s, L, A>
+    requires balanced { IsBalanced steps.now }
+    requires few { length steps.now ≤ 4096 }
+    ensures { (result.0 ≡ worker) × (result.1 ≡ steps.now) }
+{
+    let promise = RunOf { worker, steps };
+    let child = scope
+        .spawn_with(
+            promise,
+            move || -> Worked<L, A>
+                requires { IsBalanced steps.now × (length steps.now ≤ 4096) }
+            { work_there(rt, floor, turnstile, alloc, worker, steps) },
+        )
+        .ok();
+    if child.is_none() {
+        floor.end_one(rt);
+    }
+    Begun {
+        child,
+        worker,
+        steps,
+    }
+}
+
 /// Starts one thread for each process, and joins them in order. Allocates memory before the first begins. If no thread can be made for a
 /// process, it is marked as ended at once, so that nobody waits for it.
 pub fn work_in_threads<
     L: Opening + Send + Sync,
     S: Steps + Send,
     T: Turnstile,
+    A: Allocator + Copy + Send + Sync,
     R: Threads + Wait + Sync,
 >(
     rt: &R,
     floor: &Floor<L, S>,
     turnstile: &T,
-    alloc: Global,
-    processes: &[Process],
-) -> Result<Vec<Worked<L>>, AllocError>
+    alloc: A,
+    processes: &[Process<A>],
+) -> Result<Vec<Worked<L, A>, A>, AllocError>
     requires lawful { LawfulScript processes.now }
     ensures len { IfOk result (λ v. vec_len v ≡ length processes.now) }
     ensures runs { IfOk result (λ v. (i : ℕ) (p : _) (w : _) → i < length processes.now
@@ -122,7 +164,7 @@ pub fn work_in_threads<
     thread::scope(
         thread::scope_env(),
         rt,
-        |scope| -> Result<Vec<Worked<L>>, AllocError>
+        move |scope| -> Result<Vec<Worked<L, A>, A>, AllocError>
             requires { LawfulScript processes.now }
             ensures { IfOk result (λ v. (vec_len v ≡ length processes.entry.now)
                 × ((i : ℕ) (p : _) (w : _) → i < length processes.entry.now
@@ -134,23 +176,17 @@ pub fn work_in_threads<
             let mut begun = Vec::with_capacity(alloc, processes.len())?;
             for process in processes {
                 let worker = begun.len() as u32;
-                let steps = process.steps();
-                let child = scope
-                    .spawn_with(
-                        RunOf { worker, steps },
-                        move || -> Worked<L>
-                            requires { IsBalanced steps.now × (length steps.now ≤ 4096) }
-                        { work_there(rt, floor, turnstile, alloc, worker, steps) },
-                    )
-                    .ok();
-                if child.is_none() {
-                    floor.end_one(rt);
-                }
-                begun.push_reserved(Begun {
-                    child,
+                // Each thread gets copies of these.
+                let (rt, floor, turnstile) = (rt, floor, turnstile);
+                begun.push_reserved(begin(
+                    scope,
+                    rt,
+                    floor,
+                    turnstile,
+                    alloc,
                     worker,
-                    steps,
-                });
+                    process.steps(),
+                ));
             }
             Ok(join_all(rt, alloc, begun, worked))
         },
@@ -158,12 +194,12 @@ pub fn work_in_threads<
 }
 
 /// What the processes hand back, in order.
-fn join_all<'a, L: Opening, R: Threads + Wait>(
+fn join_all<'a, L: Opening, A: Allocator + Copy, R: Threads + Wait>(
     rt: &R,
-    alloc: Global,
-    begun: Vec<Begun<'a, L>>,
-    mut worked: Vec<Worked<L>>,
-) -> Vec<Worked<L>>
+    alloc: A,
+    begun: Vec<Begun<'a, L, A>, A>,
+    mut worked: Vec<Worked<L, A>, A>,
+) -> Vec<Worked<L, A>, A>
     requires { (vec_len worked ≡ 0) × (vec_len begun ≤ vec_capacity worked) }
     ensures len { vec_len result ≡ vec_len begun.entry }
     ensures runs { (i : ℕ) (b : _) (w : _) → i < vec_len begun.entry

@@ -10,6 +10,7 @@ use crate::floor::{Floor, told};
 use crate::outcome::End;
 use path_model::{ActId, Attempt, OpId, Reply};
 use path_workers::{Opening, Pass, Steps};
+use std::alloc::Allocator;
 use std::sync::Wait;
 
 /// The result of one try to enter.
@@ -24,10 +25,10 @@ enum Tried {
 
 /// Tries once. If a path blocks it, marks the process as waiting before the lock is released, and then waits for a finish or for the
 /// mark that all wait.
-fn try_once<L: Opening, S: Steps, R: Wait>(
+fn try_once<L: Opening, S: Steps, A: Allocator + Copy, R: Wait>(
     rt: &R,
     floor: &Floor<L, S>,
-    pass: &mut Pass<L>,
+    pass: &mut Pass<L, A>,
     op: OpId,
 ) -> Tried
     ensures worker { pass.new.worker ≡ pass.old.worker }
@@ -59,10 +60,10 @@ fn try_once<L: Opening, S: Steps, R: Wait>(
 }
 
 /// Tries to enter until the start is admitted or the process ends. Each further try comes after an admitted finish.
-pub fn enter<L: Opening, S: Steps, R: Wait>(
+pub fn enter<L: Opening, S: Steps, A: Allocator + Copy, R: Wait>(
     rt: &R,
     floor: &Floor<L, S>,
-    pass: &mut Pass<L>,
+    pass: &mut Pass<L, A>,
     op: OpId,
 ) -> Result<ActId, End>
     ensures worker { pass.new.worker ≡ pass.old.worker }

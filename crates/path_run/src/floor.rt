@@ -8,6 +8,7 @@ ghost use Rattle.path_run.specs.Waiting.{IsMarked};
 
 use path_model::{Attempt, OutOfMemory, Reply};
 use path_workers::{Hall, Opening, Pass, Steps};
+use std::alloc::Allocator;
 use std::sync::{Condvar, Mutex, Wait};
 
 /// What is under the lock: the system, and how many processes wait.
@@ -125,8 +126,8 @@ impl<L: Opening, S: Steps> Floor<L, S> {
 
 /// Makes one attempt while the caller holds the lock. The pass gains its receipt, or none for `NoRoom`. Fails only if allocation
 /// fails.
-pub fn told<L: Opening, S: Steps>(
-    pass: &mut Pass<L>,
+pub fn told<L: Opening, S: Steps, A: Allocator + Copy>(
+    pass: &mut Pass<L, A>,
     hall: &mut Hall<L, S>,
     attempt: Attempt,
 ) -> Result<Reply, OutOfMemory>

@@ -7,6 +7,7 @@ ghost use Rattle.path_run.specs.Lines.{AreInOrder, IsOutOfOrder, IsCurrent, IsSt
 use crate::outcome::End;
 use path_model::{Line, Reply};
 use path_workers::{Receipt, Slip};
+use std::alloc::Allocator;
 
 /// Whether a line from `low` on and below `high` is that of an admitted finish.
 fn has_finish(journal: &[Line], low: u64, high: u64) -> bool
@@ -87,7 +88,11 @@ fn disorder(journal: &[Line], receipts: &[Receipt], end: End) -> Option<u64>
 }
 
 /// The first place at which the receipts don't agree with the journal, of the first process that has one.
-pub fn first_disorder(journal: &[Line], slips: &[Slip], ends: &[End]) -> Option<u64>
+pub fn first_disorder<A: Allocator + Copy>(
+    journal: &[Line],
+    slips: &[Slip<A>],
+    ends: &[End],
+) -> Option<u64>
     requires { length slips.now ≡ length ends.now }
     ensures none { IfNone result (EachIsOrderly journal.now slips.now ends.now) }
     ensures some { IfSome result (λ place. IsFirstDisorder journal.now slips.now ends.now place) }

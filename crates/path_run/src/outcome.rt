@@ -2,6 +2,7 @@
 
 use path_model::{OpId, Reply};
 use path_workers::{SettleFault, Slip, Steps};
+use std::alloc::{Allocator, Global};
 
 /// How a process ended.
 #[derive(Clone, Copy, Debug, PartialEq, Eq)]
@@ -24,13 +25,13 @@ pub enum End {
 
 /// The outcome of a run: the system, and for each process in order its receipts and how it ended.
 #[derive(Drop)]
-pub struct Outcome<S: Steps> {
+pub struct Outcome<S: Steps, A: Allocator + Copy = Global> {
     /// The system, as the processes left it.
     pub system: S,
     /// The receipts of each process.
-    pub passes: Vec<Slip>,
+    pub passes: Vec<Slip<A>, A>,
     /// How each process ended.
-    pub ends: Vec<End>,
+    pub ends: Vec<End, A>,
 }
 
 /// Why there is no outcome.

@@ -21,18 +21,18 @@ use crate::outcome::{End, Outcome, RunFault};
 use crate::turnstile::Turnstile;
 use path_script::{Process, Script};
 use path_workers::{Hall, Opening, Pass, SettleFault, Slip, Steps, settle_own};
-use std::alloc::Global;
+use std::alloc::Allocator;
 use std::marker::Brand;
 use std::sync::Wait;
 use std::sync::ledger::{Blank, Ledger};
 use std::thread::Threads;
 
 /// The passes and the ends, each in order.
-fn passes_of<L: Ledger>(
-    worked: Vec<Worked<L>>,
-    mut passes: Vec<Pass<L>>,
-    mut ends: Vec<End>,
-) -> (Vec<Pass<L>>, Vec<End>)
+fn passes_of<L: Ledger, A: Allocator + Copy>(
+    worked: Vec<Worked<L, A>, A>,
+    mut passes: Vec<Pass<L, A>, A>,
+    mut ends: Vec<End, A>,
+) -> (Vec<Pass<L, A>, A>, Vec<End, A>)
     requires empty { (vec_len passes ≡ 0) × (vec_len ends ≡ 0) }
     requires places { (vec_len worked ≤ vec_capacity passes) × (vec_len worked ≤ vec_capacity ends) }
     ensures len { (vec_len result.0 ≡ vec_len worked) × (vec_len result.1 ≡ vec_len worked) }
@@ -53,13 +53,13 @@ fn passes_of<L: Ledger>(
 }
 
 /// The outcome of processes that have ended, with these passes and ends. The slips go into the vector `slips`.
-fn outcome<L: Opening, S: Steps>(
+fn outcome<L: Opening, S: Steps, A: Allocator + Copy>(
     hall: Hall<L, S>,
     before: u64,
-    passes: Vec<Pass<L>>,
-    slips: Vec<Slip>,
-    ends: Vec<End>,
-) -> Result<Outcome<S>, RunFault<S>>
+    passes: Vec<Pass<L, A>, A>,
+    slips: Vec<Slip<A>, A>,
+    ends: Vec<End, A>,
+) -> Result<Outcome<S, A>, RunFault<S>>
     requires before { before ≡ length L.opened.journal }
     requires places { (vec_len slips ≡ 0) × (vec_len passes ≤ vec_capacity slips) }
     requires ends { vec_len ends ≡ vec_len passes }
@@ -93,14 +93,20 @@ fn outcome<L: Opening, S: Steps>(
 }
 
 /// The same over a desk that the caller names.
-fn run_at<L: Opening + Send + Sync, S: Steps + Send, T: Turnstile, R: Threads + Wait + Sync>(
+fn run_at<
+    L: Opening + Send + Sync,
+    S: Steps + Send,
+    T: Turnstile,
+    A: Allocator + Copy + Send + Sync,
+    R: Threads + Wait + Sync,
+>(
     rt: &R,
-    alloc: Global,
+    alloc: A,
     system: S,
     blank: Blank,
-    processes: &[Process],
+    processes: &[Process<A>],
     turnstile: &T,
-) -> Result<Outcome<S>, RunFault<S>>
+) -> Result<Outcome<S, A>, RunFault<S>>
     requires name { blank.name ≡ L.name }
     requires parts { (blank.parts ≡ L.parts) × (blank.parts ≡ 18446744073709551615) }
     requires opened { S.account system ≡ L.opened }
@@ -159,13 +165,18 @@ fn run_at<L: Opening + Send + Sync, S: Steps + Send, T: Turnstile, R: Threads + 
 /// receipts of a process don't rise or are blocked again with no finish between, or where a process stalled before a later finish.
 ///
 /// Waits for all processes. The cost is that of their steps, of a walk through the lines for each process, and of settling.
-pub fn run<S: Steps + Send, T: Turnstile, R: Threads + Wait + Sync>(
+pub fn run<
+    S: Steps + Send,
+    T: Turnstile,
+    A: Allocator + Copy + Send + Sync,
+    R: Threads + Wait + Sync,
+>(
     rt: &R,
-    alloc: Global,
+    alloc: A,
     system: S,
-    script: &Script,
+    script: &Script<A>,
     turnstile: &T,
-) -> Result<Outcome<S>, RunFault<S>>
+) -> Result<Outcome<S, A>, RunFault<S>>
     ensures len { IfOk result (λ o. (vec_len o.passes ≡ length script.now.processes)
         × (vec_len o.ends ≡ length script.now.processes)) }
     ensures settled { IfOk result (λ o. IsSettled (length (S.account system).journal) (S.account o.system).journal o.passes.items) }
@@ -182,7 +193,7 @@ pub fn run<S: Steps + Send, T: Turnstile, R: Threads + Wait + Sync>(
     ensures unsettled { IfErr result (λ e. (fault : Fault) (left : _) → e ≡ faults.Unsettled fault left
         → IsUnsettledRun script.now.processes (length (S.account system).journal) (S.account left).journal fault) }
 {
-    run_at::<Brand, S, T, R>(
+    run_at::<Brand, S, T, A, R>(
         rt,
         alloc,
         system,

@@ -15,13 +15,14 @@ use crate::outcome::End;
 use path_model::{ActId, Attempt, OutOfMemory, Reply, Verb};
 use path_script::Step;
 use path_workers::{Opening, Pass, Steps};
+use std::alloc::Allocator;
 use std::sync::Wait;
 
 /// Makes an attempt without waiting for a finish. If it is an admitted finish, wakes all that wait.
-pub fn attempt<L: Opening, S: Steps, R: Wait>(
+pub fn attempt<L: Opening, S: Steps, A: Allocator + Copy, R: Wait>(
     rt: &R,
     floor: &Floor<L, S>,
-    pass: &mut Pass<L>,
+    pass: &mut Pass<L, A>,
     attempt: Attempt,
 ) -> Result<Reply, OutOfMemory>
     ensures worker { pass.new.worker ≡ pass.old.worker }
@@ -39,10 +40,10 @@ pub fn attempt<L: Opening, S: Steps, R: Wait>(
 }
 
 /// Uses the device of an activation.
-fn apply<L: Opening, S: Steps, R: Wait>(
+fn apply<L: Opening, S: Steps, A: Allocator + Copy, R: Wait>(
     rt: &R,
     floor: &Floor<L, S>,
-    pass: &mut Pass<L>,
+    pass: &mut Pass<L, A>,
     act: ActId,
     verb: Verb,
 ) -> Result<(), End>
@@ -62,10 +63,10 @@ fn apply<L: Opening, S: Steps, R: Wait>(
 }
 
 /// Finishes an activation.
-fn leave<L: Opening, S: Steps, R: Wait>(
+fn leave<L: Opening, S: Steps, A: Allocator + Copy, R: Wait>(
     rt: &R,
     floor: &Floor<L, S>,
-    pass: &mut Pass<L>,
+    pass: &mut Pass<L, A>,
     act: ActId,
 ) -> Result<(), End>
     ensures worker { pass.new.worker ≡ pass.old.worker }
@@ -84,10 +85,10 @@ fn leave<L: Opening, S: Steps, R: Wait>(
 }
 
 /// Takes a step; a use or a leave is of what was entered last.
-pub fn take<L: Opening, S: Steps, R: Wait>(
+pub fn take<L: Opening, S: Steps, A: Allocator + Copy, R: Wait>(
     rt: &R,
     floor: &Floor<L, S>,
-    pass: &mut Pass<L>,
+    pass: &mut Pass<L, A>,
     entered: &mut Entered,
     step: Step,
 ) -> Result<(), End>

@@ -15,14 +15,15 @@ use crate::turnstile::Turnstile;
 use path_model::{Attempt, Reply};
 use path_script::Step;
 use path_workers::{Opening, Pass, Steps};
+use std::alloc::Allocator;
 use std::sync::Wait;
 
 /// Takes the steps in order, up to the one that ends the process.
-fn take_steps<L: Opening, S: Steps, T: Turnstile, R: Wait>(
+fn take_steps<L: Opening, S: Steps, T: Turnstile, A: Allocator + Copy, R: Wait>(
     rt: &R,
     floor: &Floor<L, S>,
     turnstile: &T,
-    pass: &mut Pass<L>,
+    pass: &mut Pass<L, A>,
     entered: &mut Entered,
     steps: &[Step],
 ) -> End
@@ -44,10 +45,10 @@ fn take_steps<L: Opening, S: Steps, T: Turnstile, R: Wait>(
 }
 
 /// Finishes what was entered and not left, the last first.
-fn finish_all<L: Opening, S: Steps, R: Wait>(
+fn finish_all<L: Opening, S: Steps, A: Allocator + Copy, R: Wait>(
     rt: &R,
     floor: &Floor<L, S>,
-    pass: &mut Pass<L>,
+    pass: &mut Pass<L, A>,
     mut entered: Entered,
 )
     ensures worker { pass.new.worker ≡ pass.old.worker }
@@ -73,11 +74,11 @@ fn gives_up(end: End) -> bool
 }
 
 /// Takes the steps, up to the one that ends the process; then, unless it stalled, finishes what it had entered and not left.
-pub fn work<L: Opening, S: Steps, T: Turnstile, R: Wait>(
+pub fn work<L: Opening, S: Steps, T: Turnstile, A: Allocator + Copy, R: Wait>(
     rt: &R,
     floor: &Floor<L, S>,
     turnstile: &T,
-    pass: &mut Pass<L>,
+    pass: &mut Pass<L, A>,
     steps: &[Step],
 ) -> End
     requires fresh { pass.old.receipts ≡ [] }

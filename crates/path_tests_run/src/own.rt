@@ -81,7 +81,7 @@ pub(crate) fn ran<D: Device + Send, R: Threads + Wait + Abort + Sync>(
 ) -> Outcome<System<D>> {
     let system = system_of(rt, alloc, case.declaration, device, case.room);
     let script = script_of(rt, alloc, &system, case.script);
-    let answer = run::<System<D>, AlwaysOpen, R>(rt, alloc, system, &script, &AlwaysOpen);
+    let answer = run::<System<D>, AlwaysOpen, Global, R>(rt, alloc, system, &script, &AlwaysOpen);
     outcome_of(rt, answer)
 }
 
@@ -94,7 +94,7 @@ pub(crate) fn ran_through<T: Turnstile, R: Threads + Wait + Abort + Sync>(
 ) -> Outcome<System<Cell>> {
     let system = system_of(rt, alloc, case.declaration, Cell::new(0), case.room);
     let script = script_of(rt, alloc, &system, case.script);
-    let answer = run::<System<Cell>, T, R>(rt, alloc, system, &script, turnstile);
+    let answer = run::<System<Cell>, T, Global, R>(rt, alloc, system, &script, turnstile);
     outcome_of(rt, answer)
 }
 

@@ -3,6 +3,7 @@ use Rattle.std.proofs.Common.{rules, arith, ◌≡◌, ℕ, List, sym, ap, ◌�
 use Rattle.path_system.specs.Accounts.{Account}
 use Rattle.path_workers.specs.Attempts.{Held}
 use Rattle.path_workers.specs.Later.{IsLater}
+use Rattle.path_workers.specs.Settled.{IsSettled}
 use Rattle.path_run.specs.declared.begun.Worked.{Worked}
 use Rattle.path_run.specs.declared.outcome.End.{End}
 use Rattle.path_run.specs.Runs.{EachRuns}
@@ -13,7 +14,7 @@ use Rattle.path_run.proofs.running.run_at.Goals as goal
 
 pub returns-in-Ok-outcome-clause-runs : goal.returns-in-Ok-outcome-clause-runs
 returns-in-Ok-outcome-clause-runs g c = λ i p h e lt.
-    let w : Worked g.row.L.Denot = record { pass = h; end = e } in
+    let w : Worked g.row.L.Denot g.row.A.Denot = record { pass = h; end = e } in
     let len = c.in-Ok-worked.ensures.len in
     let j = c.in-Ok-worked.ensures.runs i p w lt in
     let each = c.passes_of-passes.ensures.each i h e w (omega arith) in
@@ -34,7 +35,7 @@ returns-in-Err-clause-unsettled g c = λ fault left is.
     let hs : List Held = c.passes_of-passes.result.0.items in
     let es : List End = c.passes_of-passes.result.1.items in
     let runs : EachRuns c.args.processes.now hs es = λ i p h e lt.
-    (let w : Worked g.row.L.Denot = record { pass = h; end = e } in
+    (let w : Worked g.row.L.Denot g.row.A.Denot = record { pass = h; end = e } in
     let len = c.in-Ok-worked.ensures.len in
     let j = c.in-Ok-worked.ensures.runs i p w lt in
     let each = c.passes_of-passes.ensures.each i h e w (omega arith) in
@@ -44,3 +45,11 @@ returns-in-Err-clause-unsettled g c = λ fault left is.
 
 pub returns-in-Err-clause-left : goal.returns-in-Err-clause-left
 returns-in-Err-clause-left g c = λ fault left is. subst (λ (a : Account). IsLater a (g.S.Steps.account left)) (sym c.requires.opened) (c.in-Err.ensures.left fault left is)
+
+pub returns-in-Ok-outcome-clause-settled : goal.returns-in-Ok-outcome-clause-settled
+returns-in-Ok-outcome-clause-settled g c =
+    let o = c.in-Ok-outcome.outcome in
+    subst (λ (b : ℕ). IsSettled b (g.S.Steps.account o.system).journal o.passes.items) (ap length c.journal.ensures.value) c.in-Ok-outcome.ensures.settled
+
+pub returns-in-Err-clause-memory : goal.returns-in-Err-clause-memory
+returns-in-Err-clause-memory g c = λ left is. absurd (c.in-Err.ensures.memory left is)
