@@ -1,11 +1,8 @@
 -- The reply of a replay is owed by the lines before it.
-use Rattle.std.proofs.Common.{◌≡◌, ℕ, ◌+◌, ◌<◌, ◌≤◌, Bool, true, false, cond, List, [], ◌∷◌, ◌++◌, All, length, arith, refl, ap, sym, subst, ◌∙◌, Option, Some, None, inl, inr}
-use Rattle.std.specs.Prelude.{◌==◌}
+use Rattle.std.proofs.Common.{◌≡◌, ℕ, ◌+◌, ◌<◌, ◌≤◌, Bool, true, false, List, [], ◌∷◌, ◌++◌, length, arith, refl, ap, sym, subst, ◌∙◌, Option, Some, None, inl, inr}
 use Rattle.std.proofs.lemmas.Bool.{cases_eq}
-use Rattle.std.proofs.lemmas.List.Elements.{All-tail}
 use Rattle.path_model.specs.declared.ids.OpId.{OpId}
 use Rattle.path_model.specs.declared.ids.ActId.{ActId}
-use Rattle.path_model.specs.declared.history.Event.{Event}
 use Rattle.path_model.specs.declared.history.Event.TheVariants.{Began}
 use Rattle.path_model.specs.declared.journal.Verb.{Verb}
 use Rattle.path_model.specs.declared.journal.Attempt.{Attempt}
@@ -14,7 +11,6 @@ use Rattle.path_model.specs.declared.journal.Reply.{Reply}
 use Rattle.path_model.specs.declared.journal.Reply.TheVariants.{Started, Blocked, UnknownOperation, NoRoom}
 use Rattle.path_model.specs.declared.journal.Line.{Line}
 use Rattle.path_model.specs.declared.journal.Activation.{Activation}
-use Rattle.path_model.specs.Trees.{Tree}
 use Rattle.path_model.specs.Legal as legal
 use Rattle.path_model.specs.Declarations.{Declaration, paths_of, resource_of, law_of}
 use Rattle.path_model.specs.Devices.{Outcome, serves, refuses, outcome_of}
@@ -22,25 +18,10 @@ use Rattle.path_model.specs.Journals.{live, activation_of, admitted_history}
 use Rattle.path_model.specs.Owed.{by_words, taken, IsOwn, OwedToStart, OwedToUse, OwedToFinish, Owed, outcome_for}
 use Rattle.path_model.proofs.CallerLemmas.{each_honest_journal_is_legal, live_in_progress}
 use Rattle.path_decl.specs.Lawful.{Lawful}
-use Rattle.path_audit.specs.Outcomes.{Acts}
-use Rattle.path_audit.specs.Replays.{ReplayValue, held_at, MovesStart, MovesUse, MovesFinish, Moves, has_room, is_own_of, Answers, AreReady, IsReplayOf}
-use Rattle.path_audit.proofs.Tested.{roomy, not_roomy, roomy_or, not_roomy_or, not_own, own_or_other}
-
--- where a start keeps a history legal, no path forbids it
-none_forbids : (xs : List (ℕ × Tree)) (h : List Event) (a : OpId) → legal.Legal xs (h ++ Began a ∷ []) → legal.NoneOf (legal.Forbids h a) xs
-none_forbids [] h a l = tt
-none_forbids (x ∷ xs) h a l = (λ f. f.1 l.0, none_forbids xs h a l.1)
-
--- what holds of all that are live holds of one that is found
-declared_front : (m : ℕ) (n : ActId) (x : Activation) (xs : List Activation) (a : Activation) (t : Bool) → x.op.0 < m → (activation_of n xs ≡ Some a → a.op.0 < m)
-    → cond t (Some x) (activation_of n xs) ≡ Some a → a.op.0 < m
-declared_front m n x xs a true h rest is = let same : x ≡ a = cc in rw (← same) h
-declared_front m n x xs a false h rest is = rest is
-
-pub found_declared : (m : ℕ) (n : ActId) (xs : List Activation) (a : Activation) → All (λ a. a.op.0 < m) xs → activation_of n xs ≡ Some a → a.op.0 < m
-found_declared m n [] a all is = absurd (cc)
-found_declared m n (x ∷ xs) a all is =
-    declared_front m n x xs a (x.act.0 == n.0) (all 0 x (omega arith)) (found_declared m n xs a (All-tail (λ (a : Activation). a.op.0 < m) x xs all)) is
+use Rattle.path_gate.specs.Places.{has_room, is_own_of}
+use Rattle.path_gate.proofs.CallerLemmas.{roomy, not_roomy, roomy_or, not_roomy_or, not_own, own_or_other, none_forbids, found_declared}
+use Rattle.path_audit.specs.Inner.Outcomes.{Acts}
+use Rattle.path_audit.specs.Inner.Replays.{ReplayValue, held_at, MovesStart, MovesUse, MovesFinish, Moves, Answers, AreReady, IsReplayOf}
 
 module _ (d : Declaration) (lawful : Lawful d) (old : ReplayValue) (room : ℕ) (openings : List (List ℕ)) (journal : List Line) (s : IsReplayOf old d room openings journal) where
   -- the history is legal so far

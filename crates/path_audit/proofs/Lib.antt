@@ -1,6 +1,6 @@
 pub mod Places
 pub mod Lists
-pub mod Tested
+pub mod Resources
 pub mod Answered
 pub mod Written
 pub mod Replayed

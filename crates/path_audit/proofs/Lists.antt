@@ -8,8 +8,8 @@ use Rattle.path_model.specs.declared.journal.Reply.{Reply}
 use Rattle.path_model.specs.declared.journal.Activation.{Activation}
 use Rattle.path_model.specs.Declarations.{Declaration, resource_of, law_of}
 use Rattle.path_model.specs.Devices.{outcome_of}
-use Rattle.path_audit.specs.Outcomes.{Acts}
-use Rattle.path_audit.specs.Replays.{ReplayValue, held_at, MovesUse}
+use Rattle.path_audit.specs.Inner.Outcomes.{Acts}
+use Rattle.path_audit.specs.Inner.Replays.{ReplayValue, held_at, MovesUse}
 
 -- one more is copied
 pub copied : {X Y : Type 0} (f : X → List ℕ) (g : Y → List ℕ) (xs : List X) (ys : List Y) (i : ℕ) (x : X) (y : Y) → map f xs ≡ take i (map g ys) → i < length ys

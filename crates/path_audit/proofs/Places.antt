@@ -7,7 +7,7 @@ use Rattle.path_model.specs.declared.ids.ActId.{ActId}
 use Rattle.path_model.specs.declared.journal.Activation.{Activation}
 use Rattle.path_model.specs.Journals.{activation_of, without}
 use Rattle.path_audit.specs.declared.activations.Owner.{Owner}
-use Rattle.path_audit.specs.Owners.{owned, live_from}
+use Rattle.path_audit.specs.Inner.Owners.{owned, live_from}
 
 -- the activation of an owner
 abbrev pub activation : ℕ → Owner → Activation

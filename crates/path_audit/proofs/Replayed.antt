@@ -19,8 +19,8 @@ use Rattle.path_audit.specs.declared.auditor.AuditFault.{AuditFault}
 use Rattle.path_audit.specs.declared.auditor.AuditFault.TheVariants.{OutOfMemory}
 use Rattle.path_audit.specs.declared.auditor.Verdict.{Verdict}
 use Rattle.path_audit.specs.declared.auditor.Verdict.TheVariants.{Sound, WrongLine}
-use Rattle.path_audit.specs.Registers.{Register}
-use Rattle.path_audit.specs.Replays.{ReplayValue, Answers, IsReplayOf, IsOpened, says_failed}
+use Rattle.path_audit.specs.Inner.Registers.{Register}
+use Rattle.path_audit.specs.Inner.Replays.{ReplayValue, Answers, IsReplayOf, IsOpened, says_failed}
 use Rattle.path_audit.specs.Verdicts.{IsFirstWrong, IsVerdict, FitsAt}
 use Rattle.path_audit.proofs.Answered.{owed_is, taken_is}
 use Rattle.path_audit.proofs.Written.{with_the_line, like_line, IsLike}

@@ -25,9 +25,10 @@ use Rattle.path_model.specs.Honest.{IsHonest}
 use Rattle.path_model.proofs.CallerLemmas.{begun_more, begun_quiet, live_quiet, history_quiet, contents_more, quiet_use, quiet_reply, line_of, honest_more, live_started, live_finished, live_found, history_started, history_finished}
 use Rattle.path_decl.specs.Lawful.{Lawful}
 use Rattle.path_gate.specs.Standings.{IsAt}
-use Rattle.path_audit.specs.Registers.{Register}
-use Rattle.path_audit.specs.Outcomes.{Acts}
-use Rattle.path_audit.specs.Replays.{ReplayValue, held_at, IsStarted, IsOver, MovesStart, MovesUse, MovesFinish, Moves, has_room, Answers, IsReplayOf}
+use Rattle.path_gate.specs.Places.{has_room}
+use Rattle.path_audit.specs.Inner.Registers.{Register}
+use Rattle.path_audit.specs.Inner.Outcomes.{Acts}
+use Rattle.path_audit.specs.Inner.Replays.{ReplayValue, held_at, IsStarted, IsOver, MovesStart, MovesUse, MovesFinish, Moves, Answers, IsReplayOf}
 use Rattle.path_audit.proofs.Answered.{owed_is, found_live, resource_in}
 
 -- a refusal is none of the replies to what is served

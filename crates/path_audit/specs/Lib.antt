@@ -1,5 +1,2 @@
-pub mod Owners
-pub mod Registers
-pub mod Outcomes
-pub mod Replays
 pub mod Verdicts
+pub mod Inner

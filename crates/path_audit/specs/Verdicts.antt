@@ -1,9 +1,10 @@
 -- What an audit finds.
-use Rattle.std.specs.Prelude.{◌≡◌, ◌≢◌, ◌⊎◌, ◌+◌, ◌<◌, ◌≤◌, ℕ, List, [], length, take, slice_index_or}
+use Rattle.std.specs.Prelude.{◌≡◌, ◌≢◌, ◌+◌, ◌<◌, ℕ, List, [], length, take, slice_index_or}
 use Rattle.path_model.specs.declared.journal.Line.{Line}
 use Rattle.path_model.specs.Declarations.{Declaration, law_of}
 use Rattle.path_model.specs.Devices.{Fits}
 use Rattle.path_model.specs.Honest.{IsHonest}
+use Rattle.path_model.specs.Rooms.{IsRoom, IsBadRoom}
 use Rattle.path_audit.specs.declared.auditor.Verdict.{Verdict}
 use Rattle.path_audit.specs.declared.auditor.Verdict.TheVariants.{Sound, WrongLine}
 use Rattle.path_audit.specs.declared.auditor.AuditFault.{AuditFault}
@@ -19,10 +20,6 @@ pub record IsFirstWrong (d : Declaration) (room : ℕ) (openings : List (List �
 abbrev pub IsVerdict : Declaration → ℕ → List (List ℕ) → List Line → Verdict → Type 0
 IsVerdict d room openings lines Sound = IsHonest d room openings lines
 IsVerdict d room openings lines (WrongLine n) = IsFirstWrong d room openings lines n
-
--- a journal may have this room
-abbrev pub IsRoom : ℕ → Type 0
-IsRoom room = (1 ≤ room) × (room ≤ 1048576)
 
 -- the list for resource r fits its law
 abbrev pub FitsAt : Declaration → List (List ℕ) → ℕ → Type 0
@@ -47,7 +44,7 @@ pub record IsAuditable (d : Declaration) (room : ℕ) (openings : List (List ℕ
 -- the first that applies: the room is out of range; the number of openings is wrong; an opening doesn't fit. OutOfMemory comes only
 -- if none of these does
 abbrev pub IsAuditFault : Declaration → ℕ → List (List ℕ) → AuditFault → Type 0
-IsAuditFault d room openings BadRoom = (room ≡ 0) ⊎ (1048576 < room)
+IsAuditFault d room openings BadRoom = IsBadRoom room
 IsAuditFault d room openings WrongCount = IsRoom room × (length openings ≢ length d.resources)
 IsAuditFault d room openings (BadOpening r) = IsRoom room × (length openings ≡ length d.resources) × IsFirstMisfit d openings r.0
 IsAuditFault d room openings OutOfMemory = IsAuditable d room openings

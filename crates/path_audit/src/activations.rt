@@ -2,7 +2,7 @@
 
 ghost use Rattle.std.specs.Prelude.{◌≡◌, ◌+◌, ◌++◌, ◌∷◌, [], length, IfOk};
 ghost use Rattle.path_model.specs.Journals.{activation_of, without};
-ghost use Rattle.path_audit.specs.Registers.{registered};
+ghost use Rattle.path_audit.specs.Inner.Registers.{registered};
 
 use path_model::{ActId, Activation, OpId, OutOfMemory};
 use std::alloc::{Allocator, Global};
@@ -26,8 +26,8 @@ pub struct Activations<A: Allocator + Copy = Global> {
 
 impl<A: Allocator + Copy> Model for Activations<A> {
     ghost use Rattle.std.specs.Prelude.{◌≡◌, length};
-    ghost use Rattle.path_audit.specs.Registers.{Register};
-    ghost use Rattle.path_audit.specs.Owners.{live_from};
+    ghost use Rattle.path_audit.specs.Inner.Registers.{Register};
+    ghost use Rattle.path_audit.specs.Inner.Owners.{live_from};
 
     ghost Value = { Register };
 

@@ -1,16 +1,17 @@
 //! Whether a journal is honest.
 
-ghost use Rattle.std.specs.Prelude.{◌≡◌, ◌≢◌, ◌↔◌, ◌<◌, ◌≤◌, ℕ, IsTrue, IfOk, IfErr, OnOk, MatchOption, length, map};
+ghost use Rattle.std.specs.Prelude.{◌≡◌, ◌≢◌, ◌↔◌, ◌<◌, ℕ, IsTrue, IfOk, IfErr, OnOk, MatchOption, length, map};
 ghost use Rattle.path_model.specs.declared.journal.Reply.TheVariants as replies;
 ghost use Rattle.path_model.specs.Devices.{Fits};
 ghost use Rattle.path_model.specs.Honest.{IsHonest};
+ghost use Rattle.path_model.specs.Rooms.{IsRoom};
 ghost use Rattle.path_audit.specs.declared.auditor.AuditFault.TheVariants as faults;
 ghost use Rattle.path_audit.specs.declared.auditor.Verdict.TheVariants as verdicts;
 ghost use Rattle.path_audit.specs.Verdicts.{AllFit, IsAuditable, IsAuditFault, IsFirstMisfit, IsFirstWrong, IsVerdict};
 
 use crate::replay::{Replay, law_at};
 use path_decl::{Decl, counts};
-use path_model::{Law, Line, MOST_LINES, OutOfMemory, Reply, ResId};
+use path_model::{Law, Line, OutOfMemory, Reply, ResId, is_room};
 use std::alloc::Allocator;
 use thiserror::Error;
 
@@ -88,7 +89,7 @@ fn replayed<A: Allocator + Copy>(
     openings: &[Vec<u64, A>],
     lines: &[Line],
 ) -> Result<Verdict, OutOfMemory>
-    requires few { room ≤ MOST_LINES }
+    requires few { IsRoom room }
     requires counted { length openings.now ≡ length decl.now.declaration.resources }
     ensures { IfOk result (IsVerdict decl.now.declaration room (map (λ opening. opening.items) openings.now) lines.now) }
 {
@@ -102,8 +103,8 @@ fn replayed<A: Allocator + Copy>(
     Ok(Verdict::Sound)
 }
 
-/// Whether these lines are an honest journal of a system with this room, 1 to [`MOST_LINES`], whose resources opened with these
-/// contents, one list for each resource. `Sound` if and only if each reply was owed by the lines before it and none is `NoRoom`;
+/// Whether these lines are an honest journal of a system with this room, 1 to [`MOST_LINES`](path_model::MOST_LINES), whose resources
+/// opened with these contents, a list for each. `Sound` if and only if each reply was owed by the lines before it and none is `NoRoom`;
 /// `WrongLine(n)` if and only if line n, counted from 0, is the first with which they aren't honest. `DeviceFailed` is right in a line
 /// wherever the device's law would have served, and then nothing was served.
 ///
@@ -127,7 +128,7 @@ pub fn audit<A: Allocator + Copy>(
     ensures auditable { OnOk result (IsAuditable decl.now.declaration room (map (λ opening. opening.items) openings.now)) }
     ensures fault { IfErr result (IsAuditFault decl.now.declaration room (map (λ opening. opening.items) openings.now)) }
 {
-    if room == 0 || room > MOST_LINES {
+    if !is_room(room) {
         return Err(AuditFault::BadRoom);
     }
     if openings.len() != counts(decl).resources as usize {

@@ -3,7 +3,7 @@
 ghost use Rattle.std.specs.Prelude.{◌≡◌, [], ◌∷◌, IfOk, OnOk, slice_index};
 ghost use Rattle.path_model.specs.declared.resource.Law.TheVariants as laws;
 ghost use Rattle.path_model.specs.Devices.{outcome_of, contents_left};
-ghost use Rattle.path_audit.specs.Outcomes.{IsAnswer, Acts};
+ghost use Rattle.path_audit.specs.Inner.Outcomes.{IsAnswer, Acts};
 
 use path_model::{Law, OutOfMemory, Reply, Verb};
 use std::alloc::Allocator;

@@ -3,15 +3,13 @@
 ghost use Rattle.std.specs.Prelude.{◌≡◌, ◌+◌, ◌<◌, ◌≤◌, length, IfOk, map};
 ghost use Rattle.path_model.specs.Declarations as declarations;
 ghost use Rattle.path_model.specs.Journals.{activation_of};
-ghost use Rattle.path_audit.specs.Replays.{AreReady, IsOpened, Answers, MovesFinish, MovesStart, MovesUse, says_failed};
+ghost use Rattle.path_audit.specs.Inner.Replays.{AreReady, IsOpened, Answers, MovesFinish, MovesStart, MovesUse, says_failed};
 
 use crate::activations::Activations;
 use crate::contents::{Contents, act_on};
-use path_code::translate;
 use path_decl::{Decl, counts, law_of, resource_of};
-use path_gate::Gate;
+use path_gate::{Gate, compile};
 use path_model::{ActId, Attempt, Law, Line, OpId, OutOfMemory, Reply, ResId, Verb};
-use path_trim::{Lean, trim};
 use std::alloc::{Allocator, Global};
 use std::collections::VecDeque;
 use std::marker::Model;
@@ -28,24 +26,13 @@ impl<A: Allocator + Copy> Model for Replay<A> {
     ghost use Rattle.std.specs.Prelude.{map};
     ghost use Rattle.std.specs.Coded.{codes};
     ghost use Rattle.path_gate.specs.Standings.{standing_code};
-    ghost use Rattle.path_audit.specs.Replays.{ReplayValue};
+    ghost use Rattle.path_audit.specs.Inner.Replays.{ReplayValue};
 
     ghost Value = { ReplayValue };
 
     ghost coded = { Prim.hlevel (codes, standing_code) };
 
     ghost view = { λ r. record { standing = r.gate; register = r.activations; contents = map (λ held. held.items) r.contents.items } };
-}
-
-/// The semaphores of a declaration, without the useless ones. Fails only if allocation fails.
-fn trimmed<A: Allocator + Copy>(alloc: A, decl: &Decl<A>) -> Result<Lean<A>, OutOfMemory>
-    ensures { IfOk result (λ lean. lean.trees ≡ declarations.trees decl.now.declaration) }
-{
-    let code = translate(alloc, decl)?;
-    match trim(alloc, code) {
-        Ok(lean) => Ok(lean),
-        Err((_, error)) => Err(error),
-    }
 }
 
 /// A copy of the contents that each opening lists. Fails only if allocation fails.
@@ -60,14 +47,6 @@ fn opened<A: Allocator + Copy>(
         contents.push(VecDeque::from_vec(opening.clone()?))?;
     }
     Ok(contents)
-}
-
-/// The resource of a declared operation.
-fn resource_at<A: Allocator + Copy>(decl: &Decl<A>, op: OpId) -> ResId
-    requires { op.0 < length decl.now.declaration.operations }
-    ensures { result.0 ≡ declarations.resource_of decl.now.declaration op.0 }
-{
-    resource_of(decl, op).unwrap()
 }
 
 /// The law of a declared resource.
@@ -87,7 +66,7 @@ impl<A: Allocator + Copy> Replay<A> {
     ) -> Result<Replay<A>, OutOfMemory>
         ensures { IfOk result (λ replay. IsOpened replay decl.now.declaration (map (λ opening. opening.items) openings.now)) }
     {
-        let gate = Gate::open(alloc, trimmed(alloc, decl)?)?;
+        let gate = compile(alloc, decl)?;
         let contents = opened(alloc, openings)?;
         Ok(Replay {
             gate,
@@ -129,7 +108,7 @@ impl<A: Allocator + Copy> Replay<A> {
                 if activation.worker != worker {
                     return Ok(Reply::NotYours);
                 }
-                let resource = resource_at(decl, activation.op);
+                let resource = resource_of(decl, activation.op).unwrap();
                 let law = law_at(decl, resource);
                 let held = &mut self.contents[resource.0 as usize];
                 let reply = act_on(law, verb, fails, held)?;

@@ -21,7 +21,7 @@ use Rattle.path_code.specs.Names.{names_in}
 use Rattle.path_code.specs.Terms.{prologue_at, epilogue_at}
 use Rattle.path_code.specs.PathCodes.{bounds_in, numbered_values, semaphores_of, op_of_path, ops_of}
 use Rattle.path_code.proofs.NumberLists.{numbered_append, first_values}
-use Rattle.path_code.specs.Walks.{IsFlat, unnamed, start_within, end_within, starts_in, bounds_from, ended}
+use Rattle.path_code.specs.Inner.Walks.{IsFlat, unnamed, start_within, end_within, starts_in, bounds_from, ended}
 
 pub no_braces : (s : Tree) → NoBraces s → braces s ≡ 0
 no_braces (op a) n = refl

@@ -3,9 +3,8 @@ use Rattle.std.specs.Prelude.{refl, List}
 use Rattle.std.specs.Coded.{Coded, code_by, coded_list}
 use base.Stored.{coded_sub}
 use Rattle.path_model.specs.Declarations.{Path}
-use Rattle.path_decl.specs.Stored as stored
-pub use Rattle.path_code.specs.LawfulPaths.{LawfulPaths}
-pub use Rattle.path_code.specs.KnownOnce.{LawfulPaths-prop}
+use Rattle.path_decl.specs.Inner.Stored as stored
+pub use Rattle.path_code.specs.LawfulPaths.{LawfulPaths, LawfulPaths-prop}
 
 -- the paths, and what always holds of them
 pub record KnownCode : Type 0 where

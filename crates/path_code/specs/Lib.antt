@@ -2,8 +2,6 @@ pub mod Names
 pub mod Terms
 pub mod PathCodes
 pub mod LawfulPaths
-pub mod Walks
-pub mod KnownOnce
 pub mod Known
-pub mod Kept
 pub mod Listing
+pub mod Inner

@@ -7,6 +7,8 @@ use Rattle.path_code.specs.declared.terms.Prologue.TheVariants.{P, PP, PPN}
 use Rattle.path_code.specs.declared.terms.Epilogue.{Epilogue}
 use Rattle.path_code.specs.declared.terms.Epilogue.TheVariants.{V, VV, VVN}
 use Rattle.path_code.specs.declared.terms.OpCode.{OpCode}
+use Rattle.path_code.specs.declared.lister.Mutexes.{Mutexes}
+use Rattle.path_code.specs.declared.lister.Mutexes.TheVariants.{Listed, Trimmed}
 use Rattle.path_code.specs.PathCodes.{semaphores_of, braces_of, ops_of, sites}
 
 -- a name, or `#` and a number if there is none
@@ -28,20 +30,27 @@ wait_text q = codes "P(s" ++ (decimal q ++ codes ")")
 abbrev pub signal_text : ℕ → List ℕ
 signal_text q = codes "V(s" ++ (decimal q ++ codes ")")
 
--- `c0,m0,`: the counter and the mutex of a pair of braces
-abbrev pub pair_text : ℕ → List ℕ
-pair_text c = codes "c" ++ (decimal c ++ (codes ",m" ++ (decimal c ++ codes ",")))
+-- a pair of braces: `c0,m0,`, its counter and its mutex; or `c0,` once mutexes are removed
+abbrev pub pair_text : Mutexes → ℕ → List ℕ
+pair_text Listed c = codes "c" ++ (decimal c ++ (codes ",m" ++ (decimal c ++ codes ",")))
+pair_text Trimmed c = codes "c" ++ (decimal c ++ codes ",")
 
--- the prologue and the epilogue of an operation
-abbrev pub prologue_text : Prologue → List ℕ
-prologue_text (P q) = wait_text q
-prologue_text (PP c q) = codes "PP(" ++ (pair_text c ++ (wait_text q ++ codes ")"))
-prologue_text (PPN c q u) = wait_text u ++ (codes "; PP(" ++ (pair_text c ++ (wait_text q ++ codes ")")))
+-- a prologue and an epilogue, or `-` for none
+abbrev pub prologue_text : Mutexes → Option Prologue → List ℕ
+prologue_text ms None = codes "-"
+prologue_text ms (Some (P q)) = wait_text q
+prologue_text ms (Some (PP c q)) = codes "PP(" ++ (pair_text ms c ++ (wait_text q ++ codes ")"))
+prologue_text ms (Some (PPN c q u)) = wait_text u ++ (codes "; PP(" ++ (pair_text ms c ++ (wait_text q ++ codes ")")))
 
-abbrev pub epilogue_text : Epilogue → List ℕ
-epilogue_text (V q) = signal_text q
-epilogue_text (VV c q) = codes "VV(" ++ (pair_text c ++ (signal_text q ++ codes ")"))
-epilogue_text (VVN c q u) = codes "VV(" ++ (pair_text c ++ (signal_text q ++ (codes "); " ++ signal_text u)))
+abbrev pub epilogue_text : Mutexes → Option Epilogue → List ℕ
+epilogue_text ms None = codes "-"
+epilogue_text ms (Some (V q)) = signal_text q
+epilogue_text ms (Some (VV c q)) = codes "VV(" ++ (pair_text ms c ++ (signal_text q ++ codes ")"))
+epilogue_text ms (Some (VVN c q u)) = codes "VV(" ++ (pair_text ms c ++ (signal_text q ++ (codes "); " ++ signal_text u)))
+
+-- `: P(s0) | V(s0)`, what follows the name of an operation
+abbrev pub terms_text : Mutexes → Option Prologue → Option Epilogue → List ℕ
+terms_text ms p e = codes ": " ++ (prologue_text ms p ++ (codes " | " ++ epilogue_text ms e))
 
 -- the lines of a path: its number and resource, the opening values of semaphores, counters and mutexes, and the operations
 abbrev pub header_line : Declaration → ℕ → ℕ → List ℕ
@@ -57,7 +66,7 @@ abbrev pub mutex_line : ℕ → List ℕ
 mutex_line m = codes "m" ++ (decimal m ++ codes " = 1")
 
 abbrev pub op_line : Declaration → OpCode → List ℕ
-op_line d o = operation_text d o.op.0 ++ (codes ": " ++ (prologue_text o.prologue ++ (codes " | " ++ epilogue_text o.epilogue)))
+op_line d o = operation_text d o.op.0 ++ terms_text Listed (Some o.prologue) (Some o.epilogue)
 
 -- lines, each ended by a line feed
 abbrev pub lines_text : List (List ℕ) → List ℕ

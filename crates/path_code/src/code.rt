@@ -41,7 +41,7 @@ impl<'d, A: Allocator + Copy> Model for Code<'d, A> {
 
     ghost coded = { known_code };
 
-    ghost use Rattle.path_code.specs.Kept.{shown, IsTranslated};
+    ghost use Rattle.path_code.specs.Inner.Kept.{shown, IsTranslated};
 
     ghost view = { shown };
 

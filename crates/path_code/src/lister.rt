@@ -2,14 +2,24 @@
 
 ghost use Rattle.std.specs.Prelude.{◌≡◌, ◌++◌, ◌∷◌, [], map, option_map, codes, IfOk, OnOk};
 ghost use Rattle.std.specs.String.{string_bytes};
-ghost use Rattle.path_code.specs.Listing.{name_or_number, operation_text, resource_text, prologue_text, epilogue_text, header_line};
-ghost use Rattle.path_code.specs.Listing.{semaphore_line, counter_line, mutex_line, op_line, lines_text, parts_text, listing_text};
+ghost use Rattle.path_code.specs.Listing.{name_or_number, operation_text, resource_text, pair_text, prologue_text};
+ghost use Rattle.path_code.specs.Listing.{epilogue_text, terms_text, header_line, semaphore_line, counter_line, mutex_line, op_line};
+ghost use Rattle.path_code.specs.Listing.{lines_text, parts_text, listing_text};
 
 use crate::code::{Code, PathCode};
 use crate::terms::{Epilogue, OpCode, Prologue};
 use path_decl::{Decl, op_name, resource_name};
 use path_model::{OpId, OutOfMemory, ResId};
 use std::alloc::{AllocError, Allocator};
+
+/// How a listing writes a pair of braces.
+#[derive(Clone, Copy, Debug, PartialEq, Eq)]
+pub enum Mutexes {
+    /// By its counter and its mutex, as `c0,m0`.
+    Listed,
+    /// By its counter, as `c0`: mutexes are removed.
+    Trimmed,
+}
 
 /// Appends the name, or `#` and the number if there is none.
 fn push_name<B: Allocator + Copy>(
@@ -49,36 +59,96 @@ fn push_resource<A: Allocator + Copy, B: Allocator + Copy>(
     push_name(out, resource_name(decl, resource), resource.0)
 }
 
-/// Appends the prologue of an operation, between `: ` and ` | `.
+/// Appends a pair of braces, and a comma.
+fn push_pair<B: Allocator + Copy>(
+    out: &mut String<B>,
+    mutexes: Mutexes,
+    pair: u16,
+) -> Result<(), AllocError>
+    ensures { OnOk result (string_bytes out.new ≡ string_bytes out.old ++ pair_text mutexes pair) }
+{
+    match mutexes {
+        Mutexes::Listed => write!(out, "c{pair},m{pair},"),
+        Mutexes::Trimmed => write!(out, "c{pair},"),
+    }
+}
+
+/// Appends a prologue, or `-` if there is none.
 fn push_prologue<B: Allocator + Copy>(
     out: &mut String<B>,
-    prologue: Prologue,
+    mutexes: Mutexes,
+    prologue: Option<Prologue>,
 ) -> Result<(), AllocError>
-    ensures { OnOk result (string_bytes out.new ≡ string_bytes out.old ++ (codes ": " ++ (prologue_text prologue ++ codes " | "))) }
+    ensures { OnOk result (string_bytes out.new ≡ string_bytes out.old ++ prologue_text mutexes prologue) }
 {
     match prologue {
-        Prologue::P(own) => write!(out, ": P(s{own}) | "),
-        Prologue::PP(pair, own) => write!(out, ": PP(c{pair},m{pair},P(s{own})) | "),
-        Prologue::PPN(pair, own, bound) => {
-            write!(out, ": P(s{bound}); PP(c{pair},m{pair},P(s{own})) | ")
+        None => out.push_str("-"),
+        Some(Prologue::P(semaphore)) => write!(out, "P(s{semaphore})"),
+        Some(Prologue::PP { pair, semaphore }) => {
+            out.push_str("PP(")?;
+            push_pair(out, mutexes, pair)?;
+            write!(out, "P(s{semaphore}))")
+        }
+        Some(
+            Prologue::PPN {
+                pair,
+                semaphore,
+                bound,
+            },
+        ) => {
+            write!(out, "P(s{bound}); PP(")?;
+            push_pair(out, mutexes, pair)?;
+            write!(out, "P(s{semaphore}))")
         }
     }
 }
 
-/// Appends the epilogue of an operation, and ends the line.
+/// Appends an epilogue, or `-` if there is none.
 fn push_epilogue<B: Allocator + Copy>(
     out: &mut String<B>,
-    epilogue: Epilogue,
+    mutexes: Mutexes,
+    epilogue: Option<Epilogue>,
 ) -> Result<(), AllocError>
-    ensures { OnOk result (string_bytes out.new ≡ string_bytes out.old ++ (epilogue_text epilogue ++ 10 ∷ [])) }
+    ensures { OnOk result (string_bytes out.new ≡ string_bytes out.old ++ epilogue_text mutexes epilogue) }
 {
     match epilogue {
-        Epilogue::V(own) => writeln!(out, "V(s{own})"),
-        Epilogue::VV(pair, own) => writeln!(out, "VV(c{pair},m{pair},V(s{own}))"),
-        Epilogue::VVN(pair, own, bound) => {
-            writeln!(out, "VV(c{pair},m{pair},V(s{own})); V(s{bound})")
+        None => out.push_str("-"),
+        Some(Epilogue::V(semaphore)) => write!(out, "V(s{semaphore})"),
+        Some(Epilogue::VV { pair, semaphore }) => {
+            out.push_str("VV(")?;
+            push_pair(out, mutexes, pair)?;
+            write!(out, "V(s{semaphore}))")
+        }
+        Some(
+            Epilogue::VVN {
+                pair,
+                semaphore,
+                bound,
+            },
+        ) => {
+            out.push_str("VV(")?;
+            push_pair(out, mutexes, pair)?;
+            write!(out, "V(s{semaphore})); V(s{bound})")
         }
     }
+}
+
+/// Appends `: PROLOGUE | EPILOGUE`, with `-` for none, and ends the line. Fails only if allocation fails; what the text contains then
+/// isn't specified.
+pub fn push_terms<B: Allocator + Copy>(
+    out: &mut String<B>,
+    mutexes: Mutexes,
+    prologue: Option<Prologue>,
+    epilogue: Option<Epilogue>,
+) -> Result<(), OutOfMemory>
+    ensures { OnOk result (string_bytes out.new ≡ string_bytes out.old ++ (terms_text mutexes prologue epilogue ++ 10 ∷ [])) }
+{
+    out.push_str(": ")?;
+    push_prologue(out, mutexes, prologue)?;
+    out.push_str(" | ")?;
+    push_epilogue(out, mutexes, epilogue)?;
+    out.push_str("\n")?;
+    Ok(())
 }
 
 /// Appends `path N of RESOURCE` without a line feed, with `#` and the number for a resource that the declaration doesn't have.
@@ -144,9 +214,7 @@ fn push_op<A: Allocator + Copy, B: Allocator + Copy>(
         string_bytes out.old ++ lines_text (op_line decl.now.declaration op.now ∷ [])) }
 {
     push_operation(out, decl, op.op)?;
-    push_prologue(out, op.prologue)?;
-    push_epilogue(out, op.epilogue)?;
-    Ok(())
+    push_terms(out, Mutexes::Listed, Some(op.prologue), Some(op.epilogue))
 }
 
 /// Appends a line for each operation.

@@ -3,7 +3,7 @@
 
 ghost use Rattle.std.specs.Prelude.{◌≡◌, ◌≤◌, ◌++◌, length, OnOk};
 ghost use Rattle.path_model.specs.Trees.{shape, FewAtOnce};
-ghost use Rattle.path_code.specs.Walks.{FitsFrom, NumbersAfter, FitsBelow, IsFlat, start_within, end_within, starts_in, bounds_from, ended};
+ghost use Rattle.path_code.specs.Inner.Walks.{FitsFrom, NumbersAfter, FitsBelow, IsFlat, start_within, end_within, starts_in, bounds_from, ended};
 
 use crate::terms::{Epilogue, OpCode, Prologue};
 use path_model::{Expr, OutOfMemory};
@@ -51,23 +51,31 @@ pub(crate) fn count_parts<A: Allocator + Copy>(tree: &Expr<A>, count: &mut Numbe
 }
 
 /// The prologue of the names inside a pair of braces, if this one is before the braces.
-fn starting_within(prologue: Prologue, brace: u16, bound: Option<u16>) -> Prologue
-    ensures { result ≡ start_within brace bound prologue }
+fn starting_within(prologue: Prologue, pair: u16, bound: Option<u16>) -> Prologue
+    ensures { result ≡ start_within pair bound prologue }
 {
     match (prologue, bound) {
-        (Prologue::P(semaphore), None) => Prologue::PP(brace, semaphore),
-        (Prologue::P(semaphore), Some(bound)) => Prologue::PPN(brace, semaphore, bound),
+        (Prologue::P(semaphore), None) => Prologue::PP { pair, semaphore },
+        (Prologue::P(semaphore), Some(bound)) => Prologue::PPN {
+            pair,
+            semaphore,
+            bound,
+        },
         (nested, _) => nested,
     }
 }
 
 /// The epilogue of the names inside a pair of braces, if this one is after the braces.
-fn ending_within(epilogue: Epilogue, brace: u16, bound: Option<u16>) -> Epilogue
-    ensures { result ≡ end_within brace bound epilogue }
+fn ending_within(epilogue: Epilogue, pair: u16, bound: Option<u16>) -> Epilogue
+    ensures { result ≡ end_within pair bound epilogue }
 {
     match (epilogue, bound) {
-        (Epilogue::V(semaphore), None) => Epilogue::VV(brace, semaphore),
-        (Epilogue::V(semaphore), Some(bound)) => Epilogue::VVN(brace, semaphore, bound),
+        (Epilogue::V(semaphore), None) => Epilogue::VV { pair, semaphore },
+        (Epilogue::V(semaphore), Some(bound)) => Epilogue::VVN {
+            pair,
+            semaphore,
+            bound,
+        },
         (nested, _) => nested,
     }
 }

@@ -8,11 +8,22 @@ use path_model::OpId;
 pub enum Prologue {
     /// `P(s)`: waits until the semaphore is above 0, and takes 1 from it.
     P(u16),
-    /// `PP(c,m,P(s))`, of a pair of braces and a semaphore: counts one more execution; the first one does `P(s)`.
-    PP(u16, u16),
-    /// `P(u); PP(c,m,P(s))`, of a pair of braces, a semaphore, and the semaphore of the bound: also keeps the number of executions
-    /// within the bound.
-    PPN(u16, u16, u16),
+    /// `PP(c,m,P(s))`: counts one more execution; the first one does `P(s)`.
+    PP {
+        /// The pair of braces.
+        pair: u16,
+        /// The semaphore.
+        semaphore: u16,
+    },
+    /// `P(u); PP(c,m,P(s))`: also keeps the number of executions within the bound.
+    PPN {
+        /// The pair of braces.
+        pair: u16,
+        /// The semaphore.
+        semaphore: u16,
+        /// The semaphore of the bound.
+        bound: u16,
+    },
 }
 
 /// What the finish of an operation does in one path; the numbers are as in [`Prologue`].
@@ -20,10 +31,22 @@ pub enum Prologue {
 pub enum Epilogue {
     /// `V(s)`: gives 1 to the semaphore.
     V(u16),
-    /// `VV(c,m,V(s))`, of a pair of braces and a semaphore: counts one execution less; the last one does `V(s)`.
-    VV(u16, u16),
-    /// `VV(c,m,V(s)); V(u)`, of a pair of braces, a semaphore, and the semaphore of the bound.
-    VVN(u16, u16, u16),
+    /// `VV(c,m,V(s))`: counts one execution less; the last one does `V(s)`.
+    VV {
+        /// The pair of braces.
+        pair: u16,
+        /// The semaphore.
+        semaphore: u16,
+    },
+    /// `VV(c,m,V(s)); V(u)`: also gives 1 to the semaphore of the bound.
+    VVN {
+        /// The pair of braces.
+        pair: u16,
+        /// The semaphore.
+        semaphore: u16,
+        /// The semaphore of the bound.
+        bound: u16,
+    },
 }
 
 /// The code of one operation of a path.

@@ -5,7 +5,7 @@ ghost use Rattle.path_model.specs.Trees.{shape, FewAtOnce, WellFormed};
 ghost use Rattle.path_model.specs.Machine.{semicolons, braces};
 ghost use Rattle.path_model.specs.Flat.{semaphores_in};
 ghost use Rattle.path_code.specs.PathCodes.{IsPathCode, numbered_values, numbers_from};
-ghost use Rattle.path_code.specs.Walks.{parts};
+ghost use Rattle.path_code.specs.Inner.Walks.{parts};
 
 use crate::code::{Code, PathCode};
 use crate::substitution::{Numbers, add_starts, count_parts, set_ends};

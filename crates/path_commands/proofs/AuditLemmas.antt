@@ -11,7 +11,7 @@ use Rattle.path_model.specs.Devices.{Fits}
 use Rattle.path_decl.specs.Text.{IsDeclarationText}
 use Rattle.path_journal.specs.JournalTexts.{IsJournalText}
 use Rattle.path_shelf.specs.Openings.{opening_numbers}
-use Rattle.path_system.specs.Faults.{IsBadRoom}
+use Rattle.path_model.specs.Rooms.{IsBadRoom}
 use Rattle.path_audit.specs.declared.auditor.AuditFault.{AuditFault}
 use Rattle.path_audit.specs.declared.auditor.AuditFault.TheVariants as audits
 use Rattle.path_audit.specs.declared.auditor.Verdict.{Verdict}

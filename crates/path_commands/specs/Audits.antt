@@ -3,13 +3,13 @@ use Rattle.std.specs.Prelude.{◌≡◌, ◌<◌, ◌⊎◌, ℕ, List, ◌∷�
 use Rattle.std.specs.Option.{unwrap_or}
 use Rattle.path_model.specs.declared.journal.Line.{Line}
 use Rattle.path_model.specs.Declarations.{Declaration}
+use Rattle.path_model.specs.Rooms.{IsRoom, IsBadRoom}
 use Rattle.path_decl.specs.Text.{IsDeclarationText}
 use Rattle.path_journal.specs.JournalTexts.{IsJournalText, IsNoJournalText}
 use Rattle.path_shelf.specs.Openings.{opening_numbers}
-use Rattle.path_system.specs.Faults.{IsBadRoom}
 use Rattle.path_audit.specs.declared.auditor.Verdict.{Verdict}
 use Rattle.path_audit.specs.declared.auditor.Verdict.TheVariants.{Sound, WrongLine}
-use Rattle.path_audit.specs.Verdicts.{IsRoom, IsVerdict}
+use Rattle.path_audit.specs.Verdicts.{IsVerdict}
 use Rattle.path_streams.specs.declared.status.Status.{Status}
 use Rattle.path_streams.specs.declared.status.Status.TheVariants as statuses
 

@@ -1,3 +1,4 @@
 pub mod Prints
 pub mod Compiles
+pub mod Outputs
 pub mod Audits

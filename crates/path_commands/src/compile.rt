@@ -1,49 +1,15 @@
 //! From a declaration to its semaphores.
 
-ghost use Rattle.std.specs.Prelude.{◌≡◌, ◌≢◌, IfOk, IfErr};
-ghost use Rattle.std.specs.String.{string_bytes};
+ghost use Rattle.std.specs.Prelude.{◌≡◌, ◌≢◌};
 ghost use Rattle.std.specs.Io.KnownBytes.{Keeps};
-ghost use Rattle.path_streams.specs.Statuses.{status_of};
 ghost use Rattle.path_streams.specs.Writes.{AppendsSome, IsFrontOf};
-ghost use Rattle.path_streams.specs.Refusals.{IsNoDeclaration, IsUndeclared};
-ghost use Rattle.path_commands.specs.Compiles.{compiled_text, IsCompiledOf};
+ghost use Rattle.path_streams.specs.Refusals.{IsNoDeclaration};
+ghost use Rattle.path_commands.specs.Compiles.{IsCompiledOf};
 
-use path_code::{listing, translate};
-use path_decl::Decl;
-use path_model::OutOfMemory;
-use path_read::read;
-use path_streams::{Fault, Status, put_text, tell};
-use path_trim::{lean_listing, trim};
+use crate::output::{Output, put_output};
+use path_streams::Status;
 use std::alloc::Allocator;
 use std::io::Write;
-
-/// The listing of a declaration, the line `trimmed`, and the listing of what trimming leaves. Fails only if allocation fails.
-fn listings<A: Allocator + Copy>(alloc: A, decl: &Decl<A>) -> Result<String<A>, OutOfMemory>
-    ensures { IfOk result (λ text. string_bytes text ≡ compiled_text decl.now.declaration) }
-{
-    let code = translate(alloc, decl)?;
-    let mut text = listing(alloc, decl, &code)?;
-    match trim(alloc, code) {
-        Ok(lean) => {
-            let left = lean_listing(alloc, decl, &lean)?;
-            text.push_str("trimmed\n")?;
-            text.push_str(&left)?;
-            Ok(text)
-        }
-        Err((_, error)) => Err(error),
-    }
-}
-
-/// Compiles the declaration in `text`.
-fn compiled<A: Allocator + Copy>(alloc: A, text: &[u8]) -> Result<String<A>, Fault<'static>>
-    ensures ok { IfOk result (λ listings. IsCompiledOf text.now (string_bytes listings)) }
-    ensures err { IfErr result (λ fault. IsUndeclared text.now (status_of fault)) }
-{
-    match read(alloc, text) {
-        Ok(decl) => Ok(listings(alloc, &decl)?),
-        Err(fault) => Err(Fault::Declaration(fault)),
-    }
-}
 
 /// Reads a declaration and writes what it is compiled to (Campbell and Habermann, 1974): its semaphores, prologues and
 /// epilogues, the line `trimmed`, and what trimming leaves of them. The cost is that of the texts, and of comparing each path
@@ -65,8 +31,5 @@ pub fn compile_to<A: Allocator + Copy, O: Write, E: Write>(
     ensures memory { result ≡ Status.NoMemory → AppendsSome (O.contents out.old) (O.contents out.new) (IsFrontOf (IsCompiledOf text.now)) }
     ensures statuses { (result ≢ Status.CommandRefused) × (result ≢ Status.TextRefused) × (result ≢ Status.Unsound) }
 {
-    match compiled(alloc, text) {
-        Ok(listings) => put_text(out, err, listings.as_bytes()),
-        Err(fault) => tell(err, fault),
-    }
+    put_output(alloc, text, Output::Listings, out, err)
 }

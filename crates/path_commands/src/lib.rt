@@ -4,7 +4,9 @@
 mod audit;
 mod check;
 mod compile;
+mod listings;
 mod openings;
+mod output;
 
 pub use audit::{audit_bytes, audit_to};
 pub use check::check_to;

@@ -1,21 +1,12 @@
 //! What the program's own devices contain at first.
 
-ghost use Rattle.std.specs.Prelude.{◌≡◌, ◌<◌, length, map, IfOk};
-ghost use Rattle.path_model.specs.Declarations as declarations;
+ghost use Rattle.std.specs.Prelude.{◌≡◌, map, IfOk};
 ghost use Rattle.path_shelf.specs.Openings.{opening_numbers};
 ghost use Rattle.path_commands.specs.Audits.{own_openings};
 
 use path_decl::{Decl, counts, law_of};
 use path_model::{Law, OutOfMemory, ResId};
 use std::alloc::Allocator;
-
-/// The law of a declared resource.
-fn law_at<A: Allocator + Copy>(decl: &Decl<A>, resource: ResId) -> Law
-    requires { resource.0 < length decl.now.declaration.resources }
-    ensures { result ≡ declarations.law_of decl.now.declaration resource.0 }
-{
-    law_of(decl, resource).unwrap()
-}
 
 /// What a new device of this law contains. Fails only if allocation fails.
 fn opening<A: Allocator + Copy>(alloc: A, law: Law) -> Result<Vec<u64, A>, OutOfMemory>
@@ -40,7 +31,8 @@ pub fn own_openings<A: Allocator + Copy>(
     let resources = counts(decl).resources;
     let mut openings = Vec::with_capacity(alloc, resources as usize)?;
     for number in 0..resources {
-        openings.push(opening(alloc, law_at(decl, ResId(number)))?)?;
+        let law = law_of(decl, ResId(number)).unwrap();
+        openings.push(opening(alloc, law)?)?;
     }
     Ok(openings)
 }

@@ -4,6 +4,7 @@ use Rattle.path_model.specs.Trees.{Tree, op, seq, alt, burst}
 use Rattle.path_model.specs.Machine.{semicolons}
 use Rattle.path_model.specs.Declarations.{Declaration}
 use Rattle.path_decl.specs.Lawful.{names_count, Lawful}
+pub use Rattle.path_decl.proofs.Threads.{decl_send}
 pub use Rattle.path_decl.proofs.TableLemmas.{is_named, has_name, lacks_name, later, is_place, names_of_operations, names_of_resources}
 
 -- semicolons stand between names

@@ -1,4 +1,5 @@
 pub mod TableLemmas
+pub mod Threads
 pub mod CallerLemmas
 pub mod Noted
 pub mod Shown

@@ -4,8 +4,6 @@ pub mod Grammar
 pub mod Declares
 pub mod Lawful
 pub mod Text
-pub mod Stored
-pub mod LawfulOnce
 pub mod Known
 pub mod Table
-pub mod Kept
+pub mod Inner

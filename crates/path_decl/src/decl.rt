@@ -46,7 +46,7 @@ impl<A: Allocator + Copy> Model for Decl<A> {
 
     ghost coded = { known_code };
 
-    ghost use Rattle.path_decl.specs.Kept.{shown, IsKept};
+    ghost use Rattle.path_decl.specs.Inner.Kept.{shown, IsKept};
 
     ghost view = { shown };
 

@@ -1,4 +1,5 @@
 pub mod OnePath
+pub mod Places
 pub mod Passes
 pub mod KeptPaths
 pub mod Counts
@@ -9,3 +10,6 @@ pub mod OpeningValues
 pub mod Opened
 pub mod Adding
 pub mod Appended
+pub mod Placed
+pub mod Threads
+pub mod CallerLemmas

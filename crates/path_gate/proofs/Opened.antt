@@ -15,11 +15,12 @@ use Rattle.path_trim.specs.Compared.{first_with, compared_after, site_left, site
 use Rattle.path_trim.specs.LawfulTrees.{LawfulTrees}
 use Rattle.path_trim.specs.LeanTable.{LeanRow, op_left, lean_row, lean_table}
 use Rattle.path_gate.specs.declared.gate.Term.{Term}
-use Rattle.path_gate.specs.Sites.{unlike, kept_paths}
+use Rattle.path_gate.specs.Levels.{levels}
+use Rattle.path_gate.specs.Inner.Sites.{unlike, kept_paths}
 use Rattle.path_gate.specs.Standings.{Standing, IsAt}
-use Rattle.path_gate.specs.Terms.{term_at, terms_at}
-use Rattle.path_gate.specs.Soundness.{IsSound}
-use Rattle.path_gate.specs.Opening.{ops_terms, rows_terms, semaphores_put, counters_put, IsBelow}
+use Rattle.path_gate.specs.Inner.Terms.{term_at, terms_at}
+use Rattle.path_gate.specs.Inner.Soundness.{IsSound}
+use Rattle.path_gate.specs.Inner.Opening.{ops_terms, rows_terms, semaphores_put, counters_put, IsBelow}
 use Rattle.path_gate.proofs.KeptPaths.{rising_kept, every_kept}
 use Rattle.path_gate.proofs.OpeningValues.{zeros, SemaphoresOpen, CountersOpen, semaphores_opened, counters_opened, shows_opened, places_opened}
 
@@ -175,8 +176,7 @@ module _ (ss : List Tree) (L : LawfulTrees ss) where
   opened =
       record {
         paths = paths;
-        semaphores = semaphores_put (lean_table ss) [];
-        counters = counters_put (lean_table ss) [];
+        levels = levels (semaphores_put (lean_table ss) []) (counters_put (lean_table ss) []);
         in_progress = replicate 256 0;
         admitted = 0;
       }

@@ -9,8 +9,8 @@ use Rattle.path_model.specs.declared.ids.OpId.{OpId}
 use Rattle.path_model.specs.declared.ids.PathId.{PathId}
 use Rattle.path_trim.specs.declared.table.LeanOp.{LeanOp}
 use Rattle.path_gate.specs.declared.gate.Term.{Term}
-use Rattle.path_gate.specs.Soundness.{IsLaidOut, runs_of}
-use Rattle.path_gate.specs.Opening.{ops_terms}
+use Rattle.path_gate.specs.Inner.Soundness.{IsLaidOut, runs_of}
+use Rattle.path_gate.specs.Inner.Opening.{ops_terms}
 
 -- one list among several with one term more
 pub pushed : {V : Type 0} (f : V → List Term) (xs : List V) (i : ℕ) (old new : V) (t : Term) (a : OpId) → i < length xs → old ≡ get_or xs i old → f new ≡ f old ++ t ∷ []
@@ -51,30 +51,30 @@ last_run terms run s e f g =
     ∙ ap (λ n. take n run) (let z = length-append terms run in let k : e - s ≡ length run = omega (arith, f, g, z) in k)
     ∙ take-length run
 
-pub runs_more : (terms run : List Term) (bounds : List (ℕ × ℕ)) (s e : ℕ) → IsLaidOut terms bounds → s ≡ length terms → e ≡ length (terms ++ run)
-    → runs_of (terms ++ run) (bounds ++ (s, e) ∷ []) ≡ runs_of terms bounds ++ run ∷ []
+pub runs_more : (terms run : List Term) (ranges : List (ℕ × ℕ)) (s e : ℕ) → IsLaidOut terms ranges → s ≡ length terms → e ≡ length (terms ++ run)
+    → runs_of (terms ++ run) (ranges ++ (s, e) ∷ []) ≡ runs_of terms ranges ++ run ∷ []
 runs_more terms run [] s e k f g = ap (λ r. r ∷ []) (last_run terms run s e f g)
-runs_more terms run (b ∷ bounds) s e k f g =
-    let h = All-head (λ (b : ℕ × ℕ). (b.0 ≤ b.1) × (b.1 ≤ length terms)) b bounds k in
-    ap (λ r. r ∷ runs_of (terms ++ run) (bounds ++ (s, e) ∷ [])) (front_run terms run b.0 b.1 h.0 h.1)
-    ∙ ap (λ rs. take (b.1 - b.0) (drop b.0 terms) ∷ rs) (runs_more terms run bounds s e (All-tail (λ (b : ℕ × ℕ). (b.0 ≤ b.1) × (b.1 ≤ length terms)) b bounds k) f g)
+runs_more terms run (b ∷ ranges) s e k f g =
+    let h = All-head (λ (b : ℕ × ℕ). (b.0 ≤ b.1) × (b.1 ≤ length terms)) b ranges k in
+    ap (λ r. r ∷ runs_of (terms ++ run) (ranges ++ (s, e) ∷ [])) (front_run terms run b.0 b.1 h.0 h.1)
+    ∙ ap (λ rs. take (b.1 - b.0) (drop b.0 terms) ∷ rs) (runs_more terms run ranges s e (All-tail (λ (b : ℕ × ℕ). (b.0 ≤ b.1) × (b.1 ≤ length terms)) b ranges k) f g)
 
-wider : (terms run : List Term) (bounds : List (ℕ × ℕ)) → IsLaidOut terms bounds → IsLaidOut (terms ++ run) bounds
-wider terms run bounds k i d l = let h = k i d l in let z = length-append terms run in let h1 = h.1 in (h.0, omega (arith, h1, z))
+wider : (terms run : List Term) (ranges : List (ℕ × ℕ)) → IsLaidOut terms ranges → IsLaidOut (terms ++ run) ranges
+wider terms run ranges k i d l = let h = k i d l in let z = length-append terms run in let h1 = h.1 in (h.0, omega (arith, h1, z))
 
-pub laid_out_more : (terms run : List Term) (bounds : List (ℕ × ℕ)) (s e : ℕ) → IsLaidOut terms bounds → s ≡ length terms → e ≡ length (terms ++ run) → IsLaidOut (terms ++ run) (bounds ++ (s, e) ∷ [])
-laid_out_more terms run bounds s e k f g =
-    All-append (λ (b : ℕ × ℕ). (b.0 ≤ b.1) × (b.1 ≤ length (terms ++ run))) bounds ((s, e) ∷ []) (wider terms run bounds k)
+pub laid_out_more : (terms run : List Term) (ranges : List (ℕ × ℕ)) (s e : ℕ) → IsLaidOut terms ranges → s ≡ length terms → e ≡ length (terms ++ run) → IsLaidOut (terms ++ run) (ranges ++ (s, e) ∷ [])
+laid_out_more terms run ranges s e k f g =
+    All-append (λ (b : ℕ × ℕ). (b.0 ≤ b.1) × (b.1 ≤ length (terms ++ run))) ranges ((s, e) ∷ []) (wider terms run ranges k)
     (All-cons (λ (b : ℕ × ℕ). (b.0 ≤ b.1) × (b.1 ≤ length (terms ++ run))) (s, e) [] ((let z = length-append terms run in omega (arith, f, g, z)), omega (arith, g)) (All-nil (λ (b : ℕ × ℕ). (b.0 ≤ b.1) × (b.1 ≤ length (terms ++ run)))))
 
-pub run_joined : (terms run after : List Term) (bounds after_bounds : List (ℕ × ℕ)) (s e : ℕ) (rows : List (List Term)) (i : ℕ) → i < length rows → get_or rows i [] ≡ run
-    → after ≡ terms ++ run → after_bounds ≡ bounds ++ (s, e) ∷ [] → s ≡ length terms → e ≡ length after → IsLaidOut terms bounds → runs_of terms bounds ≡ take i rows
-    → (runs_of after after_bounds ≡ take (i + 1) rows) × IsLaidOut after after_bounds
-run_joined terms run after bounds after_bounds s e rows i l at is is_bounds f g k so_far =
+pub run_joined : (terms run after : List Term) (ranges after_ranges : List (ℕ × ℕ)) (s e : ℕ) (rows : List (List Term)) (i : ℕ) → i < length rows → get_or rows i [] ≡ run
+    → after ≡ terms ++ run → after_ranges ≡ ranges ++ (s, e) ∷ [] → s ≡ length terms → e ≡ length after → IsLaidOut terms ranges → runs_of terms ranges ≡ take i rows
+    → (runs_of after after_ranges ≡ take (i + 1) rows) × IsLaidOut after after_ranges
+run_joined terms run after ranges after_ranges s e rows i l at is is_ranges f g k so_far =
     let g' : e ≡ length (terms ++ run) = g ∙ ap length is in (
-      ap (λ ts. runs_of ts after_bounds) is ∙ ap (runs_of (terms ++ run)) is_bounds ∙ runs_more terms run bounds s e k f g' ∙ ap (λ rs. rs ++ run ∷ []) so_far
+      ap (λ ts. runs_of ts after_ranges) is ∙ ap (runs_of (terms ++ run)) is_ranges ∙ runs_more terms run ranges s e k f g' ∙ ap (λ rs. rs ++ run ∷ []) so_far
           ∙ ap (λ r. take i rows ++ r ∷ []) (sym at) ∙ sym (take_more rows i [] l),
-      subst (λ ts. IsLaidOut ts after_bounds) (sym is) (subst (IsLaidOut (terms ++ run)) (sym is_bounds) (laid_out_more terms run bounds s e k f g')),
+      subst (λ ts. IsLaidOut ts after_ranges) (sym is) (subst (IsLaidOut (terms ++ run)) (sym is_ranges) (laid_out_more terms run ranges s e k f g')),
     )
 
 -- what is left of a list begins with the next

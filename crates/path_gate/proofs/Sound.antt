@@ -18,11 +18,11 @@ use Rattle.path_model.specs.Trimmed.{kept, lean_prologue, lean_epilogue, LeanPas
 use Rattle.path_model.proofs.CallerLemmas.{has_names, all_paths_judge, each_block_stays, every_map, every_both, every_from, first_from, on_tree, lean_now, lean_after_placed, trimmed_admits_the_words, trimmed_terms_touch_the_kept}
 use Rattle.path_trim.specs.LeanTable.{prologue_left}
 use Rattle.path_gate.specs.declared.gate.Term.{Term}
-use Rattle.path_gate.specs.Levels.{Levels, levels, can_pass}
-use Rattle.path_gate.specs.Sites.{kept_paths, Shows}
+use Rattle.path_gate.specs.Levels.{Levels, can_pass}
+use Rattle.path_gate.specs.Inner.Sites.{kept_paths, Shows}
 use Rattle.path_gate.specs.Standings.{Standing, IsNamed, IsAt, Judges, Admitted, BlocksStay, Released}
-use Rattle.path_gate.specs.Terms.{term_at, terms_at, blocking, all_started, all_finished, CanStartAll, CanFinishAll, IsWithin, one_more, one_less}
-use Rattle.path_gate.specs.Soundness.{HasPlaces, IsSound}
+use Rattle.path_gate.specs.Inner.Terms.{term_at, terms_at, blocking, all_started, all_finished, CanStartAll, CanFinishAll, IsWithin, one_more, one_less}
+use Rattle.path_gate.specs.Inner.Soundness.{HasPlaces, IsSound}
 use Rattle.path_gate.proofs.OnePath.{StartFits, FinishFits, passes_to}
 use Rattle.path_gate.proofs.Passes.{next, Low, Moved, StartReady, started_moves, started_can, finished_moves, finished_can, IsFirst, blocking_first, all_within}
 use Rattle.path_gate.proofs.KeptPaths.{rising_kept, every_kept, trees_kept, terms_none, none_terms}
@@ -36,8 +36,7 @@ true_false z = cc
 abbrev pub begun_from : Standing → List Term → ℕ → Standing
 begun_from g terms op =
     record g {
-      semaphores = (all_started terms (levels g.semaphores g.counters)).semaphores;
-      counters = (all_started terms (levels g.semaphores g.counters)).counters;
+      levels = all_started terms g.levels;
       in_progress = one_more terms op g.in_progress;
       admitted = g.admitted + 1;
     }
@@ -46,8 +45,7 @@ begun_from g terms op =
 abbrev pub ended_from : Standing → List Term → ℕ → Standing
 ended_from g terms op =
     record g {
-      semaphores = (all_finished terms (levels g.semaphores g.counters)).semaphores;
-      counters = (all_finished terms (levels g.semaphores g.counters)).counters;
+      levels = all_finished terms g.levels;
       in_progress = one_less terms op g.in_progress;
     }
 
@@ -143,8 +141,8 @@ module _ (g : Standing) (by_op : List (List Term)) (S : IsSound g by_op) (a : Op
   formed : legal.Every (λ x. WellFormed x.tree) (kept_paths g.paths)
   formed = every_kept WellFormed g.paths S.well_formed
 
-  pub within : All (IsWithin (length g.semaphores) (length g.counters)) terms
-  within = subst (All (IsWithin (length g.semaphores) (length g.counters))) (sym is) (all_within (length g.semaphores) (length g.counters) a (kept_paths g.paths) formed S.places)
+  pub within : All (IsWithin (length g.levels.semaphores) (length g.levels.counters)) terms
+  within = subst (All (IsWithin (length g.levels.semaphores) (length g.levels.counters))) (sym is) (all_within (length g.levels.semaphores) (length g.levels.counters) a (kept_paths g.paths) formed S.places)
 
   -- an operation that has terms is counted
   pub counted : terms ≢ [] → a.0 < length g.in_progress
@@ -162,14 +160,14 @@ module _ (g : Standing) (by_op : List (List Term)) (S : IsSound g by_op) (a : Op
   pub unmoved : legal.NoneOf (λ s. Names s a) g.paths → ended_from g terms a.0 ≡ g
   unmoved none = subst (λ ts. ended_from g ts a.0 ≡ g) (sym (unnamed none)) refl
 
-  judged : (h : List Event) → legal.Legal g.paths h → IsAt g h → IsJudged g.paths h a (blocking terms (levels g.semaphores g.counters))
+  judged : (h : List Event) → legal.Legal g.paths h → IsAt g h → IsJudged g.paths h a (blocking terms g.levels)
   judged h l at =
-      subst (λ ts. IsJudged g.paths h a (blocking ts (levels g.semaphores g.counters))) (sym is)
+      subst (λ ts. IsJudged g.paths h a (blocking ts g.levels)) (sym is)
       (first_judges g.paths S.well_formed h l a _
-      (subst (λ ys. IsFirst (λ s. LeanBlocks a (on_tree (lean_now h) s)) ys (blocking (terms_at (kept_paths g.paths) a) (levels g.semaphores g.counters))) (trees_kept g.paths)
-      (blocking_first a (lean_now h) (kept_paths g.paths) formed (levels g.semaphores g.counters) at.values S.places)))
+      (subst (λ ys. IsFirst (λ s. LeanBlocks a (on_tree (lean_now h) s)) ys (blocking (terms_at (kept_paths g.paths) a) g.levels)) (trees_kept g.paths)
+      (blocking_first a (lean_now h) (kept_paths g.paths) formed g.levels at.values S.places)))
 
-  pub judges : (result : Result (Unit {0}) PathId) → MatchResult result (λ _. blocking terms (levels g.semaphores g.counters) ≡ None) (λ path. blocking terms (levels g.semaphores g.counters) ≡ Some path) → Judges g a result
+  pub judges : (result : Result (Unit {0}) PathId) → MatchResult result (λ _. blocking terms g.levels ≡ None) (λ path. blocking terms g.levels ≡ Some path) → Judges g a result
   judges (Ok u) e h l at = subst (IsJudged g.paths h a) e (judged h l at)
   judges (Err p) e h l at = subst (IsJudged g.paths h a) e (judged h l at)
 
@@ -185,17 +183,17 @@ module _ (g : Standing) (by_op : List (List Term)) (S : IsSound g by_op) (a : Op
       every_three WellFormed FewAtOnce (λ s. LegalOn s S.history.0) (λ s. Names s a → StartFits (lean_prologue s a) (lean_now S.history.0 s))
       (λ s w f l n. start_fits s w f S.history.0 l (few_starts small) (lean_prologue s a) (trimmed_terms_touch_the_kept s w a n).0) g.paths S.well_formed S.few_at_once S.history.1
 
-  pub starts : g.admitted < 2 ^ 32 → blocking terms (levels g.semaphores g.counters) ≡ None → CanStartAll terms (levels g.semaphores g.counters)
+  pub starts : g.admitted < 2 ^ 32 → blocking terms g.levels ≡ None → CanStartAll terms g.levels
   starts small free =
-      subst (λ ts. CanStartAll ts (levels g.semaphores g.counters)) (sym is)
-      (started_can a (lean_now S.history.0) (kept_paths g.paths) 0 0 (rising_kept g.paths) formed (levels g.semaphores g.counters) S.history.2.values S.places ready)
+      subst (λ ts. CanStartAll ts g.levels) (sym is)
+      (started_can a (lean_now S.history.0) (kept_paths g.paths) 0 0 (rising_kept g.paths) formed g.levels S.history.2.values S.places ready)
     where
-      free' : blocking (terms_at (kept_paths g.paths) a) (levels g.semaphores g.counters) ≡ None
-      free' = subst (λ ts. blocking ts (levels g.semaphores g.counters) ≡ None) is free
+      free' : blocking (terms_at (kept_paths g.paths) a) g.levels ≡ None
+      free' = subst (λ ts. blocking ts g.levels ≡ None) is free
 
       ready : StartReady a (lean_now S.history.0) (kept_paths g.paths)
       ready = every_both (λ x p f n. (p n, f n)) (kept_paths g.paths)
-          (free_passes a (lean_now S.history.0) (kept_paths g.paths) formed (levels g.semaphores g.counters) S.history.2.values S.places free')
+          (free_passes a (lean_now S.history.0) (kept_paths g.paths) formed g.levels S.history.2.values S.places free')
           (every_kept (λ s. Names s a → StartFits (lean_prologue s a) (lean_now S.history.0 s)) g.paths (start_all_fits small))
 
   -- a start counts up to the number of starts at most
@@ -206,32 +204,32 @@ module _ (g : Standing) (by_op : List (List Term)) (S : IsSound g by_op) (a : Op
       let e = S.history.3 in
       omega arith
 
-  begun_moved : (h : List Event) → IsAt g h → Moved a (lean_now h) (Began a) (kept_paths g.paths) 0 0 (all_started terms (levels g.semaphores g.counters)) (levels g.semaphores g.counters)
+  begun_moved : (h : List Event) → IsAt g h → Moved a (lean_now h) (Began a) (kept_paths g.paths) 0 0 (all_started terms g.levels) g.levels
   begun_moved h at =
-      subst (λ ts. Moved a (lean_now h) (Began a) (kept_paths g.paths) 0 0 (all_started ts (levels g.semaphores g.counters)) (levels g.semaphores g.counters)) (sym is)
-      (started_moves a (lean_now h) (kept_paths g.paths) 0 0 (rising_kept g.paths) formed (levels g.semaphores g.counters) at.values S.places)
+      subst (λ ts. Moved a (lean_now h) (Began a) (kept_paths g.paths) 0 0 (all_started ts g.levels) g.levels) (sym is)
+      (started_moves a (lean_now h) (kept_paths g.paths) 0 0 (rising_kept g.paths) formed g.levels at.values S.places)
 
   begun_at : (h : List Event) → IsAt g h → IsAt (begun_from g terms a.0) (h ++ Began a ∷ [])
   begun_at h at = record {
-    values = along h (Began a) (all_started terms (levels g.semaphores g.counters)) (kept_paths g.paths) (begun_moved h at).0;
+    values = along h (Began a) (all_started terms g.levels) (kept_paths g.paths) (begun_moved h at).0;
     progress = λ b n. more_progress g.paths a b g.in_progress h n (at.progress b n) terms is counted;
   }
 
-  placed_after : (u : Levels) → Low 0 0 u (levels g.semaphores g.counters) → legal.Every (λ x. HasPlaces (length u.semaphores) (length u.counters) x) (kept_paths g.paths)
+  placed_after : (u : Levels) → Low 0 0 u g.levels → legal.Every (λ x. HasPlaces (length u.semaphores) (length u.counters) x) (kept_paths g.paths)
   placed_after u L =
       subst (λ n. legal.Every (λ y. HasPlaces n (length u.counters) y) (kept_paths g.paths)) (sym L.places.0)
-      (subst (λ m. legal.Every (λ y. HasPlaces (length g.semaphores) m y) (kept_paths g.paths)) (sym L.places.1) S.places)
+      (subst (λ m. legal.Every (λ y. HasPlaces (length g.levels.semaphores) m y) (kept_paths g.paths)) (sym L.places.1) S.places)
 
   pub admits : Admitted g a (begun_from g terms a.0)
   admits = record { paths = refl; admitted = refl; moved = begun_at }
 
-  pub begun_sound : blocking terms (levels g.semaphores g.counters) ≡ None → IsSound (begun_from g terms a.0) by_op
+  pub begun_sound : blocking terms g.levels ≡ None → IsSound (begun_from g terms a.0) by_op
   begun_sound free = record {
     well_formed = S.well_formed;
     few_at_once = S.few_at_once;
     terms = S.terms;
     counts = length_more terms a.0 g.in_progress ∙ S.counts;
-    places = placed_after (all_started terms (levels g.semaphores g.counters)) (begun_moved S.history.0 S.history.2).1;
+    places = placed_after (all_started terms g.levels) (begun_moved S.history.0 S.history.2).1;
     idle = λ b n. more_idle g.paths a b g.in_progress n (S.idle b n) terms is;
     history = (
       S.history.0 ++ Began a ∷ [],
@@ -257,20 +255,20 @@ module _ (g : Standing) (by_op : List (List Term)) (S : IsSound g by_op) (a : Op
         (λ s w l k n. ends_fit s w.0 w.1 S.history.0 l (few_starts small) a n k (trimmed_terms_touch_the_kept s w.0 a n).1) g.paths
         (every_both (λ s w f. (w, f)) g.paths S.well_formed S.few_at_once) S.history.1 finish_legal
 
-    pub finishes : g.admitted < 2 ^ 32 → CanFinishAll terms (levels g.semaphores g.counters)
+    pub finishes : g.admitted < 2 ^ 32 → CanFinishAll terms g.levels
     finishes small =
-        subst (λ ts. CanFinishAll ts (levels g.semaphores g.counters)) (sym is)
-        (finished_can a (lean_now S.history.0) (kept_paths g.paths) 0 0 (rising_kept g.paths) formed (levels g.semaphores g.counters) S.history.2.values S.places
+        subst (λ ts. CanFinishAll ts g.levels) (sym is)
+        (finished_can a (lean_now S.history.0) (kept_paths g.paths) 0 0 (rising_kept g.paths) formed g.levels S.history.2.values S.places
         (every_kept (λ s. Names s a → FinishFits (lean_epilogue s a) (lean_now S.history.0 s)) g.paths (finish_all_fits small)))
 
-    ended_moved : (h : List Event) → IsAt g h → Moved a (lean_now h) (Ended a) (kept_paths g.paths) 0 0 (all_finished terms (levels g.semaphores g.counters)) (levels g.semaphores g.counters)
+    ended_moved : (h : List Event) → IsAt g h → Moved a (lean_now h) (Ended a) (kept_paths g.paths) 0 0 (all_finished terms g.levels) g.levels
     ended_moved h at =
-        subst (λ ts. Moved a (lean_now h) (Ended a) (kept_paths g.paths) 0 0 (all_finished ts (levels g.semaphores g.counters)) (levels g.semaphores g.counters)) (sym is)
-        (finished_moves a (lean_now h) (kept_paths g.paths) 0 0 (rising_kept g.paths) formed (levels g.semaphores g.counters) at.values S.places)
+        subst (λ ts. Moved a (lean_now h) (Ended a) (kept_paths g.paths) 0 0 (all_finished ts g.levels) g.levels) (sym is)
+        (finished_moves a (lean_now h) (kept_paths g.paths) 0 0 (rising_kept g.paths) formed g.levels at.values S.places)
 
     ended_at : (h : List Event) → IsAt g h → IsAt (ended_from g terms a.0) (h ++ Ended a ∷ [])
     ended_at h at = record {
-      values = along h (Ended a) (all_finished terms (levels g.semaphores g.counters)) (kept_paths g.paths) (ended_moved h at).0;
+      values = along h (Ended a) (all_finished terms g.levels) (kept_paths g.paths) (ended_moved h at).0;
       progress = λ b n. less_progress g.paths a b g.in_progress h n (at.progress b n) terms is counted (λ m. some (named m));
     }
 
@@ -283,7 +281,7 @@ module _ (g : Standing) (by_op : List (List Term)) (S : IsSound g by_op) (a : Op
       few_at_once = S.few_at_once;
       terms = S.terms;
       counts = length_less terms a.0 g.in_progress ∙ S.counts;
-      places = placed_after (all_finished terms (levels g.semaphores g.counters)) (ended_moved S.history.0 S.history.2).1;
+      places = placed_after (all_finished terms g.levels) (ended_moved S.history.0 S.history.2).1;
       idle = λ b n. less_idle g.paths a b g.in_progress n (S.idle b n) terms is;
       history = (
         S.history.0 ++ Ended a ∷ [],

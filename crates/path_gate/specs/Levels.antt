@@ -1,6 +1,7 @@
 -- The values of a table, and what prologues and epilogues do to them.
 use Rattle.std.specs.Prelude.{◌≡◌, ◌==◌, ◌+◌, ◌-◌, ◌<◌, ◌^◌, ◌||◌, ◌&&◌, nat_lt, if◌then◌else◌, ℕ, Bool, true, List}
 use Rattle.std.specs.Prelude.{slice_index, slice_set, Option, Some, None}
+use Rattle.path_gate.specs.declared.gate.levels.Levels as held
 use Rattle.path_code.specs.declared.terms.Prologue.{Prologue}
 use Rattle.path_code.specs.declared.terms.Prologue.TheVariants.{P, PP, PPN}
 use Rattle.path_code.specs.declared.terms.Epilogue.{Epilogue}
@@ -13,6 +14,10 @@ pub record Levels : Type 0 where
 
 abbrev pub levels : List ℕ → List ℕ → Levels
 levels semaphores counters = record { semaphores = semaphores; counters = counters }
+
+-- those that a gate holds
+abbrev pub levels_in : {Y : Type 0} → held.Levels Y → Levels
+levels_in v = levels v.semaphores.items v.counters.items
 
 -- the values with one less, and with one more, at a number
 abbrev pub taken : List ℕ → ℕ → List ℕ

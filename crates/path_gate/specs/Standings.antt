@@ -10,27 +10,26 @@ use Rattle.path_model.specs.Histories.{begun, ended}
 use Rattle.path_model.specs.Legal as legal
 use Rattle.path_model.specs.Machine.{opening}
 use Rattle.path_model.specs.Trimmed.{lean_among}
-use Rattle.path_decl.specs.Stored.{tree_code}
-use Rattle.path_gate.specs.Levels.{levels}
-use Rattle.path_gate.specs.Sites.{kept_paths, Shows}
+use Rattle.path_decl.specs.Inner.Stored.{tree_code}
+use Rattle.path_gate.specs.Levels.{Levels, levels}
+use Rattle.path_gate.specs.Inner.Sites.{kept_paths, Shows}
 
 -- the trees of all paths with their numbers, the values of all semaphores and of all counters, how often each operation is in
 -- progress, and how many starts were admitted
 pub record Standing : Type 0 where
   pub paths : List (ℕ × Tree)
-  pub semaphores : List ℕ
-  pub counters : List ℕ
+  pub levels : Levels
   pub in_progress : List ℕ
   pub admitted : ℕ
 
--- a standing is stored as its five parts
+-- a standing is stored as its parts
 abbrev pub standing_code : Coded Standing
 standing_code =
     code_by (List (ℕ × Tree) × (List ℕ × (List ℕ × (List ℕ × ℕ))))
     (coded× (coded_list (coded× coded_ℕ tree_code))
     (coded× (coded_list coded_ℕ) (coded× (coded_list coded_ℕ) (coded× (coded_list coded_ℕ) coded_ℕ))))
-    (λ g. (g.paths, (g.semaphores, (g.counters, (g.in_progress, g.admitted)))))
-    (λ p. record { paths = p.0; semaphores = p.1.0; counters = p.1.1.0; in_progress = p.1.1.1.0; admitted = p.1.1.1.1 }) (λ _. refl)
+    (λ g. (g.paths, (g.levels.semaphores, (g.levels.counters, (g.in_progress, g.admitted)))))
+    (λ p. record { paths = p.0; levels = levels p.1.0 p.1.1.0; in_progress = p.1.1.1.0; admitted = p.1.1.1.1 }) (λ _. refl)
 
 -- a path names the operation
 abbrev pub IsNamed : List (ℕ × Tree) → OpId → Type 0
@@ -39,7 +38,7 @@ IsNamed xs a = legal.NoneOf (λ s. Names s a) xs → ⊥
 -- the gate is at a history: of each path that is kept it has the values of the trimmed semaphores after it, and for each operation
 -- that a path names, the count of executions that began in it and haven't ended
 pub record IsAt (g : Standing) (h : List Event) : Type 0 where
-  pub values : legal.Every (λ x. Shows (levels g.semaphores g.counters) (lean_among x.tree (opening x.tree) h) x) (kept_paths g.paths)
+  pub values : legal.Every (λ x. Shows g.levels (lean_among x.tree (opening x.tree) h) x) (kept_paths g.paths)
   pub progress : (a : OpId) → IsNamed g.paths a → slice_index g.in_progress a.0 + ended a h ≡ begun a h
 
 -- a start is let through if and only if each legal history at which the gate is stays legal with it; else the error is the first path

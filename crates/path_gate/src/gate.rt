@@ -4,17 +4,18 @@
 //! Those of all paths are in one table. A start does its prologue in each path that names its operation, and is refused if one of
 //! these can't pass; a finish does its epilogues. `specs/Standings.antt` says at which histories a gate is, and what it decides there.
 
-ghost use Rattle.std.specs.Prelude.{◌≡◌, ◌≢◌, ◌+◌, ◌<◌, ◌≤◌, length, All, IfOk, OnOk, OnErr, MatchResult, slice_index, slice_index_or, []};
+ghost use Rattle.std.specs.Prelude.{◌≡◌, ◌≢◌, ◌+◌, ◌<◌, length, All, IfOk, OnOk, OnErr, MatchResult, slice_index, slice_index_or, []};
 ghost use Rattle.path_model.specs.Trees.{Names};
 ghost use Rattle.path_model.specs.Legal as legal;
 ghost use Rattle.path_gate.specs.Standings.{IsNamed, IsAt, Judges, Admitted, BlocksStay, Released};
-ghost use Rattle.path_gate.specs.Levels as spec;
-ghost use Rattle.path_gate.specs.Levels.{levels, PrologueWithin, EpilogueWithin, CanEnter, CanLeave, CanStart, CanFinish};
-ghost use Rattle.path_gate.specs.Terms.{IsWithin, blocking, all_started, all_finished, CanStartAll, CanFinishAll, one_more, one_less};
-ghost use Rattle.path_gate.specs.Soundness.{IsLaidOut, runs_of};
+ghost use Rattle.path_gate.specs.Levels.{levels_in};
+ghost use Rattle.path_gate.specs.Inner.Terms.{IsWithin, blocking, all_started, all_finished, CanStartAll, CanFinishAll, one_more, one_less};
+ghost use Rattle.path_gate.specs.Inner.Soundness.{IsLaidOut, runs_of};
 
+mod levels;
 mod table;
 
+use crate::gate::levels::Levels;
 use crate::gate::table::{add_path, in_one_list, no_counts, no_terms, places_for};
 use path_code::{Epilogue, Prologue};
 use path_model::{OpId, OutOfMemory, PathId};
@@ -34,96 +35,15 @@ struct Term {
     epilogue: Option<Epilogue>,
 }
 
-/// Whether an execution of braces may begin: one is in progress already, or the semaphore lets the first one in.
-fn is_open(semaphores: &[u64], counters: &[u64], counter: u16, semaphore: u16) -> bool
-    requires { (counter < length counters.now) × (semaphore < length semaphores.now) }
-    ensures { result ≡ spec.is_open counter semaphore (levels semaphores.now counters.now) }
-{
-    counters[counter as usize] > 0 || semaphores[semaphore as usize] > 0
-}
-
-/// Whether a prologue can pass.
-fn can_pass(semaphores: &[u64], counters: &[u64], prologue: Option<Prologue>) -> bool
-    requires { PrologueWithin (length semaphores.now) (length counters.now) prologue }
-    ensures { result ≡ spec.can_pass prologue (levels semaphores.now counters.now) }
-{
-    match prologue {
-        None => true,
-        Some(Prologue::P(semaphore)) => semaphores[semaphore as usize] > 0,
-        Some(Prologue::PP(counter, semaphore)) => is_open(semaphores, counters, counter, semaphore),
-        Some(Prologue::PPN(counter, semaphore, bound)) => {
-            semaphores[bound as usize] > 0 && is_open(semaphores, counters, counter, semaphore)
-        }
-    }
-}
-
-/// Counts one more execution of the braces; the first one takes 1 from the semaphore.
-fn enter(semaphores: &mut [u64], counters: &mut [u64], counter: u16, semaphore: u16)
-    requires within { (counter < length counters.old) × (semaphore < length semaphores.old) }
-    requires can { CanEnter counter semaphore (levels semaphores.old counters.old) }
-    ensures { levels semaphores.new counters.new ≡ spec.entered counter semaphore (levels semaphores.old counters.old) }
-{
-    if counters[counter as usize] == 0 {
-        semaphores[semaphore as usize] -= 1;
-    }
-    counters[counter as usize] += 1;
-}
-
-/// Counts one execution of the braces less; the last one gives 1 to the semaphore.
-fn leave(semaphores: &mut [u64], counters: &mut [u64], counter: u16, semaphore: u16)
-    requires within { (counter < length counters.old) × (semaphore < length semaphores.old) }
-    requires can { CanLeave counter semaphore (levels semaphores.old counters.old) }
-    ensures { levels semaphores.new counters.new ≡ spec.left counter semaphore (levels semaphores.old counters.old) }
-{
-    if counters[counter as usize] == 1 {
-        semaphores[semaphore as usize] += 1;
-    }
-    counters[counter as usize] -= 1;
-}
-
-/// Does a prologue that can pass.
-fn start(semaphores: &mut [u64], counters: &mut [u64], prologue: Option<Prologue>)
-    requires within { PrologueWithin (length semaphores.old) (length counters.old) prologue }
-    requires can { CanStart prologue (levels semaphores.old counters.old) }
-    ensures { levels semaphores.new counters.new ≡ spec.started prologue (levels semaphores.old counters.old) }
-{
-    match prologue {
-        None => {}
-        Some(Prologue::P(semaphore)) => semaphores[semaphore as usize] -= 1,
-        Some(Prologue::PP(counter, semaphore)) => enter(semaphores, counters, counter, semaphore),
-        Some(Prologue::PPN(counter, semaphore, bound)) => {
-            semaphores[bound as usize] -= 1;
-            enter(semaphores, counters, counter, semaphore);
-        }
-    }
-}
-
-/// Does an epilogue.
-fn finish(semaphores: &mut [u64], counters: &mut [u64], epilogue: Option<Epilogue>)
-    requires within { EpilogueWithin (length semaphores.old) (length counters.old) epilogue }
-    requires can { CanFinish epilogue (levels semaphores.old counters.old) }
-    ensures { levels semaphores.new counters.new ≡ spec.finished epilogue (levels semaphores.old counters.old) }
-{
-    match epilogue {
-        None => {}
-        Some(Epilogue::V(semaphore)) => semaphores[semaphore as usize] += 1,
-        Some(Epilogue::VV(counter, semaphore)) => leave(semaphores, counters, counter, semaphore),
-        Some(Epilogue::VVN(counter, semaphore, bound)) => {
-            leave(semaphores, counters, counter, semaphore);
-            semaphores[bound as usize] += 1;
-        }
-    }
-}
-
 /// The first path whose prologue can't pass, as the error. Writes nothing.
-fn first_blocked(semaphores: &[u64], counters: &[u64], terms: &[Term]) -> Result<(), PathId>
-    requires { All (IsWithin (length semaphores.now) (length counters.now)) terms.now }
+fn first_blocked<A: Allocator + Copy>(levels: &Levels<A>, terms: &[Term]) -> Result<(), PathId>
+    requires { All (IsWithin (length levels.now.semaphores.items) (length levels.now.counters.items)) terms.now }
     ensures { MatchResult result
-        (λ _. blocking terms.now (levels semaphores.now counters.now) ≡ None)
-        (λ path. blocking terms.now (levels semaphores.now counters.now) ≡ Some path) }
+        (λ _. blocking terms.now (levels_in levels.now) ≡ None)
+        (λ path. blocking terms.now (levels_in levels.now) ≡ Some path) }
 {
     for term in terms {
-        if !can_pass(semaphores, counters, term.prologue) {
+        if !levels.can_pass(term.prologue) {
             return Err(term.path);
         }
     }
@@ -131,24 +51,24 @@ fn first_blocked(semaphores: &[u64], counters: &[u64], terms: &[Term]) -> Result
 }
 
 /// Does the prologues of all terms.
-fn start_all(semaphores: &mut [u64], counters: &mut [u64], terms: &[Term])
-    requires within { All (IsWithin (length semaphores.old) (length counters.old)) terms.now }
-    requires can { CanStartAll terms.now (levels semaphores.old counters.old) }
-    ensures { levels semaphores.new counters.new ≡ all_started terms.now (levels semaphores.old counters.old) }
+fn start_all<A: Allocator + Copy>(levels: &mut Levels<A>, terms: &[Term])
+    requires within { All (IsWithin (length levels.old.semaphores.items) (length levels.old.counters.items)) terms.now }
+    requires can { CanStartAll terms.now (levels_in levels.old) }
+    ensures { levels_in levels.new ≡ all_started terms.now (levels_in levels.old) }
 {
     for term in terms {
-        start(semaphores, counters, term.prologue);
+        levels.start(term.prologue);
     }
 }
 
 /// Does the epilogues of all terms.
-fn finish_all(semaphores: &mut [u64], counters: &mut [u64], terms: &[Term])
-    requires within { All (IsWithin (length semaphores.old) (length counters.old)) terms.now }
-    requires can { CanFinishAll terms.now (levels semaphores.old counters.old) }
-    ensures { levels semaphores.new counters.new ≡ all_finished terms.now (levels semaphores.old counters.old) }
+fn finish_all<A: Allocator + Copy>(levels: &mut Levels<A>, terms: &[Term])
+    requires within { All (IsWithin (length levels.old.semaphores.items) (length levels.old.counters.items)) terms.now }
+    requires can { CanFinishAll terms.now (levels_in levels.old) }
+    ensures { levels_in levels.new ≡ all_finished terms.now (levels_in levels.old) }
 {
     for term in terms {
-        finish(semaphores, counters, term.epilogue);
+        levels.finish(term.epilogue);
     }
 }
 
@@ -175,11 +95,11 @@ fn count_finish(in_progress: &mut [u32], terms: &[Term], op: OpId)
 }
 
 /// The terms of an operation; none if no path names it.
-fn run_of<'a>(terms: &'a [Term], bounds: &[(usize, usize)], op: OpId) -> &'a [Term]
-    requires { IsLaidOut terms.now bounds.now }
-    ensures { result.now ≡ slice_index_or (runs_of terms.now bounds.now) op.0 [] }
+fn run_of<'a>(terms: &'a [Term], ranges: &[(usize, usize)], op: OpId) -> &'a [Term]
+    requires { IsLaidOut terms.now ranges.now }
+    ensures { result.now ≡ slice_index_or (runs_of terms.now ranges.now) op.0 [] }
 {
-    match bounds.get(op.0 as usize) {
+    match ranges.get(op.0 as usize) {
         Some((start, end)) => &terms[*start..*end],
         None => &[],
     }
@@ -194,11 +114,9 @@ pub struct Gate<A: Allocator + Copy = Global> {
     /// The terms of all operations, those of each in the order of the paths.
     terms: Vec<Term, A>,
     /// Where the terms of each operation begin and end.
-    bounds: Vec<(usize, usize), A>,
-    /// The values of the semaphores by their numbers in the file; 0 for those that were removed.
-    semaphores: Vec<u64, A>,
-    /// The values of the counters by their numbers in the file; 0 for those that were removed.
-    counters: Vec<u64, A>,
+    ranges: Vec<(usize, usize), A>,
+    /// The values of the semaphores and counters.
+    levels: Levels<A>,
     /// How often each operation that a path names is in progress; 0 for the others.
     in_progress: Vec<u32, A>,
     admitted: u32,
@@ -206,7 +124,7 @@ pub struct Gate<A: Allocator + Copy = Global> {
 
 impl<A: Allocator + Copy> Model for Gate<A> {
     ghost use Rattle.path_gate.specs.Standings.{Standing, standing_code};
-    ghost use Rattle.path_gate.specs.Inside.{standing_in, IsKeeping};
+    ghost use Rattle.path_gate.specs.Inner.Inside.{standing_in, IsKeeping};
 
     ghost Value = { Standing };
 
@@ -228,22 +146,25 @@ impl<A: Allocator + Copy> Gate<A> {
         ensures admitted { IfOk result (λ gate. gate.admitted ≡ 0) }
     {
         let places = places_for(kept(&lean));
-        let mut semaphores = Vec::with_capacity(alloc, places.semaphores)?;
-        let mut counters = Vec::with_capacity(alloc, places.counters)?;
+        let semaphores = Vec::with_capacity(alloc, places.semaphores)?;
+        let counters = Vec::with_capacity(alloc, places.counters)?;
+        let mut levels = Levels {
+            semaphores,
+            counters,
+        };
         let mut by_op = no_terms(alloc, kept(&lean))?;
         for path in kept(&lean) {
-            add_path(&mut semaphores, &mut counters, &mut by_op, path)?;
+            add_path(&mut levels, &mut by_op, path)?;
         }
         let opened = Snapshot::of(&lean);
         drop(lean); // so that the list of all terms takes its place
-        let (terms, bounds) = in_one_list(alloc, &by_op)?;
+        let (terms, ranges) = in_one_list(alloc, &by_op)?;
         let in_progress = no_counts(alloc)?;
         Ok(Gate {
             lean: opened,
             terms,
-            bounds,
-            semaphores,
-            counters,
+            ranges,
+            levels,
             in_progress,
             admitted: 0,
         })
@@ -256,8 +177,8 @@ impl<A: Allocator + Copy> Gate<A> {
     pub fn would_admit(&self, op: OpId) -> Result<(), PathId>
         ensures { Judges self.now op result }
     {
-        let terms = run_of(&self.terms, &self.bounds, op);
-        first_blocked(&self.semaphores, &self.counters, terms)
+        let terms = run_of(&self.terms, &self.ranges, op);
+        first_blocked(&self.levels, terms)
     }
 
     /// Admits a start of the operation; the error is the first path in the file that forbids it.
@@ -272,11 +193,11 @@ impl<A: Allocator + Copy> Gate<A> {
         ensures blocks { OnOk result (BlocksStay self.old op) }
         ensures err { OnErr result (self.new ≡ self.old) }
     {
-        let terms = run_of(&self.terms, &self.bounds, op);
-        match first_blocked(&self.semaphores, &self.counters, terms) {
+        let terms = run_of(&self.terms, &self.ranges, op);
+        match first_blocked(&self.levels, terms) {
             Err(path) => Err(path),
             Ok(()) => {
-                start_all(&mut self.semaphores, &mut self.counters, terms);
+                start_all(&mut self.levels, terms);
                 count_start(&mut self.in_progress, terms, op);
                 self.admitted += 1;
                 Ok(())
@@ -292,8 +213,8 @@ impl<A: Allocator + Copy> Gate<A> {
         ensures moves { Released self.old op self.new }
         ensures unnamed { legal.NoneOf (λ s. Names s op) self.old.paths → self.new ≡ self.old }
     {
-        let terms = run_of(&self.terms, &self.bounds, op);
-        finish_all(&mut self.semaphores, &mut self.counters, terms);
+        let terms = run_of(&self.terms, &self.ranges, op);
+        finish_all(&mut self.levels, terms);
         count_finish(&mut self.in_progress, terms, op);
     }
 

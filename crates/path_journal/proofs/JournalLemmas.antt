@@ -4,6 +4,7 @@ use Rattle.std.proofs.lemmas.List.{append-nil, append_cancel_right, nil_from_len
 use Rattle.std.proofs.lemmas.List.Elements.{All-nil}
 use Rattle.path_model.specs.declared.journal.Line.{Line}
 use Rattle.path_model.specs.Declarations.{Declaration}
+use Rattle.path_model.specs.Rooms.{IsRoom}
 use Rattle.path_decl.specs.Lawful.{AreDistinctNames}
 use Rattle.path_fields.specs.Splits.{HasNone, EndsAt, IsDigit}
 use Rattle.path_fields.proofs.CallerLemmas.{none_in_number}
@@ -14,7 +15,7 @@ use Rattle.path_lines.specs.declared.texts.TextFault.TheVariants as faults
 use Rattle.path_lines.specs.LineTexts.{operation_names, attempt_text, reply_text, journal_line_text}
 use Rattle.path_lines.specs.AttemptTexts.{IsFirstLine, fault_of}
 use Rattle.path_lines.proofs.CallerLemmas.{ReadLines, first_line, is_first, ends_first, whole_parts, lines_more, all_read, first_of_text, ends_in_feed, refuted, nothing_spelled, spells_once}
-use Rattle.path_journal.specs.JournalTexts.{LineFits, lines_text, head_text, IsRoom, journal_text, AreLinesOf, IsJournalText, AreNoLines, IsNoJournalText}
+use Rattle.path_journal.specs.JournalTexts.{LineFits, lines_text, head_text, journal_text, AreLinesOf, IsJournalText, AreNoLines, IsNoJournalText}
 use Rattle.path_journal.specs.JournalFaults.{IsUndeclared, IsFirstRecordFault, AreLinesAtFault, IsLinesFault, IsFaultAt, IsJournalFault}
 use Rattle.path_journal.proofs.HeadLemmas.{one_head}
 use Rattle.path_journal.proofs.RecordLemmas.{record_is_line, record_is_some, record_once}

@@ -3,13 +3,14 @@ use Rattle.std.specs.Prelude.{◌≡◌, ◌≢◌, ℕ, ◌+◌, ◌<◌, List,
 use Rattle.path_model.specs.declared.journal.Reply.{Reply}
 use Rattle.path_model.specs.declared.journal.Line.{Line}
 use Rattle.path_model.specs.Declarations.{Declaration}
+use Rattle.path_model.specs.Rooms.{IsRoom}
 use Rattle.path_lines.specs.declared.entry.LineFault.{LineFault}
 use Rattle.path_lines.specs.declared.entry.LineFault.TheVariants as line_faults
 use Rattle.path_lines.specs.declared.texts.TextFault.{TextFault}
 use Rattle.path_lines.specs.declared.texts.TextFault.TheVariants as faults
 use Rattle.path_lines.specs.LineTexts.{reply_text, journal_line_text}
 use Rattle.path_lines.specs.AttemptTexts.{IsUndeclaredLine, IsFirstLine}
-use Rattle.path_journal.specs.JournalTexts.{ReplyFits, LineFits, head_text, IsRoom, RoomFits, journal_text, lines_text}
+use Rattle.path_journal.specs.JournalTexts.{ReplyFits, LineFits, head_text, RoomFits, journal_text, lines_text}
 
 -- no line of a journal has this text
 abbrev pub IsNoLine : Declaration → List ℕ → Type 0

@@ -1,11 +1,12 @@
 -- Texts of journals: a line for each line of the journal, and in version 2 a first line that names the room.
-use Rattle.std.specs.Prelude.{◌≡◌, ℕ, ◌<◌, ◌≤◌, ◌^◌, List, [], ◌∷◌, ◌++◌, codes, decimal, All, ◌⊎◌, Option, Some, None}
+use Rattle.std.specs.Prelude.{◌≡◌, ℕ, ◌<◌, ◌^◌, List, [], ◌∷◌, ◌++◌, codes, decimal, All, ◌⊎◌, Option, Some, None}
 use Rattle.std.specs.List.{flat_map}
 use Rattle.path_model.specs.declared.journal.Reply.{Reply}
 use Rattle.path_model.specs.declared.journal.Reply.TheVariants.{Started, Blocked, UnknownOperation, Used, NotOffered, Empty, Full}
 use Rattle.path_model.specs.declared.journal.Reply.TheVariants.{Overflow, DeviceFailed, Finished, Stale, NotYours, NoRoom}
 use Rattle.path_model.specs.declared.journal.Line.{Line}
 use Rattle.path_model.specs.Declarations.{Declaration}
+use Rattle.path_model.specs.Rooms.{IsRoom}
 use Rattle.path_lines.specs.LineTexts.{AttemptFits, journal_line_text}
 
 -- the number of a path has at most 32 bits, any other at most 64
@@ -41,10 +42,6 @@ lines_text d ls = flat_map (journal_line d) ls
 -- the first line of a text of version 2
 abbrev pub head_text : ℕ → List ℕ
 head_text room = codes "journal 2 room " ++ decimal room
-
--- a journal may have this room
-abbrev pub IsRoom : ℕ → Type 0
-IsRoom room = (1 ≤ room) × (room ≤ 1048576)
 
 -- a room that is named is in range
 abbrev pub RoomFits : Option ℕ → Type 0

@@ -3,10 +3,11 @@
 ghost use Rattle.std.specs.Prelude.{◌≡◌, ◌≢◌, ℕ, ◌++◌, List, IfOk, IfSome, IfNone};
 ghost use Rattle.std.specs.String.{string_bytes};
 ghost use Rattle.path_fields.specs.Splits.{EndsAt};
-ghost use Rattle.path_journal.specs.JournalTexts.{head_text, IsRoom};
+ghost use Rattle.path_model.specs.Rooms.{IsRoom};
+ghost use Rattle.path_journal.specs.JournalTexts.{head_text};
 
 use path_fields::{last_number, strip};
-use path_model::{MOST_LINES, OutOfMemory};
+use path_model::{OutOfMemory, is_room};
 use std::alloc::Allocator;
 
 /// The room that the first line of a text names, and the text from the end of that line on; `None` if that line isn't a head.
@@ -17,14 +18,15 @@ pub fn read_head(text: &[u8]) -> Option<(u32, &[u8])>
     let rest = strip(text, b"journal 2 room ")?;
     let (room, rest) = last_number(rest)?;
     let room = u32::try_from(room).ok()?;
-    if room == 0 || room > MOST_LINES {
-        return None;
+    if is_room(room) {
+        Some((room, rest))
+    } else {
+        None
     }
-    Some((room, rest))
 }
 
 /// The first line of a journal's text of version 2, without a line feed: `journal 2 room` and the room, which must be 1 to
-/// [`MOST_LINES`]. Fails only if allocation fails.
+/// [`MOST_LINES`](path_model::MOST_LINES). Fails only if allocation fails.
 pub fn write_head<A: Allocator + Copy>(alloc: A, room: u32) -> Result<String<A>, OutOfMemory>
     requires { IsRoom room }
     ensures { IfOk result (λ text. string_bytes text ≡ head_text room) }

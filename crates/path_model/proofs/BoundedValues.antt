@@ -14,7 +14,7 @@ use Rattle.path_model.specs.Legal.{Every, Legal}
 use Rattle.path_model.specs.Flat.{HasBound, semaphores_in, Sited, sited, Table, flat_from, flat_opening, Shows}
 use Rattle.path_model.specs.BoundedValues.{Bounded, EachValueIsBounded, ValuesAmongAreBounded, BoundedInTable, TableValuesAreBounded}
 use Rattle.path_model.proofs.Upward.{Holds, has_names}
-use Rattle.path_model.proofs.Starts.{put_other}
+use Rattle.path_model.proofs.Moves.{put_other}
 use Rattle.path_model.proofs.Path.{meets, Live, start, step, behaves_live}
 use Rattle.path_model.proofs.OnePath.{rooted, end_may}
 use Rattle.path_model.proofs.AllPaths.{now}

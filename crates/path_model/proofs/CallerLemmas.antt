@@ -36,3 +36,5 @@ pub use Rattle.path_model.proofs.JournalLists.{begun_more, begun_quiet, live_qui
 pub use Rattle.path_model.proofs.Unasked.{asked_by_own, asked_more}
 pub use Rattle.path_model.proofs.HonestJournals.{line_of, honest_more, live_started, live_finished, live_found}
 pub use Rattle.path_model.proofs.Progress.{history_started, history_finished, live_in_progress, begun_lines}
+-- what may go to another thread
+pub use Rattle.path_model.proofs.Threads.{expr_send}

@@ -14,18 +14,18 @@ use Rattle.path_model.proofs.Crowd.{out_more, sane_out}
 use Rattle.path_model.proofs.Path.{flat_fits}
 use Rattle.path_model.proofs.Steady.{ended_entry, inn_ended, Steady}
 use Rattle.path_model.proofs.Upward.{path_left, path_right, path_one, path_other, path_in, Holds}
-use Rattle.path_model.proofs.Starts.{Out, In, Agree, Agree_refl, Agree_wider, flat_braces, holds_frame, put_same, put_other, spare_same}
+use Rattle.path_model.proofs.Moves.{Out, Agree, Agree_refl, Agree_wider, spare_same, put_same, put_other, out_among, out_unlike, in_unlike, OneSemaphore, SameBraces, Effect, Moved, around, semaphore_kept, beside, inside, alt_left, alt_right}
 
 abbrev pub ClearBack : List Above → Type 0
 ClearBack up = epilogue_below up ≡ Plain (signals up)
 
-finished_other : (up : List Above) (v : Values) (q : ℕ) → (q ≡ signals up → ⊥) → (finished (epilogue_below up) v).semaphore q ≡ v.semaphore q
-finished_other [] v q n = cond-false _ _ _ (ne_eqb q 0 n)
-finished_other (LeftOf x ∷ up) v q n = cond-false _ _ _ (ne_eqb q x n)
-finished_other (RightOf x ∷ up) v q n = finished_other up v q n
-finished_other (Within any c ∷ up) v q n =
+finished_one : (up : List Above) (v : Values) → OneSemaphore (signals up) v (finished (epilogue_below up) v)
+finished_one [] v q n = cond-false _ _ _ (ne_eqb q 0 n)
+finished_one (LeftOf x ∷ up) v q n = cond-false _ _ _ (ne_eqb q x n)
+finished_one (RightOf x ∷ up) v q n = finished_one up v q n
+finished_one (Within any c ∷ up) v q n =
     cond_both (v.counter c == 1) (add_one v.semaphore (signals up)) v.semaphore (λ f. f q ≡ v.semaphore q) (λ _. cond-false _ _ _ (ne_eqb q (signals up) n)) (λ _. refl)
-finished_other (Within (most k) c ∷ up) v q n =
+finished_one (Within (most k) c ∷ up) v q n =
     cond_both (v.counter c == 1) (add_one v.semaphore (signals up)) v.semaphore (λ f. f q ≡ v.semaphore q) (λ _. cond-false _ _ _ (ne_eqb q (signals up) n)) (λ _. refl)
 
 -- through braces, whatever their bound
@@ -45,181 +45,62 @@ pub through_spare : (b : Bound) (m q : ℕ) (v : Values) (c : ℕ) → Spare b (
 through_spare any m q v c h r = tt
 through_spare (most n) m q v c h r = let z = put_same v.bound m (v.bound m + 1) in omega (arith, z, h, r)
 
-clear_counter : (up : List Above) (v : Values) (c : ℕ) → ClearBack up → (finished (epilogue_below up) v).counter c ≡ v.counter c
-clear_counter up v c e = subst (λ x. (finished x v).counter c ≡ v.counter c) (sym e) refl
+finished_braces : (up : List Above) (v : Values) → ClearBack up → SameBraces v (finished (epilogue_below up) v)
+finished_braces up v e d = subst (λ x. ((finished x v).counter d ≡ v.counter d) × ((finished x v).bound d ≡ v.bound d)) (sym e) (refl, refl)
 
-clear_bound : (up : List Above) (v : Values) (c : ℕ) → ClearBack up → (finished (epilogue_below up) v).bound c ≡ v.bound c
-clear_bound up v c e = subst (λ x. (finished x v).bound c ≡ v.bound c) (sym e) refl
-
-abbrev pub Effect : Tree → ℕ → ℕ → List Above → List Event → OpId → Values → Values → Type 0
-Effect s n m up h a v w =
-    ((out s (h ++ Ended a ∷ []) ≡ out s h) × Agree n (semicolons s) m (braces s) w v)
-    ⊎ ((out s (h ++ Ended a ∷ []) ≡ out s h + 1) × Agree n (semicolons s) m (braces s) w (finished (epilogue_below up) v))
-
-pub record FinishOk (s : Tree) (n m : ℕ) (up : List Above) (h : List Event) (a : OpId) (v w : Values) : Type 0 where
-  pub holds : Holds s n m (h ++ Ended a ∷ []) w
-  pub effect : Effect s n m up h a v w
+-- what a finish within the tree does to the values
+abbrev pub FinishOk : Tree → ℕ → ℕ → List Above → List Event → OpId → Values → Values → Type 0
+FinishOk s n m up h a v w = Moved out s n m h (Ended a) v (finished (epilogue_below up) v) w
 
 module _ (s t : Tree) (n m : ℕ) (up : List Above) (h : List Event) (a : OpId) (v w : Values) where
   seq_right : NoBraces (seq s t) ⊎ ClearBack up → Out n (semicolons (seq s t)) (signals up) → Holds (seq s t) n m h v → (Names s a → ⊥) → FinishOk t (n + semicolons s + 1) (m + braces s) (RightOf (n + semicolons s) ∷ up) h a v w → FinishOk (seq s t) n m up h a v w
-  seq_right c o H away r = record { holds = (there, r.holds, here); effect = eff r.effect }
+  seq_right c o H away r = record { holds = (there, r.holds, here); effect = around out t (n + semicolons s + 1) (m + braces s) h (Ended a) v x w r.effect (seq s t) n m (omega arith, omega arith) (omega arith, omega arith) refl }
     where
+      x : Values
+      x = finished (epilogue_below up) v
+
       none : Foreign s (Ended a ∷ [])
       none = (away, tt)
 
-      sem : (q : ℕ) → n ≤ q → q < n + semicolons s + 1 → w.semaphore q ≡ v.semaphore q
-      sem q l k = elim r.effect [
-        | inl e ↦ e.1.semaphores q (inl k)
-        | inr e ↦ e.1.semaphores q (inl k) ∙ finished_other up v q (λ z. elim o [ inl i ↦ omega (arith, i, z, l) | inr i ↦ omega (arith, i, z, k) ])
-      ]
+      c' : NoBraces s ⊎ SameBraces v x
+      c' = elim c [ inl f ↦ inl f.0 | inr g ↦ inr (finished_braces up v g) ]
 
-      ctr : (d : ℕ) → In m (braces s) d → w.counter d ≡ v.counter d
-      ctr d i = elim r.effect [
-        | inl e ↦ e.1.counters d (inl i.1)
-        | inr e ↦ e.1.counters d (inl i.1) ∙ elim c [ inl f ↦ absurd (omega (arith, i, flat_braces s f.0)) | inr k ↦ clear_counter up v d k ]
-      ]
-
-      bnd : (d : ℕ) → In m (braces s) d → w.bound d ≡ v.bound d
-      bnd d i = elim r.effect [
-        | inl e ↦ e.1.limits d (inl i.1)
-        | inr e ↦ e.1.limits d (inl i.1) ∙ elim c [ inl f ↦ absurd (omega (arith, i, flat_braces s f.0)) | inr k ↦ clear_bound up v d k ]
-      ]
+      o' : Out n (semicolons s) (signals up)
+      o' = elim o [ inl l ↦ inl l | inr l ↦ inr (omega (arith, l)) ]
 
       there : Holds s n m (h ++ Ended a ∷ []) w
-      there = holds_frame s n m h (Ended a ∷ []) v w none (λ q i. sem q i.0 (omega (arith, i))) ctr bnd H.0
+      there = beside out t (n + semicolons s + 1) (m + braces s) h (Ended a) v x w r.effect (signals up) (finished_one up v) s n m (inl (omega arith)) (inl (omega arith)) o' c' none H.0
+
+      same : w.semaphore (n + semicolons s) ≡ v.semaphore (n + semicolons s)
+      same = semaphore_kept out t (n + semicolons s + 1) (m + braces s) h (Ended a) v x w r.effect (signals up) (finished_one up v) (n + semicolons s) (inl (omega arith)) (out_unlike _ o (n + semicolons s) (omega arith, omega arith))
 
       here : w.semaphore (n + semicolons s) + inn t (h ++ Ended a ∷ []) ≡ out s (h ++ Ended a ∷ [])
-      here = omega (arith, sem (n + semicolons s) (omega arith) (omega arith), H.2, out_before s h (Ended a ∷ []) none, inn_ended t h a)
-
-      wide : (q : ℕ) → Out n (semicolons (seq s t)) q → Out (n + semicolons s + 1) (semicolons t) q
-      wide q (inl l) = inl (omega (arith, l))
-      wide q (inr l) = inr (omega (arith, l))
-
-      wide' : (d : ℕ) → Out m (braces (seq s t)) d → Out (m + braces s) (braces t) d
-      wide' d (inl l) = inl (omega (arith, l))
-      wide' d (inr l) = inr (omega (arith, l))
-
-      eff : Effect t (n + semicolons s + 1) (m + braces s) (RightOf (n + semicolons s) ∷ up) h a v w → Effect (seq s t) n m up h a v w
-      eff (inl e) = inl (e.0, Agree_wider wide wide' e.1)
-      eff (inr e) = inr (e.0, Agree_wider wide wide' e.1)
+      here = omega (arith, same, H.2, out_before s h (Ended a ∷ []) none, inn_ended t h a)
 
   seq_left : Holds (seq s t) n m h v → (Names t a → ⊥) → FinishOk s n m (LeftOf (n + semicolons s) ∷ up) h a v w → FinishOk (seq s t) n m up h a v w
   seq_left H away r = record { holds = (r.holds, there, here r.effect); effect = inl (out_before t h (Ended a ∷ []) none, apart) }
     where
+      own : ℕ
+      own = n + semicolons s
+
+      x : Values
+      x = finished (Plain own) v
+
       none : Foreign t (Ended a ∷ [])
       none = (away, tt)
 
-      sem : (q : ℕ) → Out n (semicolons s) q → (q ≡ n + semicolons s → ⊥) → w.semaphore q ≡ v.semaphore q
-      sem q x z = elim r.effect [
-        | inl e ↦ e.1.semaphores q x
-        | inr e ↦ e.1.semaphores q x ∙ put_other v.semaphore (n + semicolons s) (v.semaphore (n + semicolons s) + 1) q z
-      ]
+      one : OneSemaphore own v x
+      one = finished_one (LeftOf own ∷ up) v
 
-      ctr : (d : ℕ) → Out m (braces s) d → w.counter d ≡ v.counter d
-      ctr d x = elim r.effect [ inl e ↦ e.1.counters d x | inr e ↦ e.1.counters d x ]
+      there : Holds t (own + 1) (m + braces s) (h ++ Ended a ∷ []) w
+      there = beside out s n m h (Ended a) v x w r.effect own one t (own + 1) (m + braces s) (inr (omega arith)) (inr (omega arith)) (inl (omega arith)) (inr (λ d. (refl, refl))) none H.1
 
-      bnd : (d : ℕ) → Out m (braces s) d → w.bound d ≡ v.bound d
-      bnd d x = elim r.effect [ inl e ↦ e.1.limits d x | inr e ↦ e.1.limits d x ]
-
-      there : Holds t (n + semicolons s + 1) (m + braces s) (h ++ Ended a ∷ []) w
-      there = holds_frame t (n + semicolons s + 1) (m + braces s) h (Ended a ∷ []) v w none (λ q i. sem q (inr (omega (arith, i))) (λ z. omega (arith, i, z))) (λ d i. ctr d (inr i.0)) (λ d i. bnd d (inr i.0)) H.1
-
-      here : Effect s n m (LeftOf (n + semicolons s) ∷ up) h a v w → w.semaphore (n + semicolons s) + inn t (h ++ Ended a ∷ []) ≡ out s (h ++ Ended a ∷ [])
-      here (inl e) = omega (arith, e.0, e.1.semaphores (n + semicolons s) (inr (omega arith)), H.2, inn_before t h (Ended a ∷ []) none)
-      here (inr e) = omega (arith, e.0, e.1.semaphores (n + semicolons s) (inr (omega arith)), put_same v.semaphore (n + semicolons s) (v.semaphore (n + semicolons s) + 1), H.2, inn_before t h (Ended a ∷ []) none)
+      here : Effect out s n m h (Ended a) v x w → w.semaphore own + inn t (h ++ Ended a ∷ []) ≡ out s (h ++ Ended a ∷ [])
+      here (inl e) = omega (arith, e.0, e.1.semaphores own (inr (omega arith)), H.2, inn_before t h (Ended a ∷ []) none)
+      here (inr e) = omega (arith, e.0, e.1.semaphores own (inr (omega arith)), put_same v.semaphore own (v.semaphore own + 1), H.2, inn_before t h (Ended a ∷ []) none)
 
       apart : Agree n (semicolons (seq s t)) m (braces (seq s t)) w v
-      apart = record { semaphores = sems; counters = ctrs; limits = bnds }
-        where
-          sems : (q : ℕ) → Out n (semicolons (seq s t)) q → w.semaphore q ≡ v.semaphore q
-          sems q (inl l) = sem q (inl (omega (arith, l))) (λ z. omega (arith, l, z))
-          sems q (inr l) = sem q (inr (omega (arith, l))) (λ z. omega (arith, l, z))
-
-          ctrs : (d : ℕ) → Out m (braces (seq s t)) d → w.counter d ≡ v.counter d
-          ctrs d (inl l) = ctr d (inl (omega (arith, l)))
-          ctrs d (inr l) = ctr d (inr (omega (arith, l)))
-
-          bnds : (d : ℕ) → Out m (braces (seq s t)) d → w.bound d ≡ v.bound d
-          bnds d (inl l) = bnd d (inl (omega (arith, l)))
-          bnds d (inr l) = bnd d (inr (omega (arith, l)))
-
-  alt_left : NoBraces (alt s t) ⊎ ClearBack up → Out n (semicolons (alt s t)) (signals up) → Holds (alt s t) n m h v → (Names t a → ⊥) → FinishOk s n m up h a v w → FinishOk (alt s t) n m up h a v w
-  alt_left c o H away r = record { holds = (r.holds, there); effect = eff r.effect }
-    where
-      none : Foreign t (Ended a ∷ [])
-      none = (away, tt)
-
-      sem : (q : ℕ) → In (n + semicolons s) (semicolons t) q → w.semaphore q ≡ v.semaphore q
-      sem q i = elim r.effect [
-        | inl e ↦ e.1.semaphores q (inr i.0)
-        | inr e ↦ e.1.semaphores q (inr i.0) ∙ finished_other up v q (λ z. elim o [ inl x ↦ omega (arith, x, z, i) | inr x ↦ omega (arith, x, z, i) ])
-      ]
-
-      ctr : (d : ℕ) → In (m + braces s) (braces t) d → w.counter d ≡ v.counter d
-      ctr d i = elim r.effect [
-        | inl e ↦ e.1.counters d (inr i.0)
-        | inr e ↦ e.1.counters d (inr i.0) ∙ elim c [ inl f ↦ absurd (omega (arith, i, flat_braces t f.1)) | inr k ↦ clear_counter up v d k ]
-      ]
-
-      bnd : (d : ℕ) → In (m + braces s) (braces t) d → w.bound d ≡ v.bound d
-      bnd d i = elim r.effect [
-        | inl e ↦ e.1.limits d (inr i.0)
-        | inr e ↦ e.1.limits d (inr i.0) ∙ elim c [ inl f ↦ absurd (omega (arith, i, flat_braces t f.1)) | inr k ↦ clear_bound up v d k ]
-      ]
-
-      there : Holds t (n + semicolons s) (m + braces s) (h ++ Ended a ∷ []) w
-      there = holds_frame t (n + semicolons s) (m + braces s) h (Ended a ∷ []) v w none sem ctr bnd H.1
-
-      wide : (q : ℕ) → Out n (semicolons (alt s t)) q → Out n (semicolons s) q
-      wide q (inl l) = inl l
-      wide q (inr l) = inr (omega (arith, l))
-
-      wide' : (d : ℕ) → Out m (braces (alt s t)) d → Out m (braces s) d
-      wide' d (inl l) = inl l
-      wide' d (inr l) = inr (omega (arith, l))
-
-      eff : Effect s n m up h a v w → Effect (alt s t) n m up h a v w
-      eff (inl e) = inl (omega (arith, e.0, out_before t h (Ended a ∷ []) none), Agree_wider wide wide' e.1)
-      eff (inr e) = inr (omega (arith, e.0, out_before t h (Ended a ∷ []) none), Agree_wider wide wide' e.1)
-
-  alt_right : NoBraces (alt s t) ⊎ ClearBack up → Out n (semicolons (alt s t)) (signals up) → Holds (alt s t) n m h v → (Names s a → ⊥) → FinishOk t (n + semicolons s) (m + braces s) up h a v w → FinishOk (alt s t) n m up h a v w
-  alt_right c o H away r = record { holds = (there, r.holds); effect = eff r.effect }
-    where
-      none : Foreign s (Ended a ∷ [])
-      none = (away, tt)
-
-      sem : (q : ℕ) → In n (semicolons s) q → w.semaphore q ≡ v.semaphore q
-      sem q i = elim r.effect [
-        | inl e ↦ e.1.semaphores q (inl i.1)
-        | inr e ↦ e.1.semaphores q (inl i.1) ∙ finished_other up v q (λ z. elim o [ inl x ↦ omega (arith, x, z, i) | inr x ↦ omega (arith, x, z, i) ])
-      ]
-
-      ctr : (d : ℕ) → In m (braces s) d → w.counter d ≡ v.counter d
-      ctr d i = elim r.effect [
-        | inl e ↦ e.1.counters d (inl i.1)
-        | inr e ↦ e.1.counters d (inl i.1) ∙ elim c [ inl f ↦ absurd (omega (arith, i, flat_braces s f.0)) | inr k ↦ clear_counter up v d k ]
-      ]
-
-      bnd : (d : ℕ) → In m (braces s) d → w.bound d ≡ v.bound d
-      bnd d i = elim r.effect [
-        | inl e ↦ e.1.limits d (inl i.1)
-        | inr e ↦ e.1.limits d (inl i.1) ∙ elim c [ inl f ↦ absurd (omega (arith, i, flat_braces s f.0)) | inr k ↦ clear_bound up v d k ]
-      ]
-
-      there : Holds s n m (h ++ Ended a ∷ []) w
-      there = holds_frame s n m h (Ended a ∷ []) v w none sem ctr bnd H.0
-
-      wide : (q : ℕ) → Out n (semicolons (alt s t)) q → Out (n + semicolons s) (semicolons t) q
-      wide q (inl l) = inl (omega (arith, l))
-      wide q (inr l) = inr (omega (arith, l))
-
-      wide' : (d : ℕ) → Out m (braces (alt s t)) d → Out (m + braces s) (braces t) d
-      wide' d (inl l) = inl (omega (arith, l))
-      wide' d (inr l) = inr (omega (arith, l))
-
-      eff : Effect t (n + semicolons s) (m + braces s) up h a v w → Effect (alt s t) n m up h a v w
-      eff (inl e) = inl (omega (arith, e.0, out_before s h (Ended a ∷ []) none), Agree_wider wide wide' e.1)
-      eff (inr e) = inr (omega (arith, e.0, out_before s h (Ended a ∷ []) none), Agree_wider wide wide' e.1)
+      apart = inside out s n m h (Ended a) v x w r.effect own one (seq s t) n m (omega arith, omega arith) (omega arith, omega arith) (omega arith, omega arith) (λ d. (refl, refl))
 
 module _ (bd : Bound) (s : Tree) (n m : ℕ) (up : List Above) (h : List Event) (a : OpId) (v w : Values) where
   in_braces : NoBraces s → ClearBack up → Holds (burst bd s) n m h v → Steady (burst bd s) h → Steady (burst bd s) (h ++ Ended a ∷ []) → FinishOk s n (m + 1) (Within bd m ∷ up) h a v w → FinishOk (burst bd s) n m up h a v w
@@ -243,11 +124,11 @@ module _ (bd : Bound) (s : Tree) (n m : ℕ) (up : List Above) (h : List Event) 
       some : exit s e ≡ 1 → 0 < count s 0 h
       some z = omega (arith, z, more, enough, before.1, inn_ended s h a)
 
-      here : Effect s n (m + 1) (Within bd m ∷ up) h a v w → w.counter m ≡ count s 0 (h ++ e ∷ [])
+      here : Effect out s n (m + 1) h e v (finished (through bd m (signals up)) v) w → w.counter m ≡ count s 0 (h ++ e ∷ [])
       here (inl k) = omega (arith, k.0, more, now, in_zero, H.1, k.1.counters m (inl (omega arith)))
       here (inr k) = omega (arith, k.0, more, now, in_zero, H.1, k.1.counters m (inl (omega arith)), ap (λ g. g m) (through_counter bd m (signals up) v), put_same v.counter m (v.counter m - 1))
 
-      spare : Effect s n (m + 1) (Within bd m ∷ up) h a v w → Spare bd (w.bound m) (count s 0 (h ++ e ∷ []))
+      spare : Effect out s n (m + 1) h e v (finished (through bd m (signals up)) v) w → Spare bd (w.bound m) (count s 0 (h ++ e ∷ []))
       spare (inl k) = spare_same bd (v.bound m) (w.bound m) (count s 0 h) (count s 0 (h ++ e ∷ [])) (sym (k.1.limits m (inl (omega arith)))) (omega (arith, k.0, more, now, in_zero)) H.2
       spare (inr k) = spare_same bd _ (w.bound m) (count s 0 h - 1) (count s 0 (h ++ e ∷ [])) (sym (k.1.limits m (inl (omega arith)))) (omega (arith, k.0, more, now, in_zero)) (through_spare bd m (signals up) v (count s 0 h) H.2 (some (omega (arith, k.0, more))))
 
@@ -255,14 +136,12 @@ module _ (bd : Bound) (s : Tree) (n m : ℕ) (up : List Above) (h : List Event) 
       closed x z = omega (arith, closes-append s 0 h (e ∷ []), z)
 
       wide : (d : ℕ) → Out m (braces s + 1) d → Out (m + 1) (braces s) d
-      wide d (inl l) = inl (omega (arith, l))
-      wide d (inr l) = inr (omega (arith, l))
+      wide = out_among _ _ (omega arith, omega arith)
 
       unlike : (d : ℕ) → Out m (braces s + 1) d → d ≡ m → ⊥
-      unlike d (inl l) z = omega (arith, l, z)
-      unlike d (inr l) z = omega (arith, l, z)
+      unlike = in_unlike _ (omega arith, omega arith)
 
-      eff : Effect s n (m + 1) (Within bd m ∷ up) h a v w → Effect (burst bd s) n m up h a v w
+      eff : Effect out s n (m + 1) h e v (finished (through bd m (signals up)) v) w → Effect out (burst bd s) n m h e v (finished (epilogue_below up) v) w
       eff (inl k) = inl (
         (let g = closed 0 (cond_both (count s 0 h + entry s e - exit s e == 0) _ _ (λ x. x ≡ 0) (λ _. omega (arith, k.0, more)) (λ _. refl)) in omega (arith, g)),
         Agree_wider (λ q o. o) wide k.1,
@@ -284,8 +163,8 @@ module _ (bd : Bound) (s : Tree) (n m : ℕ) (up : List Above) (h : List Event) 
               let single : v.counter m ≡ 1 = omega (arith, l, some one, H.1) in
               record {
                 semaphores = λ q o. k.1.semaphores q o ∙ ap (λ g. g q) (through_semaphore bd m (signals up) v) ∙ ap (λ g. g q) (cond-true (v.counter m == 1) (add_one v.semaphore (signals up)) v.semaphore (eq-eqb (v.counter m) 1 single)) ∙ sym (ap (λ x. (finished x v).semaphore q) c);
-                counters = λ d o. k.1.counters d (wide d o) ∙ ap (λ g. g d) (through_counter bd m (signals up) v) ∙ put_other v.counter m (v.counter m - 1) d (unlike d o) ∙ sym (clear_counter up v d c);
-                limits = λ d o. k.1.limits d (wide d o) ∙ through_bound bd m (signals up) v d (unlike d o) ∙ sym (clear_bound up v d c);
+                counters = λ d o. k.1.counters d (wide d o) ∙ ap (λ g. g d) (through_counter bd m (signals up) v) ∙ put_other v.counter m (v.counter m - 1) d (unlike d o) ∙ sym (finished_braces up v c d).0;
+                limits = λ d o. k.1.limits d (wide d o) ∙ through_bound bd m (signals up) v d (unlike d o) ∙ sym (finished_braces up v c d).1;
               }),
         )
       ]
@@ -316,13 +195,15 @@ finish_ok (alt s t) nr nn n m a up c o (inl k) h v H x y =
     let c' : NoBraces s ⊎ ClearBack up = elim c [ inl f ↦ inl f.0 | inr g ↦ inr g ] in
     let o' : Out n (semicolons s) (signals up) = elim o [ inl l ↦ inl l | inr l ↦ inr (omega (arith, l)) ] in
     let r = finish_ok s nr.0 nn.0 n m a up c' o' k h v H.0 x.0 y.0 in
-    subst (λ l. FinishOk (alt s t) n m up h a v (finished (epilogue_below l) v)) (sym (path_one s t n m a up k)) (alt_left s t n m up h a v _ c o H away r)
+    let b : NoBraces (alt s t) ⊎ SameBraces v (finished (epilogue_below up) v) = elim c [ inl f ↦ inl f | inr g ↦ inr (finished_braces up v g) ] in
+    subst (λ l. FinishOk (alt s t) n m up h a v (finished (epilogue_below l) v)) (sym (path_one s t n m a up k)) (alt_left out s t n m h (Ended a) v (finished (epilogue_below up) v) _ (signals up) (finished_one up v) (omega (arith, out_before t h (Ended a ∷ []) (away, tt))) b o H (away, tt) r)
 finish_ok (alt s t) nr nn n m a up c o (inr k) h v H x y =
     let away : Names s a → ⊥ = λ z. nr.2 a z k in
     let c' : NoBraces t ⊎ ClearBack up = elim c [ inl f ↦ inl f.1 | inr g ↦ inr g ] in
     let o' : Out (n + semicolons s) (semicolons t) (signals up) = elim o [ inl l ↦ inl (omega (arith, l)) | inr l ↦ inr (omega (arith, l)) ] in
     let r = finish_ok t nr.1 nn.1 (n + semicolons s) (m + braces s) a up c' o' k h v H.1 x.1 y.1 in
-    subst (λ l. FinishOk (alt s t) n m up h a v (finished (epilogue_below l) v)) (sym (path_other s t n m a up away)) (alt_right s t n m up h a v _ c o H away r)
+    let b : NoBraces (alt s t) ⊎ SameBraces v (finished (epilogue_below up) v) = elim c [ inl f ↦ inl f | inr g ↦ inr (finished_braces up v g) ] in
+    subst (λ l. FinishOk (alt s t) n m up h a v (finished (epilogue_below l) v)) (sym (path_other s t n m a up away)) (alt_right out s t n m h (Ended a) v (finished (epilogue_below up) v) _ (signals up) (finished_one up v) (omega (arith, out_before s h (Ended a ∷ []) (away, tt))) b o H (away, tt) r)
 finish_ok (burst bd s) nr nn n m a up (inl f) o k h v H x y = absurd f
 finish_ok (burst bd s) nr nn n m a up (inr c) o k h v H x y =
     let r = finish_ok s nr (flat_fits s nn.0) n (m + 1) a (Within bd m ∷ up) (inl nn.0) o k h v H.0 (steady_flat s nn.0 h) (steady_flat s nn.0 _) in

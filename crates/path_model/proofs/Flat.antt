@@ -10,7 +10,7 @@ use Rattle.path_model.specs.AmongOthers.{values_among}
 use Rattle.path_model.specs.Legal.{Every}
 use Rattle.path_model.specs.Flat.{counted_braces, rank, HasBound, semaphores_in, Sited, sited, first_bound, bound_number, BracedAt, in_table, Table, TablePasses, table_started, table_finished, one_given, at_site, flat_changed, flat_from, owns, bound_openings, flat_opening, Shows, OneTableShowsAll}
 use Rattle.path_model.proofs.Upward.{has_names}
-use Rattle.path_model.proofs.Starts.{Out, put_other}
+use Rattle.path_model.proofs.Moves.{Out, put_other}
 use Rattle.path_model.proofs.FlatNumbers.{InTable, prologue_has, epilogue_has, rank_low, rank_apart, opening_out, opening_of, none_counted}
 
 -- the table v holds the path's own values w

@@ -6,7 +6,7 @@ use Rattle.path_model.specs.declared.ids.OpId.{OpId}
 use Rattle.path_model.specs.Trees.{Bound, any, most, Tree, op, seq, alt, burst, NoBraces, has}
 use Rattle.path_model.specs.Machine.{semicolons, braces, Above, LeftOf, RightOf, Within, above, Term, Plain, Braced, Counted, through, waits_on, signals, prologue_below, epilogue_below, prologue, epilogue, bound_at}
 use Rattle.path_model.specs.Flat.{bound_count, counted_braces, rank, IsBound, HasBound, bound_opening}
-use Rattle.path_model.proofs.Starts.{Out}
+use Rattle.path_model.proofs.Moves.{Out}
 use Rattle.path_model.proofs.OnePath.{bounds_out}
 
 -- the numbers in terms
@@ -239,38 +239,33 @@ opening_out (burst (most k) s) n i o =
     cond-false (i == n) k (bound_opening s (n + 1) i) (ne_eqb i n (λ z. elim o [ inl l ↦ omega (arith, l, z) | inr l ↦ omega (arith, l, z) ]))
     ∙ opening_out s (n + 1) i (elim o [ inl l ↦ inl (omega (arith, l)) | inr l ↦ inr (omega (arith, l)) ])
 
+-- of two trees side by side, the one without the braces adds nothing
+module _ (s t : Tree) (n m c i : ℕ) (e : i ≡ n + (rank s m c + rank t (m + braces s) c)) where
+  opening_first : HasBound s m c → (i ≡ n + rank s m c → bound_opening s n i ≡ bound_at s m c) → bound_opening s n i + bound_opening t (n + counted_braces s) i ≡ bound_at s m c + bound_at t (m + braces s) c
+  opening_first h own =
+      let k = bound_within s m c h in
+      let r = rank_before t (m + braces s) c (omega (arith, k.1)) in
+      let l = rank_low s m c h in
+      let x = own (omega (arith, e, r)) in
+      let y = opening_out t (n + counted_braces s) i (inl (omega (arith, e, r, l))) in
+      let z = bounds_out t (m + braces s) c (inl k.1) in
+      omega (arith, x, y, z)
+
+  opening_second : HasBound t (m + braces s) c → (i ≡ n + counted_braces s + rank t (m + braces s) c → bound_opening t (n + counted_braces s) i ≡ bound_at t (m + braces s) c) → bound_opening s n i + bound_opening t (n + counted_braces s) i ≡ bound_at s m c + bound_at t (m + braces s) c
+  opening_second h own =
+      let k = bound_within t (m + braces s) c h in
+      let r = rank_after s m c k.0 in
+      let x = own (omega (arith, e, r)) in
+      let y = opening_out s n i (inr (omega (arith, e, r))) in
+      let z = bounds_out s m c (inr k.0) in
+      omega (arith, x, y, z)
+
 pub opening_of : (s : Tree) (n m c i : ℕ) → HasBound s m c → i ≡ n + rank s m c → bound_opening s n i ≡ bound_at s m c
 opening_of (op a) n m c i h e = absurd h
-opening_of (seq s t) n m c i (inl h) e =
-    let k = bound_within s m c h in
-    let r = rank_before t (m + braces s) c (omega (arith, k.1)) in
-    let l = rank_low s m c h in
-    let x = opening_of s n m c i h (omega (arith, e, r)) in
-    let y = opening_out t (n + counted_braces s) i (inl (omega (arith, e, r, l))) in
-    let z = bounds_out t (m + braces s) c (inl k.1) in
-    omega (arith, x, y, z)
-opening_of (seq s t) n m c i (inr h) e =
-    let k = bound_within t (m + braces s) c h in
-    let r = rank_after s m c k.0 in
-    let x = opening_of t (n + counted_braces s) (m + braces s) c i h (omega (arith, e, r)) in
-    let y = opening_out s n i (inr (omega (arith, e, r))) in
-    let z = bounds_out s m c (inr k.0) in
-    omega (arith, x, y, z)
-opening_of (alt s t) n m c i (inl h) e =
-    let k = bound_within s m c h in
-    let r = rank_before t (m + braces s) c (omega (arith, k.1)) in
-    let l = rank_low s m c h in
-    let x = opening_of s n m c i h (omega (arith, e, r)) in
-    let y = opening_out t (n + counted_braces s) i (inl (omega (arith, e, r, l))) in
-    let z = bounds_out t (m + braces s) c (inl k.1) in
-    omega (arith, x, y, z)
-opening_of (alt s t) n m c i (inr h) e =
-    let k = bound_within t (m + braces s) c h in
-    let r = rank_after s m c k.0 in
-    let x = opening_of t (n + counted_braces s) (m + braces s) c i h (omega (arith, e, r)) in
-    let y = opening_out s n i (inr (omega (arith, e, r))) in
-    let z = bounds_out s m c (inr k.0) in
-    omega (arith, x, y, z)
+opening_of (seq s t) n m c i (inl h) e = opening_first s t n m c i e h (opening_of s n m c i h)
+opening_of (seq s t) n m c i (inr h) e = opening_second s t n m c i e h (opening_of t (n + counted_braces s) (m + braces s) c i h)
+opening_of (alt s t) n m c i (inl h) e = opening_first s t n m c i e h (opening_of s n m c i h)
+opening_of (alt s t) n m c i (inr h) e = opening_second s t n m c i e h (opening_of t (n + counted_braces s) (m + braces s) c i h)
 opening_of (burst any s) n m c i (inl h) e = absurd h.0
 opening_of (burst any s) n m c i (inr h) e =
     let k = bound_within s (m + 1) c h in

@@ -12,6 +12,7 @@ pub mod Burst
 pub mod Path
 pub mod Steady
 pub mod Upward
+pub mod Moves
 pub mod Starts
 pub mod Finishes
 pub mod OnePath
@@ -40,4 +41,5 @@ pub mod LabelExamples
 pub mod JournalExamples
 pub mod StuckExamples
 pub mod Unasked
+pub mod Threads
 pub mod CallerLemmas

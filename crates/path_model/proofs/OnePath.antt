@@ -9,7 +9,7 @@ use Rattle.path_model.specs.Trees.{Tree, op, seq, alt, burst, Names, NoRepeats, 
 use Rattle.path_model.proofs.Counts.{ins, outs, inn, out, May, May-names}
 use Rattle.path_model.proofs.Same.{May_weaken, inn_nil, out_nil}
 use Rattle.std.proofs.Common.{true, false, ◌↔◌}
-use Rattle.path_model.specs.Machine.{semicolons, braces, above, prologue_below, epilogue_below, Values, Passes, started, finished, opening, changed, values_from, values_after, CanPass, size, bound_at}
+use Rattle.path_model.specs.Machine.{Plain, semicolons, braces, above, prologue_below, epilogue_below, Values, Passes, started, finished, opening, changed, values_from, values_after, CanPass, size, bound_at}
 use Rattle.path_model.proofs.Steady.{out_began, inn_ended, Steady, inn_step}
 use Rattle.path_model.specs.Behaviour.{Behaves}
 use Rattle.path_model.specs.Histories.{begun, ended, InProgress}
@@ -19,8 +19,8 @@ use Rattle.path_model.proofs.Steady.{live_steady}
 use Rattle.path_model.proofs.Solo.{Meets}
 use Rattle.path_model.proofs.Upward.{Holds, pass_may}
 use Rattle.path_model.specs.BurstCounts.{Spare}
-use Rattle.path_model.proofs.Starts.{In, Out, spare_same, put_same, Effect, StartOk, start_ok}
-use Rattle.path_model.proofs.Finishes
+use Rattle.path_model.proofs.Moves.{In, Out, spare_same, put_same, Effect}
+use Rattle.path_model.proofs.Starts.{StartOk, start_ok}
 use Rattle.path_model.proofs.Finishes.{FinishOk, finish_ok}
 
 pub values_append : (s : Tree) (v : Values) (x y : List Event) → values_from s v (x ++ y) ≡ values_from s (values_from s v x) y
@@ -79,7 +79,7 @@ rooted_began s nr nn h v a r m = subst (λ l. Rooted s (h ++ Began a ∷ []) (st
     k : StartOk s 1 0 [] h a v w
     k = start_ok s nr nn 1 0 a [] (inr refl) (inl (omega arith)) (May-names s h (Began a) _ m) h v r.holds (inn s h ≤ out s h) m
 
-    own : Effect s 1 0 [] h a v w → w.semaphore 0 + inn s (h ++ Began a ∷ []) ≡ 1 + out s (h ++ Began a ∷ [])
+    own : Effect inn s 1 0 h (Began a) v (started (Plain 0) v) w → w.semaphore 0 + inn s (h ++ Began a ∷ []) ≡ 1 + out s (h ++ Began a ∷ [])
     own (inl e) = omega (arith, e.0, e.1.semaphores 0 (inl (omega arith)), r.own, out_began s h a)
     own (inr e) = elim (inn_step s nr nn h (Began a) m) [
       | inl q ↦ absurd (omega (arith, q, e.0))
@@ -95,7 +95,7 @@ rooted_ended s nr nn h v a r x y named = subst (λ l. Rooted s (h ++ Ended a ∷
     k : FinishOk s 1 0 [] h a v w
     k = finish_ok s nr nn 1 0 a [] (inr refl) (inl (omega arith)) named h v r.holds x y
 
-    own : Finishes.Effect s 1 0 [] h a v w → w.semaphore 0 + inn s (h ++ Ended a ∷ []) ≡ 1 + out s (h ++ Ended a ∷ [])
+    own : Effect out s 1 0 h (Ended a) v (finished (Plain 0) v) w → w.semaphore 0 + inn s (h ++ Ended a ∷ []) ≡ 1 + out s (h ++ Ended a ∷ [])
     own (inl e) = omega (arith, e.0, e.1.semaphores 0 (inl (omega arith)), r.own, inn_ended s h a)
     own (inr e) = omega (arith, e.0, e.1.semaphores 0 (inl (omega arith)), put_same v.semaphore 0 (v.semaphore 0 + 1), r.own, inn_ended s h a)
 

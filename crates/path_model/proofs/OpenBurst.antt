@@ -29,7 +29,7 @@ use Rattle.path_model.proofs.Path.{flat_fits, meets, Live, start, step, live_fro
 use Rattle.path_model.proofs.Steady.{live_steady}
 use Rattle.path_model.proofs.Upward.{Holds, pass_may, through_passes, has_names, names_has, path_in}
 use Rattle.path_model.proofs.OnePath.{rooted}
-use Rattle.path_model.proofs.Starts.{spare_same}
+use Rattle.path_model.proofs.Moves.{spare_same}
 use Rattle.path_model.proofs.Sums.{nil_or}
 use Rattle.path_model.proofs.Labelled.{inside_names, inside_flat, inside_once, inside_fits, inside_balanced, inside_foreign, unfinished_many, standing_many}
 use Rattle.path_model.proofs.Labelled

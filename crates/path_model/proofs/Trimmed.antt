@@ -13,7 +13,7 @@ use Rattle.path_model.specs.Legal.{Every, First, NoneOf, Legal, Forbids}
 use Rattle.path_model.specs.AllPaths.{Judged, Running, after, Blocks}
 use Rattle.path_model.specs.Trimmed.{is_burst, nothing, does, limits, same_bound, lean, lean_prologue, LeanPasses, lean_started, lean_finished, lean_changed, lean_among, same_tree, stands_in, kept, lean_moved, lean_run, lean_opened, lean_after, LeanBlocks, Trims, EachPathTrims, SameAnswers, TrimmingKeepsAnswers, TrimmedAdmitsTheWords}
 use Rattle.path_model.proofs.Counts.{op_same}
-use Rattle.path_model.proofs.Starts.{put_same, put_other}
+use Rattle.path_model.proofs.Moves.{put_same, put_other}
 use Rattle.path_model.proofs.AllPaths.{every_map, first_same, none_same, on_tree, placed, after_placed, first_to, first_from, every_to, every_from, every_both, now, blocks_forbids, all_paths_judge}
 
 true_false : true ≡ false → ⊥

@@ -20,6 +20,7 @@ pub mod Declarations
 pub mod Devices
 pub mod Journals
 pub mod Contents
+pub mod Rooms
 pub mod Owed
 pub mod Honest
 pub mod Asked

@@ -1,10 +1,21 @@
 //! Attempts of workers, their replies, and the lines that record them.
 
+ghost use Rattle.std.specs.Prelude.{IsTrue, IsFalse};
+ghost use Rattle.path_model.specs.Rooms.{IsRoom, IsBadRoom};
+
 use crate::ids::{ActId, OpId, PathId};
 use std::alloc::{Allocator, Global};
 
 /// The most lines that a journal may have room for.
 pub const MOST_LINES: u32 = 1048576;
+
+/// Whether a journal can have room for this many lines: 1 to [`MOST_LINES`].
+pub fn is_room(lines: u32) -> bool
+    ensures room { IsTrue result → IsRoom lines }
+    ensures bad { IsFalse result → IsBadRoom lines }
+{
+    lines > 0 && lines <= MOST_LINES
+}
 
 /// A request to the device of a resource.
 #[derive(Clone, Copy, Debug, PartialEq, Eq)]

@@ -15,7 +15,7 @@ pub mod tree;
 
 pub use history::Event;
 pub use ids::{ActId, OpId, PathId, ResId};
-pub use journal::{Activation, Attempt, JournalText, Line, MOST_LINES, Reply, Verb};
+pub use journal::{Activation, Attempt, JournalText, Line, MOST_LINES, Reply, Verb, is_room};
 pub use memory::OutOfMemory;
 pub use resource::Law;
 pub use tree::Expr;

@@ -9,7 +9,7 @@ use Rattle.path_model.specs.Declarations.{Resource, Operation, Path, Declaration
 use Rattle.path_decl.specs.Forms.{Form, ResourceForm, all_operations}
 use Rattle.path_decl.specs.Declares.{AreResourcesOf, operations_from, paths_from, ArePathsOf, Declares}
 use Rattle.path_print.specs.Printed.{resources_pieces, law_pieces, names_at, trees_at, paths_pieces, declaration_pieces}
-use Rattle.path_print.specs.PrintedSteps.{here, after, names_here, operations_after, trees_here, paths_after}
+use Rattle.path_print.specs.Inner.PrintedSteps.{here, after, names_here, operations_after, trees_here, paths_after}
 use Rattle.path_print.proofs.PrintedWalk.{walked}
 use Rattle.path_print.proofs.PrintedForms.{tree_form, printed_law, path_forms, law_form, resource_forms}
 

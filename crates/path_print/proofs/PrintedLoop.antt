@@ -7,7 +7,7 @@ use Rattle.path_model.specs.Declarations.{Resource, Operation, Path, Declaration
 use Rattle.path_lex.specs.Spelling.{Piece, reserved}
 use Rattle.path_lex.specs.declared.token.Reserved.TheVariants as words
 use Rattle.path_print.specs.Printed.{piece_text, spaced, laid, head_pieces, law_pieces, names_pieces, paths_pieces, resource_pieces}
-use Rattle.path_print.specs.PrintedSteps.{names_here, operations_after, trees_here, paths_after, joined}
+use Rattle.path_print.specs.Inner.PrintedSteps.{names_here, operations_after, trees_here, paths_after, joined}
 use Rattle.path_print.proofs.PrintedBytes.{spaced-append}
 use Rattle.path_print.proofs.PrintedWalk.{from_at, walked}
 

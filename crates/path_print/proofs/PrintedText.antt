@@ -4,7 +4,7 @@ use Rattle.path_model.specs.Declarations.{Declaration}
 use Rattle.path_decl.specs.Grammar.{IsFile}
 use Rattle.path_decl.specs.Text.{IsDeclarationText, IsDeclared}
 use Rattle.path_print.specs.Printed.{laid, declaration_pieces, printed}
-use Rattle.path_print.specs.PrintedSteps.{joined}
+use Rattle.path_print.specs.Inner.PrintedSteps.{joined}
 use Rattle.path_print.proofs.PrintedForms.{resource_forms}
 use Rattle.path_print.proofs.PrintedAgain.{file_again}
 use Rattle.path_print.proofs.PrintedGroups.{walked-declared, declaration_pieces-walked}

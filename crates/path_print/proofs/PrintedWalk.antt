@@ -9,7 +9,7 @@ use Rattle.path_lex.specs.Spelling.{Piece}
 use Rattle.path_print.specs.Printed.{spaced, resource_pieces, names_pieces, more_names, paths_pieces, path_pieces, tree_pieces}
 use Rattle.path_print.specs.declared.printer.Place.TheVariants.{InSeq}
 use Rattle.path_print.proofs.PrintedBytes.{spaced-append, spaced-path}
-use Rattle.path_print.specs.PrintedSteps.{here, after, names_here, operations_after, trees_here, paths_after}
+use Rattle.path_print.specs.Inner.PrintedSteps.{here, after, names_here, operations_after, trees_here, paths_after}
 
 some_is : {X : Type 0} {m n : X} → Some m ≡ Some n → m ≡ n
 some_is e = cc

@@ -6,7 +6,7 @@ ghost use Rattle.path_model.specs.Trees.{shape};
 ghost use Rattle.path_model.specs.Declarations.{Resource};
 ghost use Rattle.path_decl.specs.Text.{IsDeclarationText};
 ghost use Rattle.path_print.specs.Printed.{head_pieces, law_pieces, names_pieces, tree_pieces, paths_pieces, printed};
-ghost use Rattle.path_print.specs.PrintedSteps.{names_here, operations_after, trees_here, paths_after, Writes, joined};
+ghost use Rattle.path_print.specs.Inner.PrintedSteps.{names_here, operations_after, trees_here, paths_after, Writes, joined};
 
 use path_decl::{
     Decl, counts, law_of, op_name, path_resource, resource_name, resource_of, tree_of,

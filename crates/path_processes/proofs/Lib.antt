@@ -1,3 +1,4 @@
 pub mod EndLemmas
 pub mod RunLemmas
 pub mod TextLemmas
+pub mod Endings

@@ -4,6 +4,10 @@ use Rattle.path_model.specs.Declarations.{Declaration}
 use Rattle.path_model.specs.Honest.{IsHonest}
 use Rattle.path_shelf.specs.States.{State}
 use Rattle.path_system.specs.Accounts.{Account, account_of, contents_of}
+use Rattle.path_system.specs.Faults.{IsOpenFault}
+use Rattle.path_system.specs.declared.fault.OpenFault.{OpenFault}
+use Rattle.path_system.specs.declared.fault.OpenFault.TheVariants as openings
+use Rattle.path_streams.specs.Statuses.{open_status}
 use Rattle.path_workers.specs.Attempts.{Held}
 use Rattle.path_workers.specs.Later.{IsLater}
 use Rattle.path_workers.specs.Settled.{IsSettled}
@@ -11,7 +15,14 @@ use Rattle.path_script.specs.Scripts.{Plan}
 use Rattle.path_run.specs.declared.outcome.End.{End}
 use Rattle.path_run.specs.Runs.{EachRuns}
 use Rattle.path_run.specs.Lines.{EachIsOrderly, EachIsBlockedNow}
-use Rattle.path_processes.specs.RunTexts.{IsRunOf}
+use Rattle.path_processes.specs.RunTexts.{IsRunOf, IsUnrun}
+
+-- a system that can't be opened runs nothing
+pub open_refused : (d : Declaration) (states : List State) (room : ℕ) (f : OpenFault) → IsOpenFault room states d f → IsUnrun d states room (open_status f)
+open_refused d states room openings.BadRoom is = (openings.BadRoom, (λ e. cc), is)
+open_refused d states room openings.WrongCount is = (openings.WrongCount, (λ e. cc), is)
+open_refused d states room (openings.WrongDevice r) is = (openings.WrongDevice r, (λ e. cc), is)
+open_refused d states room openings.OutOfMemory is = tt
 
 -- what a run leaves over a system that was just opened
 module _ (d : Declaration) (states : List State) (room : ℕ) (opened last : Account) (new : opened ≡ account_of d room states) (later : IsLater opened last) where

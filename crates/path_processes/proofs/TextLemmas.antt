@@ -1,5 +1,5 @@
 -- What was written of a run, and for what a script is refused.
-use Rattle.std.proofs.Common.{◌≡◌, ◌≢◌, ℕ, List, [], Option, Some, ◌⊎◌, inl, inr, ap, ◌∙◌, subst, sym}
+use Rattle.std.proofs.Common.{◌≡◌, ◌≢◌, ℕ, List, [], ◌++◌, Option, Some, ◌⊎◌, inl, inr, ap, ◌∙◌, subst, sym}
 use Rattle.std.specs.Io.KnownBytes.{Appends, Keeps}
 use Rattle.std.proofs.lemmas.List.{append-nil}
 use Rattle.path_model.specs.declared.journal.Line.{Line}
@@ -73,8 +73,20 @@ module _ (d other : Declaration) (states : List State) (room : ℕ) (script : Li
   wrote_front old new wrote = (wrote.0, front_so wrote.0 wrote.1, wrote.2)
 
 -- over the program's own devices
-pub unsound_texts : (d : Declaration) (declaration : List ℕ) (states : List State) (room : ℕ) (script : List ℕ) (old new : Option (List ℕ)) → IsDeclarationText declaration d → states ≡ own_states d
-    → Keeps old new ⊎ AppendsSome old new (IsRunText d states room script NotAllDone) → Keeps old new ⊎ AppendsSome old new (IsRunOfTexts declaration room script NotAllDone)
-unsound_texts d declaration states room script old new declares own (inl kept) = inl kept
-unsound_texts d declaration states room script old new declares own (inr wrote) =
-    inr (wrote.0, (d, declares, subst (λ (ss : List State). IsRunText d ss room script NotAllDone wrote.0) own wrote.1), wrote.2)
+module _ (d : Declaration) (declaration : List ℕ) (states : List State) (room : ℕ) (script : List ℕ) (old new : Option (List ℕ)) (declares : IsDeclarationText declaration d) (own : states ≡ own_states d) where
+  over_own : (ended : List End → Type 0) (bytes : List ℕ) → IsRunText d states room script ended bytes → IsRunOfTexts declaration room script ended bytes
+  over_own ended bytes is = (d, declares, subst (λ (ss : List State). IsRunText d ss room script ended bytes) own is)
+
+  pub run_texts : (ended : List End → Type 0) → AppendsSome old new (IsRunText d states room script ended) → AppendsSome old new (IsRunOfTexts declaration room script ended)
+  run_texts ended wrote = (wrote.0, over_own ended wrote.0 wrote.1, wrote.2)
+
+  pub unsound_texts : Keeps old new ⊎ AppendsSome old new (IsRunText d states room script NotAllDone) → Keeps old new ⊎ AppendsSome old new (IsRunOfTexts declaration room script NotAllDone)
+  unsound_texts (inl kept) = inl kept
+  unsound_texts (inr wrote) = inr (run_texts NotAllDone wrote)
+
+  front_over_own : (front : List ℕ) → IsFrontOf (IsRunText d states room script AnyEnds) front → IsFrontOf (IsRunOfTexts declaration room script AnyEnds) front
+  front_over_own front (inl none) = inl none
+  front_over_own front (inr (rest, is)) = inr (rest, over_own AnyEnds (front ++ rest) is)
+
+  pub front_texts : AppendsSome old new (IsFrontOf (IsRunText d states room script AnyEnds)) → AppendsSome old new (IsFrontOf (IsRunOfTexts declaration room script AnyEnds))
+  front_texts wrote = (wrote.0, front_over_own wrote.0 wrote.1, wrote.2)

@@ -10,10 +10,14 @@ use path_model::OutOfMemory;
 use path_run::End;
 use path_script::Process;
 use path_streams::Status;
-use std::alloc::Global;
+use std::alloc::Allocator;
 
 /// Appends how a process ended.
-fn push_end(text: &mut String, decl: &Decl, end: End) -> Result<(), OutOfMemory>
+fn push_end<A: Allocator + Copy>(
+    text: &mut String<A>,
+    decl: &Decl<A>,
+    end: End,
+) -> Result<(), OutOfMemory>
     ensures { OnOk result (string_bytes text.new ≡ string_bytes text.old ++ ended.end_text decl.now.declaration end) }
 {
     match end {
@@ -35,7 +39,12 @@ fn push_end(text: &mut String, decl: &Decl, end: End) -> Result<(), OutOfMemory>
 }
 
 /// Appends the line of a process: its name, `: `, and how it ended.
-fn push_line_of(text: &mut String, decl: &Decl, name: &str, end: End) -> Result<(), OutOfMemory>
+fn push_line_of<A: Allocator + Copy>(
+    text: &mut String<A>,
+    decl: &Decl<A>,
+    name: &str,
+    end: End,
+) -> Result<(), OutOfMemory>
     ensures { OnOk result (string_bytes text.new ≡ string_bytes text.old ++ ended.end_line decl.now.declaration name.now end) }
 {
     text.push_str(name)?;
@@ -47,12 +56,12 @@ fn push_line_of(text: &mut String, decl: &Decl, name: &str, end: End) -> Result<
 
 /// A line for each process, in order: its name, `: `, and how it ended. There is an end for each process. Fails only if allocation
 /// fails.
-pub fn ends_text(
-    alloc: Global,
-    decl: &Decl,
-    processes: &[Process],
+pub fn ends_text<A: Allocator + Copy>(
+    alloc: A,
+    decl: &Decl<A>,
+    processes: &[Process<A>],
     ends: &[End],
-) -> Result<String, OutOfMemory>
+) -> Result<String<A>, OutOfMemory>
     requires { length ends.now ≡ length processes.now }
     ensures { IfOk result (λ text. string_bytes text ≡ ended.ends_text decl.now.declaration processes.now ends.now) }
 {

@@ -3,12 +3,12 @@
 ghost use Rattle.std.specs.Prelude.{◌≡◌, ◌≢◌, ◌⊎◌, ◌++◌, Some, length, map, OnOk, IfOk, IfErr};
 ghost use Rattle.std.specs.String.{string_bytes};
 ghost use Rattle.std.specs.Io.KnownBytes.{Appends, Keeps};
-ghost use Rattle.path_journal.specs.JournalTexts.{IsRoom, lines_text};
+ghost use Rattle.path_model.specs.Rooms.{IsRoom, IsBadRoom};
+ghost use Rattle.path_journal.specs.JournalTexts.{lines_text};
 ghost use Rattle.path_journal.specs.JournalTexts as texts;
 ghost use Rattle.path_streams.specs.Refusals.{IsNoDeclaration};
 ghost use Rattle.path_streams.specs.Statuses.{status_of};
 ghost use Rattle.path_streams.specs.Writes.{AppendsSome, IsFrontOf};
-ghost use Rattle.path_system.specs.Faults.{IsBadRoom};
 ghost use Rattle.path_trace.specs.Traces.{IsUnopened};
 ghost use Rattle.path_processes.specs.Ends.{AllDone, AnyEnds, NotAllDone, IsStatusOf};
 ghost use Rattle.path_processes.specs.RunTexts.{IsBadScript, IsBadScriptUnder, IsRunOf, IsRunOfTexts, IsRunText, IsUnrun};
@@ -18,20 +18,23 @@ use path_decl::Decl;
 use path_journal::write_head;
 use path_lines::push_line;
 use path_model::{Line, OutOfMemory};
-use path_read::read;
 use path_run::{AlwaysOpen, End, Outcome, RunFault, run};
 use path_script::{Script, read_script};
 use path_shelf::Device;
 use path_streams::{Fault, Status, put_text, tell};
 use path_system::System;
-use path_trace::own_devices;
-use std::alloc::Global;
+use path_trace::read_own;
+use std::alloc::Allocator;
 use std::io::Write;
 use std::sync::Wait;
 use std::thread::Threads;
 
 /// Appends lines of a journal, each with a line feed.
-fn push_lines(text: &mut String, decl: &Decl, lines: &[Line]) -> Result<(), OutOfMemory>
+fn push_lines<A: Allocator + Copy>(
+    text: &mut String<A>,
+    decl: &Decl<A>,
+    lines: &[Line],
+) -> Result<(), OutOfMemory>
     ensures { OnOk result (string_bytes text.new ≡ string_bytes text.old ++ lines_text decl.now.declaration lines.now) }
 {
     for line in lines {
@@ -42,12 +45,12 @@ fn push_lines(text: &mut String, decl: &Decl, lines: &[Line]) -> Result<(), OutO
 }
 
 /// The text of a journal with room for that many lines, in version 2. Fails only if allocation fails.
-fn journal_text(
-    alloc: Global,
-    decl: &Decl,
+fn journal_text<A: Allocator + Copy>(
+    alloc: A,
+    decl: &Decl<A>,
     room: u32,
     lines: &[Line],
-) -> Result<String, OutOfMemory>
+) -> Result<String<A>, OutOfMemory>
     requires { IsRoom room }
     ensures { IfOk result (λ text. string_bytes text ≡ texts.journal_text decl.now.declaration (Some room) lines.now) }
 {
@@ -58,14 +61,14 @@ fn journal_text(
 }
 
 /// Opens a system over the devices, and runs the processes of a script under it.
-fn ran<D: Device + Send, R: Threads + Wait + Sync>(
+fn ran<D: Device + Send, A: Allocator + Copy + Send + Sync, R: Threads + Wait + Sync>(
     rt: &R,
-    alloc: Global,
-    decl: Decl,
-    devices: Vec<D>,
+    alloc: A,
+    decl: Decl<A>,
+    devices: Vec<D, A>,
     room: u32,
-    script: &Script,
-) -> Result<Outcome<System<D>>, Fault<'static>>
+    script: &Script<A>,
+) -> Result<Outcome<System<D, A>, A>, Fault<'static>>
     ensures room { OnOk result (IsRoom room) }
     ensures declaration { IfOk result (λ o. o.system.declaration ≡ decl.declaration) }
     ensures run { IfOk result (λ o. IsRunOf decl.declaration (map D.state devices.items) room script.now.processes
@@ -95,11 +98,11 @@ fn tell_ends<E: Write>(text: &[u8], ends: &[End], err: &mut E) -> Status
 }
 
 /// Writes the journal of a run on `out`, and how each process ended on `err`.
-fn tell_outcome<D: Device, O: Write, E: Write>(
-    alloc: Global,
+fn tell_outcome<D: Device, A: Allocator + Copy, O: Write, E: Write>(
+    alloc: A,
     room: u32,
-    script: &Script,
-    outcome: &Outcome<System<D>>,
+    script: &Script<A>,
+    outcome: &Outcome<System<D, A>, A>,
     out: &mut O,
     err: &mut E,
 ) -> Status
@@ -137,11 +140,17 @@ fn tell_outcome<D: Device, O: Write, E: Write>(
 /// written. A fault is one line on `err`.
 ///
 /// Waits for the processes, which wait for one another; nothing says that they end.
-pub fn run_to<D: Device + Send, R: Threads + Wait + Sync, O: Write, E: Write>(
+pub fn run_to<
+    D: Device + Send,
+    A: Allocator + Copy + Send + Sync,
+    R: Threads + Wait + Sync,
+    O: Write,
+    E: Write,
+>(
     rt: &R,
-    alloc: Global,
-    decl: Decl,
-    devices: Vec<D>,
+    alloc: A,
+    decl: Decl<A>,
+    devices: Vec<D, A>,
     room: u32,
     script: &[u8],
     out: &mut O,
@@ -180,9 +189,9 @@ pub fn run_to<D: Device + Send, R: Threads + Wait + Sync, O: Write, E: Write>(
 ///
 /// `DeclarationRefused`: the declaration is refused, which counts first, and nothing was written. The other statuses are those of
 /// [`run_to`].
-pub fn run_bytes<R: Threads + Wait + Sync, O: Write, E: Write>(
+pub fn run_bytes<A: Allocator + Copy + Send + Sync, R: Threads + Wait + Sync, O: Write, E: Write>(
     rt: &R,
-    alloc: Global,
+    alloc: A,
     declaration: &[u8],
     room: u32,
     script: &[u8],
@@ -207,12 +216,8 @@ pub fn run_bytes<R: Threads + Wait + Sync, O: Write, E: Write>(
     ensures memory { result ≡ Status.NoMemory → AppendsSome (O.contents out.old) (O.contents out.new)
         (IsFrontOf (IsRunOfTexts declaration.now room script.now AnyEnds)) }
 {
-    let decl = match read(alloc, declaration) {
-        Ok(decl) => decl,
-        Err(fault) => return tell(err, Fault::Declaration(fault)),
-    };
-    match own_devices(alloc, &decl) {
-        Ok(devices) => run_to(rt, alloc, decl, devices, room, script, out, err),
-        Err(OutOfMemory) => tell(err, Fault::OutOfMemory),
+    match read_own(alloc, declaration) {
+        Ok((decl, devices)) => run_to(rt, alloc, decl, devices, room, script, out, err),
+        Err(fault) => tell(err, fault),
     }
 }

@@ -3,10 +3,10 @@ use Rattle.std.proofs.Common.{◌≡◌, List, ◌++◌, sym, ap, ◌∙◌, sub
 use Rattle.std.specs.Result.{IsErrAnd, IsErrOf}
 use Rattle.path_lex.specs.declared.fault.DeclFault.{DeclFault}
 use Rattle.path_lex.specs.declared.fault.DeclFault.TheVariants as faults
-use Rattle.path_read.specs.Parts.{Saying}
-use Rattle.path_read.specs.Reading.{Fails}
-use Rattle.path_read.specs.Building.{AllAllowed, after_all}
-use Rattle.path_read.specs.Taking.{Taking, sound, broken, Follows}
+use Rattle.path_read.specs.Inner.Parts.{Saying}
+use Rattle.path_read.specs.Inner.Reading.{Fails}
+use Rattle.path_read.specs.Inner.Building.{AllAllowed, after_all}
+use Rattle.path_read.specs.Inner.Taking.{Taking, sound, broken, Follows}
 use Rattle.path_read.proofs.Taken.{after_all-append, allowed-append, allowed_front, allowed_back}
 
 pub fails_then : (e : DeclFault) {P Q : Type 0} → (P → Q) → Fails e P → Fails e Q

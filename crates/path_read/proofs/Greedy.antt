@@ -6,8 +6,8 @@ use Rattle.path_lex.specs.Spelling.{Piece, sign, reserved, name}
 use Rattle.path_decl.specs.Forms.{Form, LawForm, ResourceForm}
 use Rattle.path_decl.specs.Grammar as plain
 use Rattle.path_decl.specs.Grammar.{IsClosing, IsUnit, IsAlt, MoreUnits, IsSeq, MoreAlts, IsPath, ArePaths, AreNames, IsLaw, IsResource, IsFile}
-use Rattle.path_read.specs.Reading as greedy
-use Rattle.path_read.specs.Reading.{Begins, ReadsUnit, ReadsAlt, ReadsUnits, ReadsSeq, ReadsAlts, ReadsPath, ReadsPaths, ReadsMore, ReadsNames, ReadsBody, ReadsResource, ReadsResources, ReadsFile}
+use Rattle.path_read.specs.Inner.Reading as greedy
+use Rattle.path_read.specs.Inner.Reading.{Begins, ReadsUnit, ReadsAlt, ReadsUnits, ReadsSeq, ReadsAlts, ReadsPath, ReadsPaths, ReadsMore, ReadsNames, ReadsBody, ReadsResource, ReadsResources, ReadsFile}
 
 abbrev NoComma : List Piece → Type 0
 NoComma ts = Begins (sign signs.Comma) ts → ⊥

@@ -4,7 +4,7 @@ use Rattle.path_lex.specs.declared.token.Reserved.TheVariants as words
 use Rattle.path_lex.specs.Spelling.{Piece, reserved, number}
 use Rattle.path_decl.specs.Forms.{LawForm, a_cell, a_tally, a_queue}
 use Rattle.path_decl.specs.Grammar.{IsLaw, by_cell, by_tally, by_queue}
-use Rattle.path_read.specs.Reading.{Begins}
+use Rattle.path_read.specs.Inner.Reading.{Begins}
 use Rattle.path_read.proofs.Once.{Same}
 
 pub law_once : {ts r r' : List Piece} {l l' : LawForm} → IsLaw ts r l → IsLaw ts r' l' → Same r r' l l'

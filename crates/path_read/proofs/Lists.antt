@@ -8,13 +8,13 @@ use Rattle.std.proofs.Common.{Bool, true, false, length}
 use Rattle.std.specs.Prelude.{nat_eq}
 use Rattle.std.proofs.lemmas.Bool.Decides.{nat_tests}
 use Rattle.path_lex.specs.declared.token.Token.{Token}
-use Rattle.path_read.specs.Reading.{told}
+use Rattle.path_read.specs.Inner.Reading.{told}
 use Rattle.path_lex.specs.Spelling.{Piece, sign, reserved, name}
 use Rattle.path_decl.specs.Forms.{Form, LawForm, ResourceForm}
 use Rattle.path_decl.specs.Grammar.{IsLaw}
-use Rattle.path_read.specs.Parts.{Saying, a_resource, a_law, an_operation, a_path, an_end, form_parts, body_parts, path_parts, inner_parts, resource_parts, file_parts}
-use Rattle.path_read.specs.Reading.{Begins, ReadsSeq, ReadsPath, by_path, ReadsPaths, no_path, one_path, ReadsMore, no_name, one_name, ReadsNames, by_names, ReadsBody, by_body, ReadsResource, by_resource, ReadsResources, no_resource, one_resource, ReadsFile, by_file}
-use Rattle.path_read.specs.Taking.{Taking, Follows, Adds}
+use Rattle.path_read.specs.Inner.Parts.{Saying, a_resource, a_law, an_operation, a_path, an_end, form_parts, body_parts, path_parts, inner_parts, resource_parts, file_parts}
+use Rattle.path_read.specs.Inner.Reading.{Begins, ReadsSeq, ReadsPath, by_path, ReadsPaths, no_path, one_path, ReadsMore, no_name, one_name, ReadsNames, by_names, ReadsBody, by_body, ReadsResource, by_resource, ReadsResources, no_resource, one_resource, ReadsFile, by_file}
+use Rattle.path_read.specs.Inner.Taking.{Taking, Follows, Adds}
 use Rattle.path_read.proofs.Once.{Same, seq_once, same_tail}
 use Rattle.path_read.proofs.Following.{follows, follows_as}
 use Rattle.path_read.proofs.Laws.{NoLaw, law_once}

@@ -17,7 +17,7 @@ use Rattle.path_decl.specs.Grammar.{IsClosing, by_brace, by_bound, IsUnit, by_na
 use Rattle.path_decl.specs.Lawful.{IsDistinct}
 use Rattle.path_read.proofs.FormRules.{BracesFit, KeepsRules}
 use Rattle.path_decl.specs.Declares.{operations_from}
-use Rattle.path_read.specs.Building.{operation_names, law_from, LawFits, bound_of, BoundFits}
+use Rattle.path_read.specs.Inner.Building.{operation_names, law_from, LawFits, bound_of, BoundFits}
 use Rattle.path_decl.specs.Lawful.{names_count, NamesOwn, AreDistinctNames, CapacityFits, Lawful}
 use Rattle.path_read.proofs.NumeralLemmas.{value_of}
 use Rattle.path_read.proofs.Taken.{each-append, each_front, each_back, each_then, tree_in, IsOwn, fresh_distinct}

@@ -3,7 +3,7 @@ use Rattle.std.proofs.Common.{◌≡◌, ℕ, List, ◌∷◌, Option, refl, sym
 use Rattle.path_lex.specs.Spelling.{Piece}
 use Rattle.path_decl.specs.Forms.{Form, sequence, selection, braced}
 use Rattle.path_decl.specs.Grammar.{IsClosing, by_brace, by_bound}
-use Rattle.path_read.specs.Reading.{ReadsUnit, by_name, by_group, by_braces, ReadsAlt, by_units, ReadsUnits, no_unit, one_unit, ReadsSeq, by_alts, ReadsAlts, no_alt, one_alt}
+use Rattle.path_read.specs.Inner.Reading.{ReadsUnit, by_name, by_group, by_braces, ReadsAlt, by_units, ReadsUnits, no_unit, one_unit, ReadsSeq, by_alts, ReadsAlts, no_alt, one_alt}
 
 abbrev pub Same : {X : Type 0} → List Piece → List Piece → X → X → Type 0
 Same r r' x x' = (r ≡ r') × (x ≡ x')

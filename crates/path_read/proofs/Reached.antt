@@ -3,9 +3,9 @@ use Rattle.std.proofs.Common.{◌≡◌, ℕ, List, [], ◌∷◌, ◌++◌, ref
 use Rattle.path_lex.specs.declared.token.Sign.TheVariants as signs
 use Rattle.path_lex.specs.Spelling.{Piece, sign}
 use Rattle.path_decl.specs.Forms.{Form, sequence, selection}
-use Rattle.path_read.specs.Parts.{a_sequence, a_selection, form_parts}
-use Rattle.path_read.specs.Reading.{Begins, ReadsUnit, ReadsAlt, by_units, ReadsUnits, no_unit, one_unit, ReadsSeq, by_alts, ReadsAlts, no_alt, one_alt}
-use Rattle.path_read.specs.Taking.{Taking, Follows, Adds}
+use Rattle.path_read.specs.Inner.Parts.{a_sequence, a_selection, form_parts}
+use Rattle.path_read.specs.Inner.Reading.{Begins, ReadsUnit, ReadsAlt, by_units, ReadsUnits, no_unit, one_unit, ReadsSeq, by_alts, ReadsAlts, no_alt, one_alt}
+use Rattle.path_read.specs.Inner.Taking.{Taking, Follows, Adds}
 use Rattle.path_read.proofs.Once.{unit_once, alt_once, units_at, alts_at}
 use Rattle.path_read.proofs.Following.{follows}
 

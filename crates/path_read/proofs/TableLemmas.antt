@@ -11,7 +11,7 @@ use Rattle.path_model.specs.declared.ids.ResId.{ResId}
 use Rattle.path_model.specs.declared.resource.Law.{Law}
 use Rattle.path_model.specs.Trees.{Tree}
 use Rattle.indexmap.specs.IndexMap.{set_value_at}
-use Rattle.path_read.specs.Building.{with_law, place_of, number_of}
+use Rattle.path_read.specs.Inner.Building.{with_law, place_of, number_of}
 use Rattle.path_decl.specs.Table.{names_of, operation_shown, operations_of, resource_shown, resources_of}
 pub use Rattle.path_decl.proofs.CallerLemmas.{is_named, has_name, lacks_name, later, is_place, names_of_operations, names_of_resources}
 

@@ -4,9 +4,9 @@ use Rattle.path_lex.specs.declared.token.Sign.TheVariants as signs
 use Rattle.path_lex.specs.Spelling.{Piece, sign, name, number}
 use Rattle.path_decl.specs.Forms.{Form, once, braced}
 use Rattle.path_decl.specs.Grammar.{IsClosing, by_brace, by_bound}
-use Rattle.path_read.specs.Parts.{a_name, an_opening, a_closing, form_parts}
-use Rattle.path_read.specs.Reading.{Begins, ReadsUnit, by_name, by_group, by_braces, ReadsBraces, ReadsSeq}
-use Rattle.path_read.specs.Taking.{Taking, Follows, Adds}
+use Rattle.path_read.specs.Inner.Parts.{a_name, an_opening, a_closing, form_parts}
+use Rattle.path_read.specs.Inner.Reading.{Begins, ReadsUnit, by_name, by_group, by_braces, ReadsBraces, ReadsSeq}
+use Rattle.path_read.specs.Inner.Taking.{Taking, Follows, Adds}
 use Rattle.path_read.proofs.Once.{seq_once, closing_at}
 use Rattle.path_read.proofs.Following.{follows}
 

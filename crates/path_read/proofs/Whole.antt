@@ -8,12 +8,12 @@ use Rattle.path_lex.specs.declared.fault.DeclFault.TheVariants as faults
 use Rattle.path_lex.specs.Spelling.{Piece, Placed, pieces, AreTokensOf}
 use Rattle.path_decl.specs.Forms.{ResourceForm}
 use Rattle.path_decl.specs.Grammar.{IsFile}
-use Rattle.path_read.specs.Parts.{file_parts}
-use Rattle.path_read.specs.Reading.{Fails}
+use Rattle.path_read.specs.Inner.Parts.{file_parts}
+use Rattle.path_read.specs.Inner.Reading.{Fails}
 use Rattle.path_read.specs.Refused.{Refuses}
 use Rattle.path_decl.specs.Text.{IsDeclarationText}
 use Rattle.path_decl.specs.Lawful.{Lawful}
-use Rattle.path_read.specs.Building.{Drafted, nothing, declared_by, AllAllowed, after_all}
+use Rattle.path_read.specs.Inner.Building.{Drafted, nothing, declared_by, AllAllowed, after_all}
 use Rattle.path_read.proofs.Lists.{file_once}
 use Rattle.path_read.proofs.Greedy.{reads_file}
 use Rattle.path_read.proofs.Files.{after_file, file_kept}

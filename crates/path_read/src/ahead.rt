@@ -4,8 +4,8 @@ ghost use Rattle.std.specs.Prelude.{◌≡◌, ℕ, ◌<◌, List, ◌∷◌, le
 ghost use Rattle.path_lex.specs.Spelling.{Piece, sign as a_sign, reserved as a_word, name as a_name, number as a_number};
 ghost use Rattle.path_decl.specs.Forms.{LawForm};
 ghost use Rattle.path_decl.specs.Grammar.{IsLaw};
-ghost use Rattle.path_read.specs.Parts.{law_said};
-ghost use Rattle.path_read.specs.Reading.{told, Begins, Fails};
+ghost use Rattle.path_read.specs.Inner.Parts.{law_said};
+ghost use Rattle.path_read.specs.Inner.Reading.{told, Begins, Fails};
 
 use crate::part::LawText;
 use path_lex::{DeclFault, Reserved, Sign, Token};

@@ -3,11 +3,11 @@
 ghost use Rattle.std.specs.Prelude.{◌≡◌, ◌<◌, ◌≤◌, ◌∷◌, ◌↔◌, All, length, Contains, Some, None, IsTrue, IfOk, OnOk, IfErr};
 ghost use Rattle.path_model.specs.Trees.{shape};
 ghost use Rattle.path_decl.specs.Lawful.{IsDistinct};
-ghost use Rattle.path_decl.specs.LawfulOnce.{IsDistinct-prop};
+ghost use Rattle.path_decl.specs.Inner.LawfulOnce.{IsDistinct-prop};
 ghost use Rattle.path_decl.specs.Table.{names_of};
-ghost use Rattle.path_read.specs.Parts.{law_said, saying, a_resource, a_law, an_operation, a_path, a_name};
-ghost use Rattle.path_read.specs.Parts.{a_sequence, a_selection, an_opening, a_closing, an_end};
-ghost use Rattle.path_read.specs.Reading.{Fails};
+ghost use Rattle.path_read.specs.Inner.Parts.{law_said, saying, a_resource, a_law, an_operation, a_path, a_name};
+ghost use Rattle.path_read.specs.Inner.Parts.{a_sequence, a_selection, an_opening, a_closing, an_end};
+ghost use Rattle.path_read.specs.Inner.Reading.{Fails};
 
 use crate::law::law_at;
 use crate::numeral::number_up_to;
@@ -63,7 +63,7 @@ fn has_name<V, A: Allocator + Copy>(names: &Names<V, A>, name: &str) -> bool
 }
 
 impl<A: Allocator + Copy> Draft<A> {
-    ghost use Rattle.path_read.specs.Building.{drafted, nothing, HasOne, Allowed, after};
+    ghost use Rattle.path_read.specs.Inner.Building.{drafted, nothing, HasOne, Allowed, after};
 
     /// A draft in which nothing is declared.
     pub(crate) fn new(alloc: A) -> Draft<A>

@@ -4,9 +4,9 @@ ghost use Rattle.std.specs.Prelude.{ℕ, ◌<◌, List, [], ◌∷◌, Option, l
 ghost use Rattle.path_lex.specs.Spelling.{Piece};
 ghost use Rattle.path_decl.specs.Forms.{Form};
 ghost use Rattle.path_decl.specs.Grammar.{IsClosing};
-ghost use Rattle.path_read.specs.Parts.{a_closing, form_parts};
-ghost use Rattle.path_read.specs.Reading.{told, Fails, ReadsUnit, ReadsBraces, ReadsAlt, ReadsSeq};
-ghost use Rattle.path_read.specs.Taking.{taken, Adds};
+ghost use Rattle.path_read.specs.Inner.Parts.{a_closing, form_parts};
+ghost use Rattle.path_read.specs.Inner.Reading.{told, Fails, ReadsUnit, ReadsBraces, ReadsAlt, ReadsSeq};
+ghost use Rattle.path_read.specs.Inner.Taking.{taken, Adds};
 
 use crate::ahead::{after_sign, expect_number, place, split_name};
 use crate::intake::Intake;

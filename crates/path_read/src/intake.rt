@@ -1,9 +1,9 @@
 //! Takes the parts of a text.
 
 ghost use Rattle.std.specs.Prelude.{◌≡◌, [], ◌∷◌, IfOk, IfErr};
-ghost use Rattle.path_read.specs.Parts.{saying};
-ghost use Rattle.path_read.specs.Building.{drafted, nothing};
-ghost use Rattle.path_read.specs.Taking.{sound, broken, taken, Follows};
+ghost use Rattle.path_read.specs.Inner.Parts.{saying};
+ghost use Rattle.path_read.specs.Inner.Building.{drafted, nothing};
+ghost use Rattle.path_read.specs.Inner.Taking.{sound, broken, taken, Follows};
 
 use crate::draft::Draft;
 use crate::part::Part;

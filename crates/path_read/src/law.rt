@@ -1,9 +1,9 @@
 //! The laws of resources.
 
 ghost use Rattle.std.specs.Prelude.{◌≡◌, IfOk, IfErr};
-ghost use Rattle.path_read.specs.Parts.{law_said};
-ghost use Rattle.path_read.specs.Building.{law_from, LawFits};
-ghost use Rattle.path_read.specs.Reading.{Fails};
+ghost use Rattle.path_read.specs.Inner.Parts.{law_said};
+ghost use Rattle.path_read.specs.Inner.Building.{law_from, LawFits};
+ghost use Rattle.path_read.specs.Inner.Reading.{Fails};
 
 use crate::numeral::number_up_to;
 use crate::part::LawText;

@@ -4,10 +4,10 @@ ghost use Rattle.std.specs.Prelude.{◌≡◌, ℕ, ◌<◌, List, [], ◌∷◌
 ghost use Rattle.path_lex.specs.Spelling.{Piece};
 ghost use Rattle.path_decl.specs.Forms.{Form, LawForm, ResourceForm};
 ghost use Rattle.path_decl.specs.Grammar.{IsLaw, IsFile};
-ghost use Rattle.path_read.specs.Parts.{a_law, an_operation, body_parts, inner_parts, resource_parts, file_parts};
-ghost use Rattle.path_read.specs.Reading.{told, Fails, ReadsNames, ReadsPath, ReadsBody, ReadsResource};
-ghost use Rattle.path_read.specs.Building.{drafted, nothing, AllAllowed, after_all};
-ghost use Rattle.path_read.specs.Taking.{taken, Adds};
+ghost use Rattle.path_read.specs.Inner.Parts.{a_law, an_operation, body_parts, inner_parts, resource_parts, file_parts};
+ghost use Rattle.path_read.specs.Inner.Reading.{told, Fails, ReadsNames, ReadsPath, ReadsBody, ReadsResource};
+ghost use Rattle.path_read.specs.Inner.Building.{drafted, nothing, AllAllowed, after_all};
+ghost use Rattle.path_read.specs.Inner.Taking.{taken, Adds};
 
 use crate::ahead::{after_sign, after_word, expect_law, expect_name, expect_word, place};
 use crate::draft::Draft;

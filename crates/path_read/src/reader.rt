@@ -4,7 +4,7 @@ ghost use Rattle.std.specs.Prelude.{◌≡◌, ◌⊎◌, ℕ, ◌<◌, ◌≤�
 ghost use Rattle.path_lex.specs.Bytes.{IsFirstBad};
 ghost use Rattle.path_lex.specs.Spelling.{IsFirstLongWord, IsFirstLongNumber};
 ghost use Rattle.path_decl.specs.Text.{IsDeclarationText, IsDeclared};
-ghost use Rattle.path_read.specs.Building.{drafted, declared_by};
+ghost use Rattle.path_read.specs.Inner.Building.{drafted, declared_by};
 ghost use Rattle.path_read.specs.Refused.{Refuses};
 
 use crate::draft::Draft;

@@ -10,7 +10,7 @@ use Rattle.path_run.specs.declared.outcome.End.{End}
 use Rattle.path_run.specs.declared.outcome.End.TheVariants as ends
 use Rattle.path_run.specs.Runs.{Finishes, IsRun}
 use Rattle.path_run.specs.Runs.IsRun.{done, gave_up}
-use Rattle.path_run.specs.Parts.{Adds, After, Closes}
+use Rattle.path_run.specs.Inner.Parts.{Adds, After, Closes}
 
 -- what has come of the steps before a place
 abbrev pub Goes : List Step → ℕ → List ActId → List Receipt → Type 0

@@ -19,7 +19,7 @@ use Rattle.path_run.specs.declared.outcome.End.TheVariants as ends
 use Rattle.path_run.specs.Runs.{note, Asks, IsFault, IsRun}
 use Rattle.path_run.specs.Runs.Asks.{enters, uses, leaves}
 use Rattle.path_run.specs.Runs.IsRun.{entered, blocked, used, left, stalled, faulted, gave_up}
-use Rattle.path_run.specs.Parts.{Gains, Adds, Closes, AreTries}
+use Rattle.path_run.specs.Inner.Parts.{Gains, Adds, Closes, AreTries}
 
 -- there is a receipt where the reply isn't for want of room
 gained_one : (attempt : Attempt) (q : Reply) (g : List Receipt) → Gains attempt q g → q ≢ NoRoom → (place : ℕ) × (g ≡ note place attempt q ∷ [])

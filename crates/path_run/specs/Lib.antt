@@ -1,5 +1,5 @@
 pub mod Runs
-pub mod Parts
 pub mod Lines
 pub mod Unsettled
 pub mod Waiting
+pub mod Inner

@@ -4,7 +4,7 @@ ghost use Rattle.std.specs.Prelude.{◌≡◌, ◌∷◌, ◌++◌, List, MatchR
 ghost use Rattle.path_model.specs.declared.ids.ActId.{ActId as Act};
 ghost use Rattle.path_script.specs.declared.script.Step.TheVariants as steps;
 ghost use Rattle.path_workers.specs.declared.answer.Receipt.{Receipt as Note};
-ghost use Rattle.path_run.specs.Parts.{Adds, Closes, AreTries, HasTried};
+ghost use Rattle.path_run.specs.Inner.Parts.{Adds, Closes, AreTries, HasTried};
 
 use crate::floor::{Floor, told};
 use crate::outcome::End;

@@ -3,7 +3,7 @@
 ghost use Rattle.std.specs.Prelude.{◌≡◌, ◌≢◌, ◌+◌, ◌-◌, min, [], ◌++◌, List, true, false, IsOk, MatchResult};
 ghost use Rattle.path_workers.specs.Attempts.{finishes_open};
 ghost use Rattle.path_workers.specs.declared.answer.Receipt.{Receipt as Note};
-ghost use Rattle.path_run.specs.Parts.{Gains};
+ghost use Rattle.path_run.specs.Inner.Parts.{Gains};
 ghost use Rattle.path_run.specs.Waiting.{IsMarked};
 
 use path_model::{Attempt, OutOfMemory, Reply};

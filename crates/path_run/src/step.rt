@@ -6,7 +6,7 @@ ghost use Rattle.path_model.specs.declared.ids.ActId.{ActId as Act};
 ghost use Rattle.path_script.specs.declared.script.Step.TheVariants as steps;
 ghost use Rattle.path_script.specs.Scripts.{MayStep, entered_after};
 ghost use Rattle.path_workers.specs.declared.answer.Receipt.{Receipt as Note};
-ghost use Rattle.path_run.specs.Parts.{Gains, Adds, Closes};
+ghost use Rattle.path_run.specs.Inner.Parts.{Gains, Adds, Closes};
 
 use crate::enter::enter;
 use crate::entered::Entered;

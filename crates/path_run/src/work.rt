@@ -5,7 +5,7 @@ ghost use Rattle.path_model.specs.declared.ids.ActId.{ActId as Act};
 ghost use Rattle.path_script.specs.Scripts.{IsBalanced};
 ghost use Rattle.path_workers.specs.declared.answer.Receipt.{Receipt as Note};
 ghost use Rattle.path_run.specs.Runs.{Finishes, IsRun};
-ghost use Rattle.path_run.specs.Parts.{After};
+ghost use Rattle.path_run.specs.Inner.Parts.{After};
 
 use crate::entered::Entered;
 use crate::floor::Floor;

@@ -1,12 +1,9 @@
 -- The reply of the parts of a system is owed by its journal.
-use Rattle.std.proofs.Common.{◌≡◌, ℕ, ◌+◌, ◌<◌, ◌≤◌, Bool, true, false, cond, List, [], ◌∷◌, ◌++◌, All, length, arith, refl, ap, sym, subst, ◌∙◌, Option, Some, None, Result, Ok, Err, inl, inr}
-use Rattle.std.specs.Prelude.{◌==◌}
+use Rattle.std.proofs.Common.{◌≡◌, ℕ, ◌+◌, ◌<◌, ◌≤◌, Bool, true, false, List, [], ◌∷◌, ◌++◌, length, arith, refl, ap, sym, subst, ◌∙◌, Option, Some, None, Result, Ok, Err, inl, inr}
 use Rattle.std.proofs.lemmas.List.{length-map}
 use Rattle.std.proofs.lemmas.Bool.{cases_eq}
-use Rattle.std.proofs.lemmas.List.Elements.{All-tail}
 use Rattle.path_model.specs.declared.ids.OpId.{OpId}
 use Rattle.path_model.specs.declared.ids.ActId.{ActId}
-use Rattle.path_model.specs.declared.history.Event.{Event}
 use Rattle.path_model.specs.declared.history.Event.TheVariants.{Began}
 use Rattle.path_model.specs.declared.journal.Verb.{Verb}
 use Rattle.path_model.specs.declared.journal.Attempt.{Attempt}
@@ -15,7 +12,6 @@ use Rattle.path_model.specs.declared.journal.Reply.{Reply}
 use Rattle.path_model.specs.declared.journal.Reply.TheVariants.{Started, Blocked, UnknownOperation, NoRoom}
 use Rattle.path_model.specs.declared.journal.Line.{Line}
 use Rattle.path_model.specs.declared.journal.Activation.{Activation}
-use Rattle.path_model.specs.Trees.{Tree}
 use Rattle.path_model.specs.Legal as legal
 use Rattle.path_model.specs.Declarations.{Resource, paths_of, resource_of, law_of}
 use Rattle.path_model.specs.Devices.{outcome_of}
@@ -23,28 +19,13 @@ use Rattle.path_model.specs.Journals.{live, activation_of, admitted_history}
 use Rattle.path_model.specs.Owed.{by_words, taken, IsOwn, OwedToStart, OwedToUse, OwedToFinish, Owed, outcome_for}
 use Rattle.path_model.specs.Contents.{contents_after}
 use Rattle.path_model.proofs.CallerLemmas.{each_honest_journal_is_legal, live_in_progress}
+use Rattle.path_gate.specs.Places.{has_room, is_own_of}
+use Rattle.path_gate.proofs.CallerLemmas.{roomy, not_roomy, roomy_or, not_roomy_or, not_own, own_or_other, none_forbids, found_declared}
 use Rattle.path_shelf.specs.declared.device.ActFault.{ActFault}
 use Rattle.path_shelf.specs.declared.device.ActFault.TheVariants as faults
 use Rattle.path_shelf.specs.States.{State, Acts, state_at}
 use Rattle.path_shelf.proofs.CallerLemmas.{law_at, would_serve}
-use Rattle.path_system.specs.Parts.{PartsValue, as_reply, MovesStart, MovesUse, MovesFinish, Moves, has_room, is_own_of, Answers, AreReady, AreTrueTo}
-use Rattle.path_system.proofs.Tested.{roomy, not_roomy, roomy_or, not_roomy_or, not_own, own_or_other}
-
--- where a start keeps a history legal, no path forbids it
-none_forbids : (xs : List (ℕ × Tree)) (h : List Event) (a : OpId) → legal.Legal xs (h ++ Began a ∷ []) → legal.NoneOf (legal.Forbids h a) xs
-none_forbids [] h a l = tt
-none_forbids (x ∷ xs) h a l = (λ f. f.1 l.0, none_forbids xs h a l.1)
-
--- what holds of all that are live holds of one that is found
-declared_front : (m : ℕ) (n : ActId) (x : Activation) (xs : List Activation) (a : Activation) (t : Bool) → x.op.0 < m → (activation_of n xs ≡ Some a → a.op.0 < m)
-    → cond t (Some x) (activation_of n xs) ≡ Some a → a.op.0 < m
-declared_front m n x xs a true h rest is = let same : x ≡ a = cc in rw (← same) h
-declared_front m n x xs a false h rest is = rest is
-
-pub found_declared : (m : ℕ) (n : ActId) (xs : List Activation) (a : Activation) → All (λ a. a.op.0 < m) xs → activation_of n xs ≡ Some a → a.op.0 < m
-found_declared m n [] a all is = absurd (cc)
-found_declared m n (x ∷ xs) a all is =
-    declared_front m n x xs a (x.act.0 == n.0) (all 0 x (omega arith)) (found_declared m n xs a (All-tail (λ (a : Activation). a.op.0 < m) x xs all)) is
+use Rattle.path_system.specs.Inner.Parts.{PartsValue, as_reply, MovesStart, MovesUse, MovesFinish, Moves, Answers, AreReady, AreTrueTo}
 
 module _ (old : PartsValue) (room : ℕ) (openings : List (List ℕ)) (journal : List Line) (s : AreTrueTo old room openings journal) where
   -- the history is legal so far

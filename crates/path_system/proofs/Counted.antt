@@ -15,12 +15,13 @@ use Rattle.path_model.specs.declared.journal.Activation.{Activation}
 use Rattle.path_model.specs.Declarations.{resource_of}
 use Rattle.path_model.specs.Journals.{activation_of}
 use Rattle.path_model.specs.Asked.{resource_asked}
+use Rattle.path_gate.specs.Places.{has_room}
 use Rattle.path_shelf.specs.declared.device.ActFault.{ActFault}
 use Rattle.path_shelf.specs.declared.device.ActFault.TheVariants as faults
 use Rattle.path_shelf.specs.States.{State, Acts, ActsAt, IsCounted, state_at}
 use Rattle.path_shelf.proofs.CallerLemmas.{count_acted}
 use Rattle.path_system.specs.Accounts.{failures_of, StayBut, HasFailed}
-use Rattle.path_system.specs.Parts.{PartsValue, as_reply, IsUse, MovesStart, MovesUse, MovesFinish, Moves, has_room, Answers, AreTrueTo}
+use Rattle.path_system.specs.Inner.Parts.{PartsValue, as_reply, IsUse, MovesStart, MovesUse, MovesFinish, Moves, Answers, AreTrueTo}
 use Rattle.path_model.proofs.CallerLemmas.{asked_by_own}
 use Rattle.path_system.proofs.Answered.{found_live, resource_in, states_count}
 use Rattle.path_system.proofs.Written.{answer_is_device}

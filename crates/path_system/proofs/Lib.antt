@@ -1,4 +1,4 @@
-pub mod Tested
+pub mod Owned
 pub mod Answered
 pub mod Written
 pub mod Roomy
@@ -8,3 +8,5 @@ pub mod Rows
 pub mod Opened
 pub mod Replaced
 pub mod Reported
+pub mod Threads
+pub mod CallerLemmas

@@ -1,8 +1,10 @@
 -- Why a system isn't opened.
-use Rattle.std.proofs.Common.{◌≡◌, ℕ, ◌<◌, List, length, ap, arith}
+use Rattle.std.proofs.Common.{◌≡◌, ℕ, ◌<◌, List, length, inl, inr, ap, arith}
+use Rattle.std.proofs.lemmas.Bool.{cases_lt}
 use Rattle.std.specs.Prelude.{map}
 use Rattle.std.proofs.lemmas.List.{length-map}
 use Rattle.path_model.specs.Declarations.{Declaration, Resource}
+use Rattle.path_model.specs.Rooms.{IsRoom, IsBadRoom}
 use Rattle.path_shelf.specs.declared.shelf.ShelfFault.{ShelfFault}
 use Rattle.path_shelf.specs.declared.shelf.ShelfFault.TheVariants as shelf
 use Rattle.path_shelf.specs.States.{State, laws_of}
@@ -10,9 +12,9 @@ use Rattle.path_shelf.specs.Shelves.{IsShelfFault, declared_laws}
 use Rattle.path_shelf.proofs.CallerLemmas.{law_at}
 use Rattle.path_system.specs.declared.fault.OpenFault.{OpenFault}
 use Rattle.path_system.specs.declared.fault.OpenFault.TheVariants.{BadRoom, WrongCount, WrongDevice, OutOfMemory}
-use Rattle.path_system.specs.Faults.{IsBadRoom, IsDevicesFault, IsOpenFault, as_open_fault}
-use Rattle.path_system.specs.Openings.{Row, AreFor, HavePlaces}
-use Rattle.path_system.specs.Parts.{PartsValue, AreOpened}
+use Rattle.path_system.specs.Faults.{IsDevicesFault, IsOpenFault, as_open_fault}
+use Rattle.path_system.specs.Inner.Openings.{Row, AreFor, HavePlaces}
+use Rattle.path_system.specs.Inner.Parts.{PartsValue, AreOpened}
 use Rattle.path_system.proofs.Rows.{places_same}
 
 -- the fault of a shelf is one of the devices
@@ -26,6 +28,13 @@ open_fault room states d BadRoom good is = absurd is
 open_fault room states d WrongCount good is = (good, is)
 open_fault room states d (WrongDevice r) good is = (good, is)
 open_fault room states d OutOfMemory good is = (good, is)
+
+-- a room that isn't bad is in range
+pub good_room : (room : ℕ) → (IsBadRoom room → ⊥) → IsRoom room
+good_room room good = (
+  elim (cases_lt 0 room) [ inl some ↦ omega (arith, some) | inr none ↦ absurd (good (inl (omega (arith, none)))) ],
+  elim (cases_lt 1048576 room) [ inl over ↦ absurd (good (inr over)) | inr within ↦ omega (arith, within) ],
+)
 
 -- rows for a declaration have the places of devices of its laws
 pub have_places : (rows : List Row) (states : List State) (d : Declaration) → AreFor rows d → laws_of states ≡ declared_laws d → length states ≡ length d.resources → HavePlaces rows states

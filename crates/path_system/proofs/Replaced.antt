@@ -16,8 +16,8 @@ use Rattle.path_shelf.proofs.CallerLemmas.{laws_replaced, others_replaced}
 use Rattle.path_system.specs.declared.fault.ReplaceFault.{ReplaceFault}
 use Rattle.path_system.specs.declared.fault.ReplaceFault.TheVariants.{Busy, Used, OtherLaw}
 use Rattle.path_system.specs.Faults.{IsBusy, IsUntouched, IsReplaceFault, MayReplace}
-use Rattle.path_system.specs.Openings.{Row, row_at, places_of, numbers_of}
-use Rattle.path_system.specs.Parts.{PartsValue, AreTrueTo, IsTold, IsLiveAt, IsFreeAt, IsPartsFault, MayReplacePart, with_state}
+use Rattle.path_system.specs.Inner.Openings.{Row, row_at, places_of, numbers_of}
+use Rattle.path_system.specs.Inner.Parts.{PartsValue, AreTrueTo, IsTold, IsLiveAt, IsFreeAt, IsPartsFault, MayReplacePart, with_state}
 use Rattle.path_system.proofs.Answered.{states_count, law_is}
 use Rattle.path_system.proofs.Rows.{places_written}
 use Rattle.path_system.proofs.Opened.{same_for}

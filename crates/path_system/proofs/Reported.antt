@@ -12,7 +12,7 @@ use Rattle.path_model.specs.Trees.{Tree}
 use Rattle.path_model.specs.Legal as legal
 use Rattle.path_model.specs.Declarations.{Declaration, paths_of}
 use Rattle.path_model.specs.Journals as journals
-use Rattle.path_system.specs.Parts.{PartsValue, AreTrueTo}
+use Rattle.path_system.specs.Inner.Parts.{PartsValue, AreTrueTo}
 use Rattle.path_system.specs.Reports.{Meets, MeetsAt, IsSorting, IsReport, IsReportAt}
 use Rattle.path_system.proofs.Answered.{legal_now}
 

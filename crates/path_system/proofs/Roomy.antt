@@ -10,9 +10,10 @@ use Rattle.path_model.specs.declared.journal.Reply.{Reply}
 use Rattle.path_model.specs.declared.journal.Reply.TheVariants.{Started, Blocked, UnknownOperation, NoRoom}
 use Rattle.path_model.specs.declared.journal.Activation.{Activation}
 use Rattle.path_model.specs.Journals.{activation_of}
+use Rattle.path_gate.specs.Places.{has_room}
 use Rattle.path_shelf.specs.declared.device.ActFault.{ActFault}
 use Rattle.path_shelf.specs.declared.device.ActFault.TheVariants as faults
-use Rattle.path_system.specs.Parts.{PartsValue, as_reply, MovesStart, MovesUse, MovesFinish, Moves, has_room, Answers}
+use Rattle.path_system.specs.Inner.Parts.{PartsValue, as_reply, MovesStart, MovesUse, MovesFinish, Moves, Answers}
 
 some_answered : (answer : Result ℕ ActFault) → as_reply answer ≢ NoRoom
 some_answered (Ok x) e = cc

@@ -13,7 +13,7 @@ use Rattle.path_model.specs.Declarations.{Declaration, Resource, law_of}
 use Rattle.path_model.specs.Devices.{Fits}
 use Rattle.path_shelf.specs.States.{State, state_at}
 use Rattle.path_system.specs.Accounts.{contents_of}
-use Rattle.path_system.specs.Openings.{Row, row_at, places_of, numbers_of}
+use Rattle.path_system.specs.Inner.Openings.{Row, row_at, places_of, numbers_of}
 
 -- contents that fit a law have its places
 pub fits_places : (law : Law) (held : List ℕ) → Fits law held → length held ≤ places_of law

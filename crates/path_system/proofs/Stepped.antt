@@ -14,10 +14,11 @@ use Rattle.path_model.specs.declared.journal.Activation.{Activation}
 use Rattle.path_model.specs.Declarations.{Declaration, Resource}
 use Rattle.path_model.specs.Journals.{activation_of}
 use Rattle.path_model.proofs.CallerLemmas.{line_of, each_honest_journal_has_room, begun_lines}
+use Rattle.path_gate.specs.Places.{has_room}
 use Rattle.path_shelf.specs.States.{State}
 use Rattle.path_system.specs.Accounts.{contents_of}
 use Rattle.path_ledger.specs.Ledgers.{Book}
-use Rattle.path_system.specs.Parts.{PartsValue, AreOpened, MovesStart, MovesUse, MovesFinish, Moves, has_room, Answers, AreTrueTo}
+use Rattle.path_system.specs.Inner.Parts.{PartsValue, AreOpened, MovesStart, MovesUse, MovesFinish, Moves, Answers, AreTrueTo}
 use Rattle.path_system.proofs.Answered.{taken_is}
 use Rattle.path_system.proofs.Written.{true_line}
 use Rattle.path_system.proofs.Roomy.{stays}

@@ -23,11 +23,12 @@ use Rattle.path_model.specs.Asked.{is_device_reply, resource_asked, IsAsked}
 use Rattle.path_model.proofs.CallerLemmas.{begun_more, begun_quiet, live_quiet, history_quiet, contents_more, quiet_use, quiet_reply, line_of, honest_more, live_started, live_finished, live_found, history_started, history_finished, asked_by_own, asked_more}
 use Rattle.path_gate.specs.Standings.{IsAt}
 use Rattle.path_ledger.specs.Ledgers.{Book}
+use Rattle.path_gate.specs.Places.{has_room}
 use Rattle.path_shelf.specs.declared.device.ActFault.{ActFault}
 use Rattle.path_shelf.specs.declared.device.ActFault.TheVariants as faults
 use Rattle.path_shelf.specs.States.{State, Acts, ActsAt, state_at}
 use Rattle.path_shelf.proofs.CallerLemmas.{laws_acted, others_acted}
-use Rattle.path_system.specs.Parts.{PartsValue, as_reply, IsStarted, IsUse, IsOver, MovesStart, MovesUse, MovesFinish, Moves, has_room, Answers, AreTrueTo}
+use Rattle.path_system.specs.Inner.Parts.{PartsValue, as_reply, IsStarted, IsUse, IsOver, MovesStart, MovesUse, MovesFinish, Moves, Answers, AreTrueTo}
 use Rattle.path_system.proofs.Answered.{owed_is, found_live, law_is, resource_in}
 
 -- what a device answered is a device's reply, and no fault changes contents

@@ -1,10 +1,11 @@
 -- When a system can't be opened, and when a device can't be replaced.
-use Rattle.std.specs.Prelude.{◌≡◌, ◌≢◌, ◌⊎◌, ◌<◌, ℕ, List, Any}
+use Rattle.std.specs.Prelude.{◌≡◌, ◌≢◌, ℕ, List, Any}
 use Rattle.path_model.specs.declared.journal.Line.{Line}
 use Rattle.path_model.specs.declared.resource.Law.{Law}
 use Rattle.path_model.specs.Declarations.{Declaration, resource_of, law_of}
 use Rattle.path_model.specs.Journals.{live}
 use Rattle.path_model.specs.Asked.{IsAsked}
+use Rattle.path_model.specs.Rooms.{IsBadRoom}
 use Rattle.path_shelf.specs.declared.shelf.ShelfFault.{ShelfFault}
 use Rattle.path_shelf.specs.declared.shelf.ShelfFault.TheVariants as shelf
 use Rattle.path_shelf.specs.States.{State}
@@ -13,10 +14,6 @@ use Rattle.path_system.specs.declared.fault.OpenFault.{OpenFault}
 use Rattle.path_system.specs.declared.fault.OpenFault.TheVariants.{BadRoom, WrongCount, WrongDevice, OutOfMemory}
 use Rattle.path_system.specs.declared.fault.ReplaceFault.{ReplaceFault}
 use Rattle.path_system.specs.declared.fault.ReplaceFault.TheVariants.{Busy, Used, OtherLaw}
-
--- a journal's room is 1 to 1,048,576
-abbrev pub IsBadRoom : ℕ → Type 0
-IsBadRoom room = (room ≡ 0) ⊎ (1048576 < room)
 
 -- the fault of a shelf, as that of a system
 abbrev pub as_open_fault : ShelfFault → OpenFault

@@ -1,5 +1,4 @@
 pub mod Accounts
 pub mod Faults
-pub mod Openings
-pub mod Parts
 pub mod Reports
+pub mod Inner

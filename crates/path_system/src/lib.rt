@@ -7,7 +7,9 @@ mod parts;
 mod replace;
 mod report;
 mod system;
+mod unopened;
 
 pub use fault::{OpenFault, ReplaceFault};
 pub use report::Report;
 pub use system::System;
+pub use unopened::open_fault;

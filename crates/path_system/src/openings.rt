@@ -3,7 +3,7 @@
 ghost use Rattle.std.specs.Prelude.{◌≡◌, ◌<◌, ◌≤◌, ℕ, length, map, slice_set, vec_capacity, IfOk};
 ghost use Rattle.path_shelf.specs.States.{state_at};
 ghost use Rattle.path_system.specs.Accounts.{contents_of};
-ghost use Rattle.path_system.specs.Openings.{AreFor, HavePlaces, numbers_of, places_of, row_at};
+ghost use Rattle.path_system.specs.Inner.Openings.{AreFor, HavePlaces, numbers_of, places_of, row_at};
 
 use path_decl::{Decl, counts, law_of};
 use path_model::{Law, OutOfMemory, ResId};
@@ -19,7 +19,7 @@ pub struct Openings<A: Allocator + Copy = Global> {
 
 impl<A: Allocator + Copy> Model for Openings<A> {
     ghost use Rattle.std.specs.Prelude.{List, map, vec_capacity};
-    ghost use Rattle.path_system.specs.Openings.{Row};
+    ghost use Rattle.path_system.specs.Inner.Openings.{Row};
 
     ghost Value = { List Row };
 

@@ -6,16 +6,14 @@ ghost use Rattle.path_model.specs.Declarations as declarations;
 ghost use Rattle.path_model.specs.Journals.{activation_of};
 ghost use Rattle.path_shelf.specs.States.{MayFail};
 ghost use Rattle.path_system.specs.Faults.{IsDevicesFault};
-ghost use Rattle.path_system.specs.Parts.{Answers, AreFresh, AreOpened, AreReady, MovesFinish, MovesStart, MovesUse, as_reply};
+ghost use Rattle.path_system.specs.Inner.Parts.{Answers, AreFresh, AreOpened, AreReady, MovesFinish, MovesStart, MovesUse, as_reply};
 
 use crate::fault::OpenFault;
-use path_code::translate;
 use path_decl::{Decl, counts, resource_of};
-use path_gate::Gate;
+use path_gate::{Gate, compile};
 use path_ledger::{EndFault, Ledger};
 use path_model::{ActId, Attempt, OpId, OutOfMemory, Reply, ResId, Verb};
 use path_shelf::{ActFault, Device, Shelf};
-use path_trim::{Lean, trim};
 use std::alloc::{Allocator, Global};
 use std::marker::Model;
 
@@ -32,9 +30,9 @@ pub struct Parts<D: Device, A: Allocator + Copy = Global> {
 
 impl<D: Device, A: Allocator + Copy> Model for Parts<D, A> {
     ghost use Rattle.std.specs.Coded.{codes};
-    ghost use Rattle.path_decl.specs.Stored.{declaration_code};
+    ghost use Rattle.path_decl.specs.Inner.Stored.{declaration_code};
     ghost use Rattle.path_gate.specs.Standings.{standing_code};
-    ghost use Rattle.path_system.specs.Parts.{PartsValue};
+    ghost use Rattle.path_system.specs.Inner.Parts.{PartsValue};
 
     ghost Value = { PartsValue };
 
@@ -63,17 +61,6 @@ fn reply_of(answer: Result<u64, ActFault>) -> Reply
     }
 }
 
-/// The semaphores of a declaration, without the useless ones. Fails only if allocation fails.
-fn trimmed<A: Allocator + Copy>(alloc: A, decl: &Decl<A>) -> Result<Lean<A>, OutOfMemory>
-    ensures { IfOk result (λ lean. lean.trees ≡ declarations.trees decl.now.declaration) }
-{
-    let code = translate(alloc, decl)?;
-    match trim(alloc, code) {
-        Ok(lean) => Ok(lean),
-        Err((_, error)) => Err(error),
-    }
-}
-
 /// The resource of a declared operation.
 pub fn resource_at<A: Allocator + Copy>(decl: &Decl<A>, op: OpId) -> ResId
     requires { op.0 < length decl.now.declaration.operations }
@@ -91,7 +78,7 @@ fn unattempted<A: Allocator + Copy>(
 ) -> Result<(Gate<A>, Ledger<A>, Vec<bool, A>), OutOfMemory>
     ensures { IfOk result (λ parts. AreFresh parts.0 parts.1 parts.2.items decl.now.declaration room) }
 {
-    let gate = Gate::open(alloc, trimmed(alloc, decl)?)?;
+    let gate = compile(alloc, decl)?;
     let ledger = Ledger::with_room(alloc, room)?;
     let asked = vec![in alloc; false; counts(decl).resources as usize]?;
     Ok((gate, ledger, asked))

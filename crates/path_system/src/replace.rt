@@ -2,7 +2,7 @@
 
 ghost use Rattle.std.specs.Prelude.{◌≡◌, ◌↔◌, ◌<◌, true, false, Any, IsTrue, length, slice_index_or, slice_set, IfErr, OnErr, OnOk};
 ghost use Rattle.path_model.specs.Declarations as declarations;
-ghost use Rattle.path_system.specs.Parts.{AreReady, IsPartsFault, MayReplacePart, with_state};
+ghost use Rattle.path_system.specs.Inner.Parts.{AreReady, IsPartsFault, MayReplacePart, with_state};
 
 use crate::fault::ReplaceFault;
 use crate::parts::{Parts, resource_at};

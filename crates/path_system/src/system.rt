@@ -5,7 +5,7 @@ ghost use Rattle.std.specs.Prelude.{map, slice_get, slice_set, IsOk, IfOk, IfErr
 ghost use Rattle.path_shelf.specs.States.{MayFail, State, laws_of};
 ghost use Rattle.path_shelf.specs.Shelves.{declared_laws};
 ghost use Rattle.path_system.specs.Accounts.{account_of, with_device, StayBut, HasFailed};
-ghost use Rattle.path_system.specs.Openings.{AreFor};
+ghost use Rattle.path_system.specs.Inner.Openings.{AreFor};
 ghost use Rattle.path_system.specs.Reports.{IsReport};
 ghost use Rattle.path_system.specs.Faults.{IsOpenFault, IsReplaceFault, MayReplace};
 ghost use Rattle.path_model.specs.declared.journal.Reply.TheVariants as replies;
@@ -14,13 +14,15 @@ ghost use Rattle.path_model.specs.Contents.{contents_after};
 ghost use Rattle.path_model.specs.Owed.{Owed, taken};
 ghost use Rattle.path_model.specs.Honest.{IsHonest};
 ghost use Rattle.path_model.specs.Asked.{resource_asked};
+ghost use Rattle.path_model.specs.Rooms.{IsRoom};
 
 use crate::fault::{OpenFault, ReplaceFault};
 use crate::openings::Openings;
 use crate::parts::Parts;
 use crate::report::Report;
+use crate::unopened::open_fault;
 use path_decl::{Decl, counts};
-use path_model::{Attempt, Line, MOST_LINES, OutOfMemory, Reply, ResId};
+use path_model::{Attempt, Line, OutOfMemory, Reply, ResId};
 use path_shelf::Device;
 use std::alloc::{Allocator, Global};
 use std::marker::Model;
@@ -42,10 +44,10 @@ pub struct System<D: Device, A: Allocator + Copy = Global> {
 impl<D: Device, A: Allocator + Copy> Model for System<D, A> {
     ghost use Rattle.std.specs.Prelude.{vec_capacity};
     ghost use Rattle.std.specs.Coded.{codes};
-    ghost use Rattle.path_decl.specs.Stored.{declaration_code};
+    ghost use Rattle.path_decl.specs.Inner.Stored.{declaration_code};
     ghost use Rattle.path_system.specs.Accounts.{Account, failures_of};
-    ghost use Rattle.path_system.specs.Openings.{numbers_of};
-    ghost use Rattle.path_system.specs.Parts.{IsTold};
+    ghost use Rattle.path_system.specs.Inner.Openings.{numbers_of};
+    ghost use Rattle.path_system.specs.Inner.Parts.{IsTold};
 
     ghost Value = { Account };
 
@@ -68,34 +70,26 @@ fn is_no_room(reply: Reply) -> bool
     matches!(reply, Reply::NoRoom)
 }
 
-/// Memory for a journal of this room, and for what each device contains when the system takes it. Fails with `BadRoom` if the
-/// room is 0 or above [`MOST_LINES`], else only if allocation fails.
+/// Memory for a journal of this room, and for what each device contains when the system takes it. Fails only if allocation fails.
 fn places<A: Allocator + Copy>(
     alloc: A,
     decl: &Decl<A>,
     room: u32,
-) -> Result<(Vec<Line, A>, Openings<A>), OpenFault>
+) -> Result<(Vec<Line, A>, Openings<A>), OutOfMemory>
     ensures journal { IfOk result (λ places. (places.0.items ≡ []) × (room ≤ vec_capacity places.0)) }
     ensures openings { IfOk result (λ places. AreFor places.1 decl.now.declaration) }
-    ensures good_room { OnOk result ((1 ≤ room) × (room ≤ 1048576)) }
-    ensures fault { IfErr result (λ fault. (states : List State) → IsOpenFault room states decl.now.declaration fault) }
 {
-    if room == 0 || room > MOST_LINES {
-        return Err(OpenFault::BadRoom);
-    }
-    let Ok(journal) = Vec::with_capacity(alloc, room as usize) else {
-        return Err(OpenFault::OutOfMemory);
-    };
+    let journal = Vec::with_capacity(alloc, room as usize)?;
     let openings = Openings::with_places(alloc, decl)?;
     Ok((journal, openings))
 }
 
 impl<D: Device, A: Allocator + Copy> System<D, A> {
     /// Opens a system of this declaration over these devices, in which nothing has been attempted. Its journal has room for
-    /// `room` lines, 1 to [`MOST_LINES`].
+    /// `room` lines, 1 to [`MOST_LINES`](path_model::MOST_LINES).
     ///
     /// Fails with `BadRoom` exactly when the room is outside that range, and else with `WrongCount` or `WrongDevice` as
-    /// [`Shelf::open`](path_shelf::Shelf::open) does; `OutOfMemory` may come before these two. On failure the devices come back in
+    /// [`Shelf::open`](path_shelf::Shelf::open) does, and else with `OutOfMemory`. On failure the devices come back in
     /// their order, and the declaration is dropped. All memory of the system is allocated now: no later step, replacement or
     /// closing allocates. The cost is that of [`Gate::open`](path_gate::Gate::open), of a look at each device and at each number
     /// in it, and of memory for `room` lines and activations.
@@ -108,14 +102,18 @@ impl<D: Device, A: Allocator + Copy> System<D, A> {
         ensures ok { IfOk result (λ system. system ≡ account_of decl.declaration room (map D.state devices.items)) }
         ensures laws { OnOk result (laws_of (map D.state devices.items) ≡ declared_laws decl.declaration) }
         ensures fault { IfErr result (λ refusal. IsOpenFault room (map D.state devices.items) decl.declaration refusal.0) }
-        ensures good_room { OnOk result ((1 ≤ room) × (room ≤ 1048576)) }
+        ensures good_room { OnOk result (IsRoom room) }
         ensures back { IfErr result (λ refusal. refusal.1.items ≡ devices.items) }
     {
+        if let Some(fault) = open_fault(&decl, &devices, room) {
+            drop(decl);
+            return Err((fault, devices));
+        }
         let (journal, mut openings) = match places(alloc, &decl, room) {
             Ok(places) => places,
-            Err(fault) => {
+            Err(_) => {
                 drop(decl);
-                return Err((fault, devices));
+                return Err((OpenFault::OutOfMemory, devices));
             }
         };
         let parts = match Parts::open(alloc, decl, devices, room) {

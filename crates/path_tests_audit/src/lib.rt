@@ -2,12 +2,4 @@
 #![tactic(auto)]
 
 #[cfg(test)]
-mod audit;
-#[cfg(test)]
-mod forged;
-#[cfg(test)]
-mod memory;
-#[cfg(test)]
-mod overlap;
-#[cfg(test)]
-mod verdict;
+mod tests;

@@ -2,6 +2,4 @@
 #![tactic(auto)]
 
 #[cfg(test)]
-mod code;
-#[cfg(test)]
-mod trim;
+mod tests;

@@ -3,16 +3,4 @@
 #![tactic(auto)]
 
 #[cfg(test)]
-mod braces;
-#[cfg(test)]
-mod decl;
-#[cfg(test)]
-mod faults;
-#[cfg(test)]
-mod hostile;
-#[cfg(test)]
-mod laws;
-#[cfg(test)]
-mod model;
-#[cfg(test)]
-mod turns;
+mod tests;

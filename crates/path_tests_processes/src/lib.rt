@@ -2,8 +2,4 @@
 #![tactic(auto)]
 
 #[cfg(test)]
-mod own;
-#[cfg(test)]
-mod refused;
-#[cfg(test)]
-mod runs;
+mod tests;

@@ -2,14 +2,4 @@
 #![tactic(auto)]
 
 #[cfg(test)]
-mod buffers;
-#[cfg(test)]
-mod dropped;
-#[cfg(test)]
-mod ends;
-#[cfg(test)]
-mod own;
-#[cfg(test)]
-mod stopped;
-#[cfg(test)]
-mod together;
+mod tests;

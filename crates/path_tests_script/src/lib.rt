@@ -2,10 +2,4 @@
 #![tactic(auto)]
 
 #[cfg(test)]
-mod declaration;
-#[cfg(test)]
-mod faults;
-#[cfg(test)]
-mod limits;
-#[cfg(test)]
-mod scripts;
+mod tests;

@@ -2,10 +2,4 @@
 #![tactic(auto)]
 
 #[cfg(test)]
-mod laws;
-#[cfg(test)]
-mod own;
-#[cfg(test)]
-mod remembering;
-#[cfg(test)]
-mod shelf;
+mod tests;

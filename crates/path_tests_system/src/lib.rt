@@ -2,22 +2,4 @@
 #![tactic(auto)]
 
 #[cfg(test)]
-mod boxes;
-#[cfg(test)]
-mod devices;
-#[cfg(test)]
-mod gate;
-#[cfg(test)]
-mod ledger;
-#[cfg(test)]
-mod opening;
-#[cfg(test)]
-mod own;
-#[cfg(test)]
-mod replacing;
-#[cfg(test)]
-mod report;
-#[cfg(test)]
-mod stepping;
-#[cfg(test)]
-mod system;
+mod tests;

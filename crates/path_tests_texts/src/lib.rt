@@ -3,14 +3,4 @@
 #![tactic(auto)]
 
 #[cfg(test)]
-mod attempts;
-#[cfg(test)]
-mod declaration;
-#[cfg(test)]
-mod fields;
-#[cfg(test)]
-mod journals;
-#[cfg(test)]
-mod lines;
-#[cfg(test)]
-mod verbs;
+mod tests;

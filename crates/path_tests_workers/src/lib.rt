@@ -2,10 +2,4 @@
 #![tactic(auto)]
 
 #[cfg(test)]
-mod memory;
-#[cfg(test)]
-mod own;
-#[cfg(test)]
-mod settling;
-#[cfg(test)]
-mod threads;
+mod tests;

@@ -2,7 +2,7 @@
 
 -- over the program's own devices only the room is refused
 pub use Rattle.path_trace.proofs.OwnLemmas.{own_room}
--- how a call ends that memory, or a declaration, was refused to
-pub use Rattle.path_trace.proofs.FaultLemmas.{ends_wanting, ends_undeclared, no_front}
+-- how a call ends that was refused its declaration
+pub use Rattle.path_trace.proofs.FaultLemmas.{ends_undeclared, no_front}
 -- a loop that appends a piece for each item
 pub use Rattle.path_trace.proofs.ReportLemmas.{piece_more}

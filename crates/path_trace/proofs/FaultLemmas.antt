@@ -4,6 +4,7 @@ use Rattle.std.specs.Io.KnownBytes.{Appends}
 use Rattle.std.proofs.lemmas.List.{append-nil, get_or-map, length-map}
 use Rattle.path_model.specs.declared.resource.Law.TheVariants.{Cell}
 use Rattle.path_model.specs.Declarations.{Declaration, Resource}
+use Rattle.path_model.specs.Rooms.{IsBadRoom}
 use Rattle.path_lines.specs.declared.entry.LineFault.{LineFault}
 use Rattle.path_lines.specs.declared.entry.LineFault.TheVariants as line_faults
 use Rattle.path_lines.specs.AttemptTexts.{Entry, IsAttemptsText, fault_of}
@@ -11,9 +12,9 @@ use Rattle.path_shelf.specs.Shelves.{declared_laws}
 use Rattle.path_shelf.specs.States.{State, laws_of}
 use Rattle.path_system.specs.declared.fault.OpenFault.{OpenFault}
 use Rattle.path_system.specs.declared.fault.OpenFault.TheVariants as openings
-use Rattle.path_system.specs.Faults.{IsBadRoom, IsOpenFault}
+use Rattle.path_system.specs.Faults.{IsOpenFault}
 use Rattle.path_streams.specs.declared.status.Status.{Status}
-use Rattle.path_streams.specs.declared.status.Status.TheVariants.{CommandRefused, NoMemory, StreamFailed}
+use Rattle.path_streams.specs.declared.status.Status.TheVariants.{CommandRefused, StreamFailed}
 use Rattle.path_streams.specs.Statuses.{open_status, text_status}
 use Rattle.path_streams.specs.Refusals.{IsUndeclared}
 use Rattle.path_streams.specs.Writes.{AppendsSome, IsFrontOf}
@@ -59,16 +60,6 @@ ends_told text s is = is
 pub ends_undeclared : (text : List ℕ) (told result s : Status) → IsUndeclared text told → (result ≡ told) ⊎ (result ≡ StreamFailed) → result ≡ s → EndsUndeclared text s
 ends_undeclared text told result s undeclared (inl e) is = subst (EndsUndeclared text) (sym e ∙ is) (ends_told text told undeclared)
 ends_undeclared text told result s undeclared (inr e) is = subst (EndsUndeclared text) (sym e ∙ is) tt
-
--- and one that reports that memory ran out
-abbrev pub EndsWanting : Status → Type 0
-EndsWanting NoMemory = Unit {0}
-EndsWanting StreamFailed = Unit {0}
-EndsWanting status = ⊥
-
-pub ends_wanting : (result s : Status) → (result ≡ NoMemory) ⊎ (result ≡ StreamFailed) → result ≡ s → EndsWanting s
-ends_wanting result s (inl e) is = subst EndsWanting (sym e ∙ is) tt
-ends_wanting result s (inr e) is = subst EndsWanting (sym e ∙ is) tt
 
 appends_none : (a : Option (List ℕ)) → Appends a a []
 appends_none None = tt

@@ -11,7 +11,7 @@ use Rattle.path_shelf.specs.States.{State, MayFail}
 use Rattle.path_shelf.specs.Openings.{opening_state}
 use Rattle.path_shelf.specs.Own.{own_state}
 use Rattle.path_system.specs.declared.fault.OpenFault.TheVariants.{BadRoom, WrongCount, WrongDevice, OutOfMemory}
-use Rattle.path_system.specs.Faults.{IsBadRoom}
+use Rattle.path_model.specs.Rooms.{IsBadRoom}
 use Rattle.path_system.specs.Accounts.{account_of}
 use Rattle.path_streams.specs.Writes.{AppendsSome, IsFrontOf}
 use Rattle.path_trace.specs.Traces.{IsTraceOf, IsTraceOfTexts, IsUnopened, own_states}

@@ -8,6 +8,7 @@ use Rattle.path_model.specs.declared.journal.Reply.TheVariants.{DeviceFailed}
 use Rattle.path_model.specs.declared.journal.Line.{Line}
 use Rattle.path_model.specs.declared.journal.Activation.{Activation}
 use Rattle.path_model.specs.Declarations.{Declaration}
+use Rattle.path_model.specs.Rooms.{IsBadRoom}
 use Rattle.path_model.specs.Journals.{with_line}
 use Rattle.path_model.specs.Owed.{Owed}
 use Rattle.path_decl.specs.Text.{IsDeclarationText}
@@ -18,7 +19,7 @@ use Rattle.path_shelf.specs.Openings.{opening_state}
 use Rattle.path_system.specs.declared.fault.OpenFault.{OpenFault}
 use Rattle.path_system.specs.declared.fault.OpenFault.TheVariants.{OutOfMemory}
 use Rattle.path_system.specs.Accounts.{Account, account_of}
-use Rattle.path_system.specs.Faults.{IsBadRoom, IsOpenFault}
+use Rattle.path_system.specs.Faults.{IsOpenFault}
 use Rattle.path_system.specs.Reports.{IsReport}
 use Rattle.path_streams.specs.declared.status.Status.{Status}
 use Rattle.path_streams.specs.declared.status.Status.TheVariants.{CommandRefused, TextRefused, NoMemory}

@@ -1,25 +1,25 @@
 //! From bytes to bytes: attempts in, each with its reply out, and a report of the system at the end.
 
-ghost use Rattle.std.specs.Prelude.{◌≡◌, ◌≢◌, ◌+◌, ◌≤◌, length, map, drop, IfOk, IfErr, IfSome, IfNone, OnOk};
+ghost use Rattle.std.specs.Prelude.{◌≡◌, ◌≢◌, ◌≤◌, length, map, IfOk, IfErr, IfSome, IfNone, OnOk};
 ghost use Rattle.std.specs.Io.KnownBytes.{Keeps};
+ghost use Rattle.path_model.specs.Rooms.{IsBadRoom};
 ghost use Rattle.path_shelf.specs.States.{MayFail, laws_of};
 ghost use Rattle.path_shelf.specs.Shelves.{declared_laws};
-ghost use Rattle.path_system.specs.Faults.{IsBadRoom, IsOpenFault};
 ghost use Rattle.path_streams.specs.Statuses.{status_of};
 ghost use Rattle.path_streams.specs.Writes.{AppendsSome, IsFrontOf};
 ghost use Rattle.path_streams.specs.Refusals.{IsNoDeclaration};
-ghost use Rattle.path_trace.specs.Traces.{GrowsBehind, IsAnswered, IsToldBy, IsTraceBy, IsTraceOf, IsTraceOfTexts, own_states};
-ghost use Rattle.path_trace.specs.Traces.{IsBadAttempts, IsBadText, IsBadTextUnder, IsRefused, LacksRoomUnder, LacksSystem, HasAttempts};
+ghost use Rattle.path_trace.specs.Traces.{GrowsBehind, IsAnswered, IsToldBy, IsTraceBy, IsTraceOf, IsTraceOfTexts};
+ghost use Rattle.path_trace.specs.Traces.{IsBadAttempts, IsBadText, IsBadTextUnder, IsRefused, LacksRoomUnder, LacksSystem};
 
-use crate::own::own_devices;
+use crate::own::read_own;
 use crate::report::push_report;
 use path_decl::Decl;
+use path_fields::after_line;
 use path_lines::{LIMIT, TextFault, fault_at, first_entry, push_told, read_attempts};
-use path_model::{Attempt, MOST_LINES, OutOfMemory};
-use path_read::read;
-use path_shelf::{Device, shelf_fault};
+use path_model::{Attempt, OutOfMemory};
+use path_shelf::Device;
 use path_streams::{Fault, Status, put_text, tell};
-use path_system::{OpenFault, System};
+use path_system::{System, open_fault};
 use std::alloc::Allocator;
 use std::io::Write;
 
@@ -54,17 +54,6 @@ fn answer<D: Device, A: Allocator + Copy>(
     Ok(())
 }
 
-/// The text after the first line, of this length, and its line feed; empty if it is the last line.
-fn behind(text: &[u8], length: usize) -> &[u8]
-    ensures { result.now ≡ drop (length + 1) text.now }
-{
-    if length < text.len() {
-        &text[length + 1..]
-    } else {
-        b""
-    }
-}
-
 /// The system's replies to the attempts of a text, one line each. One pass over the text: each line is read, stepped and
 /// copied.
 fn answers<D: Device, A: Allocator + Copy>(
@@ -88,14 +77,14 @@ fn answers<D: Device, A: Allocator + Copy>(
         };
         let line = &rest[..first.length];
         answer(system, first.worker, first.attempt, line, &mut trace)?;
-        rest = behind(rest, first.length);
+        rest = after_line(rest, first.length);
         number += 1;
     }
     Ok(trace)
 }
 
 /// Appends the report of the system if `report` is set. Fails only if allocation fails.
-fn push_behind<D: Device, A: Allocator + Copy>(
+fn push_report_if<D: Device, A: Allocator + Copy>(
     alloc: A,
     system: &System<D, A>,
     report: bool,
@@ -111,7 +100,7 @@ fn push_behind<D: Device, A: Allocator + Copy>(
 }
 
 /// The system's replies to the attempts of a text, and then its report if `report` is set.
-fn told_by<D: Device, A: Allocator + Copy>(
+fn replies_and_report<D: Device, A: Allocator + Copy>(
     alloc: A,
     system: &mut System<D, A>,
     report: bool,
@@ -122,30 +111,11 @@ fn told_by<D: Device, A: Allocator + Copy>(
     ensures err { IfErr result (λ fault. IsBadAttempts system.old.declaration attempts.now (status_of fault)) }
 {
     let mut trace = answers(alloc, system, attempts)?;
-    push_behind(alloc, system, report, &mut trace)?;
+    push_report_if(alloc, system, report, &mut trace)?;
     Ok(trace)
 }
 
-/// Why no system of this room can be opened over the devices, apart from memory; `None` if one can.
-fn open_fault<D: Device, A: Allocator + Copy>(
-    decl: &Decl<A>,
-    devices: &[D],
-    room: u32,
-) -> Option<OpenFault>
-    ensures some { IfSome result (λ fault. (fault ≢ OpenFault.OutOfMemory)
-        × IsOpenFault room (map D.state devices.now) decl.now.declaration fault) }
-    ensures none { IfNone result ((IsBadRoom room → ⊥) × (laws_of (map D.state devices.now) ≡ declared_laws decl.now.declaration)) }
-{
-    if room == 0 || room > MOST_LINES {
-        return Some(OpenFault::BadRoom);
-    }
-    match shelf_fault(devices, decl) {
-        Some(fault) => Some(OpenFault::from(fault)),
-        None => None,
-    }
-}
-
-/// Why a text can't be traced by a system of this room over these devices, as far as that shows before the system is opened: the
+/// Why this can't be traced by a system over these devices, as far as that shows before the system is opened: the
 /// text is too long, or the system can't be opened. If both the text and the opening are at fault, the text's fault counts.
 fn refusal<D: Device, A: Allocator + Copy>(
     alloc: A,
@@ -169,7 +139,7 @@ fn refusal<D: Device, A: Allocator + Copy>(
     }
 }
 
-/// The replies of a system of this room over the devices to the attempts of a text, and then its report if `report` is set.
+/// The replies of a system over the devices to the attempts of the text, and then its report if that is asked for.
 fn traced<D: Device, A: Allocator + Copy>(
     alloc: A,
     decl: Decl<A>,
@@ -190,9 +160,9 @@ fn traced<D: Device, A: Allocator + Copy>(
     }
     match System::open(alloc, decl, devices, room) {
         Ok(mut system) => {
-            let told = told_by(alloc, &mut system, report, attempts);
+            let trace = replies_and_report(alloc, &mut system, report, attempts);
             drop(system);
-            told
+            trace
         }
         Err((fault, _)) => Err(Fault::Open(fault)),
     }
@@ -203,8 +173,8 @@ fn traced<D: Device, A: Allocator + Copy>(
 /// room for `room` lines; an attempt without room gets the reply `no room`. The cost is that of the text, of opening the system, of a
 /// step for each attempt, and of the report.
 ///
-/// `CommandRefused`: the room is 0 or above [`MOST_LINES`], or the devices aren't those of the declaration, one for each
-/// resource and of its law; nothing was written. `TextRefused`: the text is refused, which counts before these; nothing was written.
+/// `CommandRefused`: the room is 0 or above [`MOST_LINES`](path_model::MOST_LINES), or the devices aren't those of the declaration,
+/// one for each resource and of its law; nothing was written. `TextRefused`: the text is refused, which counts first; nothing was written.
 /// `StreamFailed`: a writer failed, and what it took is unknown. `NoMemory`: allocation failed, and a front of all this was written. A
 /// fault is one line on `err`.
 pub fn trace_to<D: Device, A: Allocator + Copy, O: Write, E: Write>(
@@ -238,36 +208,6 @@ pub fn trace_to<D: Device, A: Allocator + Copy, O: Write, E: Write>(
     match traced(alloc, decl, devices, room, report, attempts) {
         Ok(trace) => put_text(out, err, trace.as_slice()),
         Err(fault) => tell(err, fault),
-    }
-}
-
-/// [`trace_to`] over the program's own devices.
-fn trace_own<A: Allocator + Copy, O: Write, E: Write>(
-    alloc: A,
-    decl: Decl<A>,
-    room: u32,
-    report: bool,
-    attempts: &[u8],
-    out: &mut O,
-    err: &mut E,
-) -> Status
-    ensures done { result ≡ Status.Done → AppendsSome (O.contents out.old) (O.contents out.new)
-        (IsTraceOf decl.declaration (own_states decl.declaration) ⊥ room report attempts.now) }
-    ensures room { IsBadRoom room → result ≢ Status.Done }
-    ensures bad_room { result ≡ Status.CommandRefused
-        → Keeps (O.contents out.old) (O.contents out.new) × (HasAttempts decl.declaration attempts.now × IsBadRoom room) }
-    ensures refused { result ≡ Status.TextRefused
-        → Keeps (O.contents out.old) (O.contents out.new) × IsBadText decl.declaration attempts.now }
-    ensures memory { result ≡ Status.NoMemory → AppendsSome (O.contents out.old) (O.contents out.new)
-        (IsFrontOf (IsTraceOf decl.declaration (own_states decl.declaration) ⊥ room report attempts.now)) }
-    ensures statuses { (result ≢ Status.DeclarationRefused) × (result ≢ Status.Unsound) }
-{
-    match own_devices(alloc, &decl) {
-        Ok(devices) => trace_to(alloc, decl, devices, room, report, attempts, out, err),
-        Err(_) => {
-            drop(decl);
-            tell(err, Fault::OutOfMemory)
-        }
     }
 }
 
@@ -305,8 +245,8 @@ pub fn trace_bytes<A: Allocator + Copy, O: Write, E: Write>(
         → AppendsSome (O.contents out.old) (O.contents out.new) (IsFrontOf (IsTraceOfTexts declaration.now room report attempts.now)) }
     ensures statuses { result ≢ Status.Unsound }
 {
-    match read(alloc, declaration) {
-        Ok(decl) => trace_own(alloc, decl, room, report, attempts, out, err),
-        Err(fault) => tell(err, Fault::Declaration(fault)),
+    match read_own(alloc, declaration) {
+        Ok((decl, devices)) => trace_to(alloc, decl, devices, room, report, attempts, out, err),
+        Err(fault) => tell(err, fault),
     }
 }

@@ -1,43 +1,18 @@
 -- What trimming leaves of some paths, by hand.
-use Rattle.std.proofs.Common.{◌≡◌, ℕ, List, [], ◌∷◌, map, refl, codes, arith}
-use Rattle.std.specs.Fmt.{decimal}
-use Rattle.std.proofs.lemmas.Fmt.{decimal_digit}
+use Rattle.std.proofs.Common.{◌≡◌, ℕ, List, [], ◌∷◌, map, refl, codes}
 use Rattle.path_model.specs.declared.ids.PathId.{PathId}
-use Rattle.path_model.specs.declared.resource.Law.TheVariants.{Cell}
 use Rattle.path_model.specs.Trees.{any, most, Tree, op, seq, alt, burst}
-use Rattle.path_model.specs.Declarations.{Declaration}
 use Rattle.path_code.specs.Listing.{lines_text}
+use Rattle.path_code.proofs.CallerLemmas.{digit0, digit1, digit2, a, b, declares, path_of}
 use Rattle.path_trim.specs.declared.table.Removed.TheVariants.{Semaphore, Counter, Mutex, SamePath}
 use Rattle.path_trim.specs.RemovedList.{removed_list}
 use Rattle.path_trim.specs.LeanListing.{lean_text}
 
-d0 : decimal 0 ≡ codes "0"
-d0 = decimal_digit 0 (omega arith)
-
-d1 : decimal 1 ≡ codes "1"
-d1 = decimal_digit 1 (omega arith)
-
-d2 : decimal 2 ≡ codes "2"
-d2 = decimal_digit 2 (omega arith)
-
-abbrev a : Tree
-a = op (record { 0 = 0 })
-
-abbrev b : Tree
-b = op (record { 0 = 1 })
-
 abbrev c : Tree
 c = op (record { 0 = 2 })
 
-abbrev declares : List Tree → Declaration
-declares ss = record {
-  resources = record { name = codes "r"; law = Cell } ∷ [];
-  operations = record { name = codes "a"; resource = 0 } ∷ record { name = codes "b"; resource = 0 } ∷ [];
-  paths = map (λ s. record { resource = 0; tree = s }) ss;
-}
-
 abbrev shows : List Tree → List (List ℕ) → Type 0
-shows ss ls = lean_text (declares ss) ss ≡ lines_text ls
+shows ss ls = lean_text (declares (map path_of ss)) ss ≡ lines_text ls
 
 abbrev path : ℕ → PathId
 path n = record { 0 = n }
@@ -47,42 +22,42 @@ readers_and_writers : shows (alt (burst any a) b ∷ []) (
     codes "path 0 of r" ∷ codes "removed m0" ∷ codes "s0 = 1" ∷ codes "c0 = 0"
     ∷ codes "a: PP(c0,P(s0)) | VV(c0,V(s0))" ∷ codes "b: P(s0) | V(s0)" ∷ []
     )
-readers_and_writers = rw (d0, d1) refl
+readers_and_writers = rw (digit0, digit1) refl
 
 -- { a }
 lone_burst : shows (burst any a ∷ []) (codes "path 0 of r" ∷ codes "removed s0 c0 m0" ∷ codes "a: - | -" ∷ [])
-lone_burst = rw d0 refl
+lone_burst = rw digit0 refl
 
 -- { a ; b }
 crossing : shows (burst any (seq a b) ∷ []) (
     codes "path 0 of r" ∷ codes "removed s0 c0 m0" ∷ codes "s1 = 0" ∷ codes "a: - | V(s1)" ∷ codes "b: P(s1) | -" ∷ []
     )
-crossing = rw (d0, d1) refl
+crossing = rw (digit0, digit1) refl
 
 -- { a : 2 } , b
 pool : shows (alt (burst (most 2) a) b ∷ []) (
     codes "path 0 of r" ∷ codes "removed m0" ∷ codes "s0 = 1" ∷ codes "s1 = 2" ∷ codes "c0 = 0"
     ∷ codes "a: P(s1); PP(c0,P(s0)) | VV(c0,V(s0)); V(s1)" ∷ codes "b: P(s0) | V(s0)" ∷ []
     )
-pool = rw (d0, d1, d2) refl
+pool = rw (digit0, digit1, digit2) refl
 
 -- { a ; b : 2 }
 pipe : shows (burst (most 2) (seq a b) ∷ []) (
     codes "path 0 of r" ∷ codes "removed s0 c0 m0" ∷ codes "s1 = 0" ∷ codes "s2 = 2"
     ∷ codes "a: P(s2) | V(s1)" ∷ codes "b: P(s1) | V(s2)" ∷ []
     )
-pipe = rw (d0, d1, d2) refl
+pipe = rw (digit0, digit1, digit2) refl
 
 -- a ; b, twice
 equal_paths : shows (seq a b ∷ seq a b ∷ []) (
     codes "path 0 of r" ∷ codes "s0 = 1" ∷ codes "s1 = 0" ∷ codes "a: P(s0) | V(s1)" ∷ codes "b: P(s1) | V(s0)"
     ∷ codes "path 1 of r same as 0" ∷ []
     )
-equal_paths = rw (d0, d1) refl
+equal_paths = rw (digit0, digit1) refl
 
 -- without its path a declaration has no resource to name
 unknown_path : lean_text (declares []) (a ∷ []) ≡ lines_text (codes "path 0 of #0" ∷ codes "s0 = 1" ∷ codes "a: P(s0) | V(s0)" ∷ [])
-unknown_path = rw (d0, d1) refl
+unknown_path = rw (digit0, digit1) refl
 
 equal_paths_removed : removed_list (seq a b ∷ seq a b ∷ []) ≡ SamePath (path 1) (path 0) ∷ []
 equal_paths_removed = refl

@@ -16,7 +16,7 @@ use Rattle.path_trim.specs.declared.table.Removed.{Removed}
 use Rattle.path_trim.specs.declared.table.Removed.TheVariants.{Semaphore, Counter, Mutex}
 use Rattle.path_trim.specs.LeanTable.{prologue_left, epilogue_left, op_left, LeanRow, lean_row}
 use Rattle.path_trim.specs.RemovedList.{values_removed}
-use Rattle.path_trim.specs.Steps.{prologue_kept, epilogue_kept, op_kept}
+use Rattle.path_trim.specs.Inner.Steps.{prologue_kept, epilogue_kept, op_kept}
 
 prologue_same : (x : Sited) (b : Bool) (t : Term) → prologue_kept b (prologue_at (in_table x t)) ≡ prologue_left x (lean b t)
 prologue_same x b (Plain q) = refl

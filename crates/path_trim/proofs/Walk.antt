@@ -18,8 +18,8 @@ use Rattle.path_trim.specs.Compared.{first_with, Compared, beside, compared_afte
 use Rattle.path_trim.specs.LeanTable.{lean_row}
 use Rattle.path_trim.specs.RemovedList.{values_removed, lost, all_lost}
 use Rattle.path_trim.specs.Rows.{row_of, fate_by, fates_of}
-use Rattle.path_trim.specs.FirstEqual.{HasOther, IsFirstEqual}
-use Rattle.path_trim.specs.Parts.{Adds}
+use Rattle.path_trim.specs.Inner.FirstEqual.{HasOther, IsFirstEqual}
+use Rattle.path_trim.specs.Inner.Parts.{Adds}
 
 -- the paths have the numbers from n on
 abbrev pub Numbered : ℕ → List (ℕ × Sited) → Type 0

@@ -4,11 +4,8 @@ use Rattle.std.specs.Fmt.{decimal}
 use Rattle.path_model.specs.Trees.{Tree}
 use Rattle.path_model.specs.Flat.{Sited}
 use Rattle.path_model.specs.Declarations.{Path, Declaration}
-use Rattle.path_code.specs.declared.terms.Prologue.{Prologue}
-use Rattle.path_code.specs.declared.terms.Prologue.TheVariants.{P, PP, PPN}
-use Rattle.path_code.specs.declared.terms.Epilogue.{Epilogue}
-use Rattle.path_code.specs.declared.terms.Epilogue.TheVariants.{V, VV, VVN}
-use Rattle.path_code.specs.Listing.{operation_text, wait_text, signal_text, header_line, semaphore_line, counter_line, lines_text}
+use Rattle.path_code.specs.declared.lister.Mutexes.TheVariants.{Trimmed}
+use Rattle.path_code.specs.Listing.{operation_text, terms_text, header_line, semaphore_line, counter_line, lines_text}
 use Rattle.path_trim.specs.declared.table.LeanOp.{LeanOp}
 use Rattle.path_trim.specs.declared.table.Removed.{Removed}
 use Rattle.path_trim.specs.declared.table.Removed.TheVariants.{Semaphore, Counter, Mutex, SamePath}
@@ -16,24 +13,9 @@ use Rattle.path_trim.specs.Compared.{Compared, compared}
 use Rattle.path_trim.specs.LeanTable.{LeanRow, lean_row}
 use Rattle.path_trim.specs.RemovedList.{values_removed}
 
--- what is left of a prologue: `-`, `P(s0)`, `PP(c0,P(s0))`, or that after the P of the bound's semaphore
-abbrev pub prologue_text : Option Prologue → List ℕ
-prologue_text None = codes "-"
-prologue_text (Some (P q)) = wait_text q
-prologue_text (Some (PP c q)) = codes "PP(c" ++ (decimal c ++ (codes "," ++ (wait_text q ++ codes ")")))
-prologue_text (Some (PPN c q u)) = wait_text u ++ (codes "; PP(c" ++ (decimal c ++ (codes "," ++ (wait_text q ++ codes ")"))))
-
--- what is left of an epilogue: `-`, `V(s0)`, `VV(c0,V(s0))`, or that before the V of the bound's semaphore
-abbrev pub epilogue_text : Option Epilogue → List ℕ
-epilogue_text None = codes "-"
-epilogue_text (Some (V q)) = signal_text q
-epilogue_text (Some (VV c q)) = codes "VV(c" ++ (decimal c ++ (codes "," ++ (signal_text q ++ codes ")")))
-epilogue_text (Some (VVN c q u)) = codes "VV(c" ++ (decimal c ++ (codes "," ++ (signal_text q ++ (codes "); " ++ signal_text u))))
-
 -- the line of an operation
 abbrev pub op_line : Declaration → LeanOp → List ℕ
-op_line d o =
-    operation_text d o.op.0 ++ (codes ": " ++ (prologue_text o.prologue ++ (codes " | " ++ (epilogue_text o.epilogue ++ 10 ∷ []))))
+op_line d o = operation_text d o.op.0 ++ (terms_text Trimmed o.prologue o.epilogue ++ 10 ∷ [])
 
 -- a removed value after a space; a path that is removed has a line of its own
 abbrev pub value_text : Removed → List ℕ

@@ -5,8 +5,5 @@ pub mod Compared
 pub mod LeanTable
 pub mod RemovedList
 pub mod LeanListing
-pub mod FirstEqual
-pub mod Steps
 pub mod Rows
-pub mod Parts
-pub mod Kept
+pub mod Inner

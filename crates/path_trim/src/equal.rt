@@ -3,7 +3,7 @@
 ghost use Rattle.std.specs.Prelude.{◌≡◌, All, MatchOption};
 ghost use Rattle.path_model.specs.Trees.{shape};
 ghost use Rattle.path_model.specs.Trimmed.{same_tree};
-ghost use Rattle.path_trim.specs.FirstEqual.{HasOther, IsFirstEqual};
+ghost use Rattle.path_trim.specs.Inner.FirstEqual.{HasOther, IsFirstEqual};
 
 use path_code::PathCode;
 use path_model::Expr;

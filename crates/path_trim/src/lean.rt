@@ -35,7 +35,7 @@ impl<A: Allocator + Copy> Model for Lean<A> {
 
     ghost coded = { known_trees };
 
-    ghost use Rattle.path_trim.specs.Kept.{shown, IsKept};
+    ghost use Rattle.path_trim.specs.Inner.Kept.{shown, IsKept};
 
     ghost view = { shown };
 

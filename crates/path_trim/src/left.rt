@@ -9,7 +9,7 @@ ghost use Rattle.path_trim.specs.declared.table.Removed.TheVariants.{Semaphore, 
 ghost use Rattle.path_trim.specs.LeanTable.{lean_row};
 ghost use Rattle.path_trim.specs.RemovedList.{values_removed};
 ghost use Rattle.path_trim.specs.Rows.{row_of};
-ghost use Rattle.path_trim.specs.Steps.{prologue_kept, epilogue_kept, op_kept};
+ghost use Rattle.path_trim.specs.Inner.Steps.{prologue_kept, epilogue_kept, op_kept};
 
 use crate::table::{LeanOp, LeanPath, Removed};
 use path_code::{Epilogue, OpCode, PathCode, Prologue};
@@ -31,8 +31,8 @@ fn lean_prologue(whole: bool, prologue: Prologue) -> Option<Prologue>
     ensures { result ≡ prologue_kept whole prologue }
 {
     match prologue {
-        Prologue::PP(_, _) if whole => None,
-        Prologue::PPN(_, _, bound) if whole => Some(Prologue::P(bound)),
+        Prologue::PP { .. } if whole => None,
+        Prologue::PPN { bound, .. } if whole => Some(Prologue::P(bound)),
         _ => Some(prologue),
     }
 }
@@ -42,8 +42,8 @@ fn lean_epilogue(whole: bool, epilogue: Epilogue) -> Option<Epilogue>
     ensures { result ≡ epilogue_kept whole epilogue }
 {
     match epilogue {
-        Epilogue::VV(_, _) if whole => None,
-        Epilogue::VVN(_, _, bound) if whole => Some(Epilogue::V(bound)),
+        Epilogue::VV { .. } if whole => None,
+        Epilogue::VVN { bound, .. } if whole => Some(Epilogue::V(bound)),
         _ => Some(epilogue),
     }
 }

@@ -1,15 +1,15 @@
 //! The listing of trimmed paths.
 
-ghost use Rattle.std.specs.Prelude.{◌≡◌, ◌++◌, ◌∷◌, [], flat_map, codes, IfOk, OnOk};
+ghost use Rattle.std.specs.Prelude.{◌≡◌, ◌++◌, ◌∷◌, flat_map, IfOk, OnOk};
 ghost use Rattle.std.specs.String.{string_bytes};
-ghost use Rattle.path_trim.specs.LeanListing.{prologue_text, epilogue_text, op_line, value_text};
-ghost use Rattle.path_trim.specs.LeanListing.{removed_line, row_lines, header, same_rest, lean_text};
+ghost use Rattle.path_trim.specs.LeanListing.{op_line, value_text, removed_line, row_lines, header, same_rest, lean_text};
 ghost use Rattle.path_trim.specs.Rows.{row_of};
 
 use crate::lean::Lean;
 use crate::table::{Fate, LeanOp, LeanPath, Removed};
-use path_code::lister::{push_counters, push_header, push_operation, push_semaphores};
-use path_code::{Epilogue, Prologue};
+use path_code::lister::{
+    Mutexes, push_counters, push_header, push_operation, push_semaphores, push_terms,
+};
 use path_decl::{Decl, path_resource};
 use path_model::{OutOfMemory, PathId};
 use std::alloc::{AllocError, Allocator};
@@ -32,40 +32,6 @@ fn put_header<A: Allocator + Copy, C: Allocator + Copy>(
     }
 }
 
-/// Writes what is left of a prologue, between `: ` and ` | `.
-fn put_prologue<C: Allocator + Copy>(
-    out: &mut String<C>,
-    prologue: Option<Prologue>,
-) -> Result<(), AllocError>
-    ensures { OnOk result (string_bytes out.new ≡ string_bytes out.old ++ (codes ": " ++ (prologue_text prologue ++ codes " | "))) }
-{
-    match prologue {
-        None => out.push_str(": - | "),
-        Some(Prologue::P(own)) => write!(out, ": P(s{own}) | "),
-        Some(Prologue::PP(pair, own)) => write!(out, ": PP(c{pair},P(s{own})) | "),
-        Some(Prologue::PPN(pair, own, bound)) => {
-            write!(out, ": P(s{bound}); PP(c{pair},P(s{own})) | ")
-        }
-    }
-}
-
-/// Writes what is left of an epilogue, and ends the line.
-fn put_epilogue<C: Allocator + Copy>(
-    out: &mut String<C>,
-    epilogue: Option<Epilogue>,
-) -> Result<(), AllocError>
-    ensures { OnOk result (string_bytes out.new ≡ string_bytes out.old ++ (epilogue_text epilogue ++ 10 ∷ [])) }
-{
-    match epilogue {
-        None => out.push_str("-\n"),
-        Some(Epilogue::V(own)) => writeln!(out, "V(s{own})"),
-        Some(Epilogue::VV(pair, own)) => writeln!(out, "VV(c{pair},V(s{own}))"),
-        Some(Epilogue::VVN(pair, own, bound)) => {
-            writeln!(out, "VV(c{pair},V(s{own})); V(s{bound})")
-        }
-    }
-}
-
 /// Writes the line of an operation.
 fn put_op<A: Allocator + Copy, C: Allocator + Copy>(
     out: &mut String<C>,
@@ -75,9 +41,7 @@ fn put_op<A: Allocator + Copy, C: Allocator + Copy>(
     ensures { OnOk result (string_bytes out.new ≡ string_bytes out.old ++ op_line decl.now.declaration op) }
 {
     push_operation(out, decl, op.op)?;
-    put_prologue(out, op.prologue)?;
-    put_epilogue(out, op.epilogue)?;
-    Ok(())
+    push_terms(out, Mutexes::Trimmed, op.prologue, op.epilogue)
 }
 
 /// Writes the lines of operations.
@@ -196,9 +160,9 @@ pub fn lean_listing<A: Allocator + Copy, B: Allocator + Copy, C: Allocator + Cop
                 removed = removed.split_at(1).1;
             }
             Fate::Stays(count) => {
-                let (own, others) = removed.split_at(count);
+                let (lost, others) = removed.split_at(count);
                 let (path, later) = kept.split_first().unwrap();
-                put_kept(&mut out, decl, path, own)?;
+                put_kept(&mut out, decl, path, lost)?;
                 removed = others;
                 kept = later;
             }

@@ -6,7 +6,7 @@ ghost use Rattle.path_code.specs.PathCodes.{IsPathCode};
 ghost use Rattle.path_trim.specs.Trees.{trees_in};
 ghost use Rattle.path_trim.specs.LeanTable.{lean_row};
 ghost use Rattle.path_trim.specs.RemovedList.{values_removed};
-ghost use Rattle.path_trim.specs.Parts.{Adds};
+ghost use Rattle.path_trim.specs.Inner.Parts.{Adds};
 ghost use Rattle.path_trim.specs.declared.table.Removed.TheVariants.{SamePath};
 ghost use Rattle.path_trim.specs.declared.table.Fate.TheVariants.{SameAs, Stays};
 

@@ -9,7 +9,7 @@ use Rattle.path_model.specs.declared.journal.Line.{Line}
 use Rattle.path_workers.specs.declared.answer.Receipt.{Receipt}
 use Rattle.path_workers.specs.Attempts.{Held}
 use Rattle.path_workers.specs.Settled.{is_copy, copies_in, copies, receipts_of, AllCopied, IsSettled}
-use Rattle.path_workers.specs.Holdings.{EachHasCopy}
+use Rattle.path_workers.specs.Inner.Holdings.{EachHasCopy}
 use Rattle.path_workers.proofs.Rising.{other_place}
 
 -- the sum of a number for each of m lines from number b on
@@ -68,31 +68,43 @@ one_hit lines d r b (suc m) = elim (cases_lt r.place (b + m)) [
   | inr above ↦ (let rest = no_hit lines d r b m above in let last = at_most_one (is_copy (b + m) (get_or lines (b + m) d) r) in omega arith)
 ]
 
+-- the copies of one receipt more
+receipt_more : (lines : List Line) (d : Line) (r : Receipt) (rs : List Receipt) (b m : ℕ)
+    → over (λ k. count_by (λ q. is_copy k (get_or lines k d) q) (r ∷ rs)) b m ≡ over (hit lines d r) b m + over (λ k. count_by (λ q. is_copy k (get_or lines k d) q) rs) b m
+receipt_more lines d r rs b m = over_plus (hit lines d r) (λ k. count_by (λ q. is_copy k (get_or lines k d) q) rs) (λ k. count_by (λ q. is_copy k (get_or lines k d) q) (r ∷ rs)) b m
+    (λ k. sum_by-cons (λ (q : Receipt). cond (is_copy k (get_or lines k d) q) 1 0) r rs)
+
 -- so the receipts of a pass are copies of no more lines than they are
 hits : (lines : List Line) (d : Line) (rs : List Receipt) (b m : ℕ) → over (λ k. count_by (λ r. is_copy k (get_or lines k d) r) rs) b m ≤ length rs
 hits lines d [] b m = let none = over_zero b m in omega arith
 hits lines d (r ∷ rs) b m =
     let rest = hits lines d rs b m in
     let first = one_hit lines d r b m in
-    let both = over_plus (hit lines d r) (λ k. count_by (λ q. is_copy k (get_or lines k d) q) rs) (λ k. count_by (λ q. is_copy k (get_or lines k d) q) (r ∷ rs)) b m
-    (λ k. sum_by-cons (λ (q : Receipt). cond (is_copy k (get_or lines k d) q) 1 0) r rs) in
+    let both = receipt_more lines d r rs b m in
     omega (arith, rest, first, both)
 
 no_more : (b : Bool) (n : ℕ) → (if b then n else 0) ≤ n
 no_more true n = omega arith
 no_more false n = omega arith
 
--- and so those of all passes
-all_hits : (lines : List Line) (d : Line) (hs : List Held) (b m : ℕ) → over (λ k. copies k (get_or lines k d) hs) b m ≤ receipts_of hs
-all_hits lines d [] b m = let none = over_zero b m in omega arith
-all_hits lines d (h ∷ hs) b m =
-    let rest = all_hits lines d hs b m in
-    let own = hits lines d h.receipts b m in
+-- one pass more: what its own copies leave over, and what those of the others leave over
+pass_more : (lines : List Line) (d : Line) (h : Held) (hs : List Held) (b m spare others : ℕ) → over (λ k. count_by (λ r. is_copy k (get_or lines k d) r) h.receipts) b m + spare ≤ length h.receipts
+    → over (λ k. copies k (get_or lines k d) hs) b m + others ≤ receipts_of hs → over (λ k. copies k (get_or lines k d) (h ∷ hs)) b m + (spare + others) ≤ receipts_of (h ∷ hs)
+pass_more lines d h hs b m spare others own rest =
     let less = over_le (λ k. copies_in k (get_or lines k d) h) (λ k. count_by (λ r. is_copy k (get_or lines k d) r) h.receipts) b m (λ k. no_more (h.worker == (get_or lines k d).worker) _) in
     let both = over_plus (λ k. copies_in k (get_or lines k d) h) (λ k. copies k (get_or lines k d) hs) (λ k. copies k (get_or lines k d) (h ∷ hs)) b m
     (λ k. sum_by-cons (λ (g : Held). copies_in k (get_or lines k d) g) h hs) in
     let counted = sum_by-cons (λ (g : Held). length g.receipts) h hs in
     omega (arith, rest, own, less, both, counted)
+
+-- and so those of all passes
+all_hits : (lines : List Line) (d : Line) (hs : List Held) (b m : ℕ) → over (λ k. copies k (get_or lines k d) hs) b m ≤ receipts_of hs
+all_hits lines d [] b m = let none = over_zero b m in omega arith
+all_hits lines d (h ∷ hs) b m =
+    let own = hits lines d h.receipts b m in
+    let rest = all_hits lines d hs b m in
+    let more = pass_more lines d h hs b m 0 0 (omega (arith, own)) (omega (arith, rest)) in
+    omega (arith, more)
 
 -- as many receipts as lines, and one for each: just one for each
 pub all_copied : (b : ℕ) (lines : List Line) (hs : List Held) → receipts_of hs ≡ length lines - b → EachHasCopy b lines hs → AllCopied b lines hs
@@ -137,35 +149,27 @@ hits_but : (lines : List Line) (d : Line) (rs : List Receipt) (b m j : ℕ) (e :
 hits_but lines d [] b m j e lt none = absurd (omega arith)
 hits_but lines d (r ∷ rs) b m zero e lt none =
     let rest = hits lines d rs b m in
-    let both = over_plus (hit lines d r) (λ k. count_by (λ q. is_copy k (get_or lines k d) q) rs) (λ k. count_by (λ q. is_copy k (get_or lines k d) q) (r ∷ rs)) b m
-    (λ k. sum_by-cons (λ (q : Receipt). cond (is_copy k (get_or lines k d) q) 1 0) r rs) in
+    let both = receipt_more lines d r rs b m in
     omega (arith, rest, none, both)
 hits_but lines d (r ∷ rs) b m (suc j) e lt none =
     let rest = hits_but lines d rs b m j e (omega arith) none in
     let first = one_hit lines d r b m in
-    let both = over_plus (hit lines d r) (λ k. count_by (λ q. is_copy k (get_or lines k d) q) rs) (λ k. count_by (λ q. is_copy k (get_or lines k d) q) (r ∷ rs)) b m
-    (λ k. sum_by-cons (λ (q : Receipt). cond (is_copy k (get_or lines k d) q) 1 0) r rs) in
+    let both = receipt_more lines d r rs b m in
     omega (arith, rest, first, both)
 
 all_but : (lines : List Line) (d : Line) (hs : List Held) (b m i j : ℕ) (f : Held) (e : Receipt) → i < length hs → j < length (get_or hs i f).receipts
     → over (hit lines d (get_or (get_or hs i f).receipts j e)) b m ≡ 0 → over (λ k. copies k (get_or lines k d) hs) b m + 1 ≤ receipts_of hs
 all_but lines d [] b m i j f e lt in_range none = absurd (omega arith)
 all_but lines d (h ∷ hs) b m zero j f e lt in_range none =
-    let rest = all_hits lines d hs b m in
     let own = hits_but lines d h.receipts b m j e in_range none in
-    let less = over_le (λ k. copies_in k (get_or lines k d) h) (λ k. count_by (λ r. is_copy k (get_or lines k d) r) h.receipts) b m (λ k. no_more (h.worker == (get_or lines k d).worker) _) in
-    let both = over_plus (λ k. copies_in k (get_or lines k d) h) (λ k. copies k (get_or lines k d) hs) (λ k. copies k (get_or lines k d) (h ∷ hs)) b m
-    (λ k. sum_by-cons (λ (g : Held). copies_in k (get_or lines k d) g) h hs) in
-    let counted = sum_by-cons (λ (g : Held). length g.receipts) h hs in
-    omega (arith, rest, own, less, both, counted)
+    let rest = all_hits lines d hs b m in
+    let more = pass_more lines d h hs b m 1 0 own (omega (arith, rest)) in
+    omega (arith, more)
 all_but lines d (h ∷ hs) b m (suc i) j f e lt in_range none =
-    let rest = all_but lines d hs b m i j f e (omega arith) in_range none in
     let own = hits lines d h.receipts b m in
-    let less = over_le (λ k. copies_in k (get_or lines k d) h) (λ k. count_by (λ r. is_copy k (get_or lines k d) r) h.receipts) b m (λ k. no_more (h.worker == (get_or lines k d).worker) _) in
-    let both = over_plus (λ k. copies_in k (get_or lines k d) h) (λ k. copies k (get_or lines k d) hs) (λ k. copies k (get_or lines k d) (h ∷ hs)) b m
-    (λ k. sum_by-cons (λ (g : Held). copies_in k (get_or lines k d) g) h hs) in
-    let counted = sum_by-cons (λ (g : Held). length g.receipts) h hs in
-    omega (arith, rest, own, less, both, counted)
+    let rest = all_but lines d hs b m i j f e (omega arith) in_range none in
+    let more = pass_more lines d h hs b m 0 1 (omega (arith, own)) rest in
+    omega (arith, more)
 
 is_one : (x : Bool) → ◌≢◌ {A = ℕ} (cond x 1 0) 0 → x ≡ true
 is_one true some = refl

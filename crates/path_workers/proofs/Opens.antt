@@ -18,7 +18,7 @@ use Rattle.path_model.specs.Devices.{Outcome, serves, refuses, first_taken, firs
 use Rattle.path_model.specs.Owed.{Owed, OwedToUse, OwedToFinish}
 use Rattle.path_workers.specs.declared.answer.Receipt.{Receipt}
 use Rattle.path_workers.specs.Attempts.{starts, finishes, has_finish, is_open, finishes_open, receipts_then, place_of}
-use Rattle.path_workers.specs.Holdings.{opens, open_count, open_then, places_for}
+use Rattle.path_workers.specs.Inner.Holdings.{opens, open_count, open_then, places_for}
 
 has_finish_push : (act : ActId) (rs : List Receipt) (r : Receipt) → has_finish act (rs ++ r ∷ []) ≡ (if has_finish act rs then true else finishes act r.attempt)
 has_finish_push act [] r = by_bool (finishes act r.attempt)

@@ -16,7 +16,7 @@ use Rattle.path_model.specs.declared.journal.Reply.TheVariants.{Finished}
 use Rattle.path_model.specs.declared.journal.Line.{Line}
 use Rattle.path_workers.specs.declared.answer.Receipt.{Receipt}
 use Rattle.path_workers.specs.Attempts.{receipts_then}
-use Rattle.path_workers.specs.Holdings.{Rise}
+use Rattle.path_workers.specs.Inner.Holdings.{Rise}
 use Rattle.path_workers.specs.Settled.{is_copy}
 
 -- a receipt at the end or above goes behind

@@ -1,7 +1,6 @@
 -- What stays of a system while threads share it.
-use Rattle.std.specs.Prelude.{◌≡◌, ℕ, List, ◌++◌}
+use Rattle.std.specs.Prelude.{◌≡◌, List, ◌++◌}
 use Rattle.path_model.specs.declared.journal.Line.{Line}
-use Rattle.path_model.specs.Declarations.{Declaration}
 use Rattle.path_system.specs.Accounts.{Account}
 
 -- it is the same system with more lines, or with none: they follow those that it had

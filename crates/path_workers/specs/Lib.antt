@@ -2,4 +2,4 @@ pub mod Attempts
 pub mod Later
 pub mod Settled
 pub mod Faults
-pub mod Holdings
+pub mod Inner

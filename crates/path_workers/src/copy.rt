@@ -2,7 +2,7 @@
 
 ghost use Rattle.std.specs.Prelude.{◌≡◌, ℕ, if◌then◌else◌, min};
 ghost use Rattle.std.specs.List.{count_by};
-ghost use Rattle.path_workers.specs.Holdings.{Rise};
+ghost use Rattle.path_workers.specs.Inner.Holdings.{Rise};
 ghost use Rattle.path_workers.specs.Settled.{same_verb, same_attempt, same_reply, is_copy};
 
 use crate::answer::Receipt;

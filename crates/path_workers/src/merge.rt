@@ -5,7 +5,7 @@
 //! walk found a receipt for each line, they are there.
 
 ghost use Rattle.std.specs.Prelude.{◌≡◌, ◌+◌, ◌<◌, ◌≤◌, ◌^◌, IsTrue};
-ghost use Rattle.path_workers.specs.Holdings.{EachHasCopy};
+ghost use Rattle.path_workers.specs.Inner.Holdings.{EachHasCopy};
 ghost use Rattle.path_workers.specs.Settled.{copies};
 
 use crate::pass::Pass;

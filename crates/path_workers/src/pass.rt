@@ -4,7 +4,7 @@ ghost use Rattle.std.specs.Prelude.{◌≡◌, ◌↔◌, ◌⊎◌, ◌+◌, �
 ghost use Rattle.std.specs.Prelude.{vec_len, vec_capacity, IsOk, IsTrue, IfOk, IfSome, OnOk, OnErr};
 ghost use Rattle.path_model.specs.declared.journal.Reply.TheVariants as replies;
 ghost use Rattle.path_workers.specs.Attempts.{receipts_then, finishes_open, is_open};
-ghost use Rattle.path_workers.specs.Holdings.{open_then, opens, places_for};
+ghost use Rattle.path_workers.specs.Inner.Holdings.{open_then, opens, places_for};
 ghost use Rattle.path_workers.specs.Settled.{copies_in};
 
 use crate::answer::{Answer, Receipt};
@@ -42,7 +42,7 @@ pub struct Pass<L: Ledger, A: Allocator + Copy = Global> {
 impl<L: Ledger, A: Allocator + Copy> Model for Pass<L, A> {
     ghost use Rattle.std.specs.Prelude.{vec_capacity};
     ghost use Rattle.path_workers.specs.Attempts.{Held};
-    ghost use Rattle.path_workers.specs.Holdings.{IsKept};
+    ghost use Rattle.path_workers.specs.Inner.Holdings.{IsKept};
 
     ghost Value = { Held };
 

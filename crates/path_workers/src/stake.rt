@@ -15,7 +15,7 @@ pub struct Stake<L: Ledger> {
 
 impl<L: Ledger> Model for Stake<L> {
     ghost use Rattle.std.specs.Prelude.{◌≡◌, ℕ};
-    ghost use Rattle.path_workers.specs.Holdings.{amount_or_none};
+    ghost use Rattle.path_workers.specs.Inner.Holdings.{amount_or_none};
 
     ghost Value = { ℕ };
 

@@ -36,107 +36,96 @@ fn tell_words<O: Write, E: Write>(error: &Error, out: &mut O, err: &mut E) -> St
     }
 }
 
-/// Prints the declaration of a file.
-fn check<R: Files + AllocGlobal, O: Write, E: Write>(
+/// The bytes of the file under this id.
+fn file<'a, R: Files + AllocGlobal>(
     rt: &R,
-    words: &ArgMatches<'_>,
+    words: &ArgMatches<'a>,
+    id: &str,
+) -> Result<Vec<u8>, Fault<'a>> {
+    read_file(rt, words.get_str(id).unwrap_or(""))
+}
+
+/// The room that the words name, or else the usual one.
+fn room_in(words: &ArgMatches<'_>) -> u32 {
+    words.get_one("room").unwrap_or(ROOM)
+}
+
+/// Prints the declaration of a file.
+fn check<'a, R: Files + AllocGlobal, O: Write, E: Write>(
+    rt: &R,
+    words: &ArgMatches<'a>,
     out: &mut O,
     err: &mut E,
-) -> Status {
-    let name = words.get_str("DECL").unwrap_or("");
-    match read_file(rt, name) {
-        Ok(text) => check_to(rt.alloc(), &text, out, err),
-        Err(fault) => tell(err, fault),
-    }
+) -> Result<Status, Fault<'a>> {
+    let declaration = file(rt, words, "DECL")?;
+    Ok(check_to(rt.alloc(), &declaration, out, err))
 }
 
 /// Prints the semaphores of the declaration of a file.
-fn compile<R: Files + AllocGlobal, O: Write, E: Write>(
-    rt: &R,
-    words: &ArgMatches<'_>,
-    out: &mut O,
-    err: &mut E,
-) -> Status {
-    let name = words.get_str("DECL").unwrap_or("");
-    match read_file(rt, name) {
-        Ok(text) => compile_to(rt.alloc(), &text, out, err),
-        Err(fault) => tell(err, fault),
-    }
-}
-
-/// The bytes of the declaration's file, and of the file under the id `second`.
-fn read_both<'a, R: Files + AllocGlobal>(
+fn compile<'a, R: Files + AllocGlobal, O: Write, E: Write>(
     rt: &R,
     words: &ArgMatches<'a>,
-    second: &str,
-) -> Result<(Vec<u8>, Vec<u8>), Fault<'a>> {
-    let declaration = read_file(rt, words.get_str("DECL").unwrap_or(""))?;
-    let text = read_file(rt, words.get_str(second).unwrap_or(""))?;
-    Ok((declaration, text))
+    out: &mut O,
+    err: &mut E,
+) -> Result<Status, Fault<'a>> {
+    let declaration = file(rt, words, "DECL")?;
+    Ok(compile_to(rt.alloc(), &declaration, out, err))
 }
 
 /// Traces the attempts of one file under the declaration of another.
-fn trace<R: Files + AllocGlobal, O: Write, E: Write>(
+fn trace<'a, R: Files + AllocGlobal, O: Write, E: Write>(
     rt: &R,
-    words: &ArgMatches<'_>,
+    words: &ArgMatches<'a>,
     out: &mut O,
     err: &mut E,
-) -> Status {
-    let room = words.get_one("room").unwrap_or(ROOM);
-    let report = words.get_flag("report");
-    match read_both(rt, words, "ATTEMPTS") {
-        Ok((declaration, attempts)) => {
-            trace_bytes(rt.alloc(), &declaration, room, report, &attempts, out, err)
-        }
-        Err(fault) => tell(err, fault),
-    }
+) -> Result<Status, Fault<'a>> {
+    let declaration = file(rt, words, "DECL")?;
+    let attempts = file(rt, words, "ATTEMPTS")?;
+    let (room, report) = (room_in(words), words.get_flag("report"));
+    Ok(trace_bytes(rt.alloc(), &declaration, room, report, &attempts, out, err))
 }
 
 /// Audits the journal of one file under the declaration of another.
-fn audit<R: Files + AllocGlobal, O: Write, E: Write>(
+fn audit<'a, R: Files + AllocGlobal, O: Write, E: Write>(
     rt: &R,
-    words: &ArgMatches<'_>,
+    words: &ArgMatches<'a>,
     out: &mut O,
     err: &mut E,
-) -> Status {
-    let room = words.get_one("room").unwrap_or(ROOM);
-    match read_both(rt, words, "JOURNAL") {
-        Ok((declaration, journal)) => {
-            audit_bytes(rt.alloc(), &declaration, room, &journal, out, err)
-        }
-        Err(fault) => tell(err, fault),
-    }
+) -> Result<Status, Fault<'a>> {
+    let declaration = file(rt, words, "DECL")?;
+    let journal = file(rt, words, "JOURNAL")?;
+    Ok(audit_bytes(rt.alloc(), &declaration, room_in(words), &journal, out, err))
 }
 
 /// Runs the script of one file under the declaration of another.
-fn run<R: Files + AllocGlobal + Threads + Wait + Sync, O: Write, E: Write>(
+fn run<'a, R: Files + AllocGlobal + Threads + Wait + Sync, O: Write, E: Write>(
     rt: &R,
-    words: &ArgMatches<'_>,
+    words: &ArgMatches<'a>,
     out: &mut O,
     err: &mut E,
-) -> Status {
-    let room = words.get_one("room").unwrap_or(ROOM);
-    match read_both(rt, words, "SCRIPT") {
-        Ok((declaration, script)) => {
-            run_bytes(rt, rt.alloc(), &declaration, room, &script, out, err)
-        }
-        Err(fault) => tell(err, fault),
-    }
+) -> Result<Status, Fault<'a>> {
+    let declaration = file(rt, words, "DECL")?;
+    let script = file(rt, words, "SCRIPT")?;
+    Ok(run_bytes(
+        rt,
+        rt.alloc(),
+        &declaration,
+        room_in(words),
+        &script,
+        out,
+        err,
+    ))
 }
 
 /// Traces standard input.
-fn without_words<R: Input + AllocGlobal, O: Write, E: Write>(
+fn without_words<'a, R: Input + AllocGlobal, O: Write, E: Write>(
     rt: &R,
     out: &mut O,
     err: &mut E,
-) -> Status {
-    match read_stdin(rt) {
-        Ok(input) => {
-            let (declaration, attempts) = whole(&input);
-            trace_bytes(rt.alloc(), declaration, ROOM, false, attempts, out, err)
-        }
-        Err(fault) => tell(err, fault),
-    }
+) -> Result<Status, Fault<'a>> {
+    let input = read_stdin(rt)?;
+    let (declaration, attempts) = whole(&input);
+    Ok(trace_bytes(rt.alloc(), declaration, ROOM, false, attempts, out, err))
 }
 
 /// Runs the command that clap matched.
@@ -146,13 +135,17 @@ fn matched<R: Files + Input + AllocGlobal + Threads + Wait + Sync, O: Write, E: 
     out: &mut O,
     err: &mut E,
 ) -> Status {
-    match matches.subcommand() {
+    let ended = match matches.subcommand() {
         Some(("check", words)) => check(rt, words, out, err),
         Some(("compile", words)) => compile(rt, words, out, err),
         Some(("audit", words)) => audit(rt, words, out, err),
         Some(("run", words)) => run(rt, words, out, err),
         Some((_, words)) => trace(rt, words, out, err),
         None => without_words(rt, out, err),
+    };
+    match ended {
+        Ok(status) => status,
+        Err(fault) => tell(err, fault),
     }
 }
 

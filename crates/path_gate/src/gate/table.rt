@@ -3,10 +3,11 @@
 ghost use Rattle.std.specs.Prelude.{◌≡◌, ◌+◌, ◌-◌, ◌<◌, ◌++◌, length, map, All, IfOk, OnOk, replicate, []};
 ghost use Rattle.path_model.specs.declared.ids.OpId.{OpId};
 ghost use Rattle.path_trim.specs.Rows.{row_of};
-ghost use Rattle.path_gate.specs.Soundness.{IsLaidOut, runs_of};
-ghost use Rattle.path_gate.specs.Opening.{rows_of, terms_for, ops_terms, put_value, put_all, at_zero, IsBelow};
+ghost use Rattle.path_gate.specs.Inner.Soundness.{IsLaidOut, runs_of};
+ghost use Rattle.path_gate.specs.Inner.Opening.{rows_of, terms_for, ops_terms, put_value, put_all, at_zero, IsBelow};
 
 use crate::gate::Term;
+use crate::gate::levels::Levels;
 use path_model::{OutOfMemory, PathId};
 use path_trim::{LeanOp, LeanPath};
 use std::alloc::Allocator;
@@ -116,20 +117,20 @@ fn add_terms<A: Allocator + Copy>(
 /// Adds a path that is kept: the opening values of its semaphores and counters, and the terms of its operations. The cost is one
 /// look at each of these.
 pub fn add_path<A: Allocator + Copy>(
-    semaphores: &mut Vec<u64, A>,
-    counters: &mut Vec<u64, A>,
+    levels: &mut Levels<A>,
     by_op: &mut Vec<Vec<Term, A>, A>,
     path: &LeanPath<A>,
 ) -> Result<(), OutOfMemory>
     requires { All (IsBelow (length by_op.old.items)) (row_of path.now).ops }
-    ensures semaphores { OnOk result (semaphores.new.items ≡ put_all (row_of path.now).semaphores semaphores.old.items) }
-    ensures counters { OnOk result (counters.new.items ≡ put_all (map at_zero (row_of path.now).counters) counters.old.items) }
+    ensures semaphores { OnOk result (levels.new.semaphores.items ≡ put_all (row_of path.now).semaphores levels.old.semaphores.items) }
+    ensures counters { OnOk result (levels.new.counters.items ≡
+        put_all (map at_zero (row_of path.now).counters) levels.old.counters.items) }
     ensures kept { OnOk result (length by_op.new.items ≡ length by_op.old.items) }
     ensures added { OnOk result ((a : OpId) →
         terms_for by_op.new.items a ≡ terms_for by_op.old.items a ++ ops_terms path.now.path (row_of path.now).ops a) }
 {
-    put_semaphores(semaphores, &path.semaphores)?;
-    put_counters(counters, &path.counters)?;
+    put_semaphores(&mut levels.semaphores, &path.semaphores)?;
+    put_counters(&mut levels.counters, &path.counters)?;
     add_terms(by_op, path.path, &path.ops)
 }
 
@@ -151,13 +152,13 @@ pub fn in_one_list<A: Allocator + Copy>(
     ensures laid_out { IfOk result (λ lists. IsLaidOut lists.0.items lists.1.items) }
 {
     let mut terms = Vec::with_capacity(alloc, length_of_all(by_op))?;
-    let mut bounds = Vec::with_capacity(alloc, by_op.len())?;
+    let mut ranges = Vec::with_capacity(alloc, by_op.len())?;
     for run in by_op {
         let start = terms.len();
         terms.extend_from_slice(run)?;
-        bounds.push((start, terms.len()))?;
+        ranges.push((start, terms.len()))?;
     }
-    Ok((terms, bounds))
+    Ok((terms, ranges))
 }
 
 /// Counts each of these operations once more, up to `u32::MAX`.
@@ -170,7 +171,7 @@ fn count_ops(counts: &mut [u32], ops: &[LeanOp]) {
 }
 
 /// How many of these paths name each operation.
-fn paths_by_op<A: Allocator + Copy>(
+fn count_paths<A: Allocator + Copy>(
     alloc: A,
     paths: &[LeanPath<A>],
 ) -> Result<Vec<u32, A>, OutOfMemory>
@@ -190,7 +191,7 @@ pub fn no_terms<A: Allocator + Copy>(
 ) -> Result<Vec<Vec<Term, A>, A>, OutOfMemory>
     ensures { IfOk result (λ v. rows_of v.items ≡ replicate 256 []) }
 {
-    let counts = paths_by_op(alloc, paths)?;
+    let counts = count_paths(alloc, paths)?;
     let mut by_op = Vec::with_capacity(alloc, counts.len())?;
     for count in &counts {
         by_op.push(Vec::with_capacity(alloc, *count as usize)?)?;

@@ -2,7 +2,8 @@
 use Rattle.std.proofs.Common.{◌≡◌, ◌∙◌, length, sym, arith}
 use Rattle.std.specs.Prelude.{map}
 use Rattle.std.proofs.lemmas.List.{length-map}
-use Rattle.path_audit.specs.Verdicts.{IsAuditFault, IsRoom}
+use Rattle.path_model.specs.Rooms.{IsRoom}
+use Rattle.path_audit.specs.Verdicts.{IsAuditFault}
 use Rattle.path_audit.proofs.Replayed.{sound_exactly, wrong_exactly, wanting_fault}
 use Rattle.path_audit.proofs.auditor.audit.Goals as goal
 

@@ -5,7 +5,7 @@ use Rattle.path_model.specs.Trees.{Tree, shape}
 use Rattle.path_model.specs.Flat.{Sited, first_bound}
 use Rattle.path_code.specs.declared.terms.Prologue.TheVariants.{P}
 use Rattle.path_code.specs.PathCodes.{numbers_from}
-use Rattle.path_code.specs.Walks.{starts_in, bounds_from}
+use Rattle.path_code.specs.Inner.Walks.{starts_in, bounds_from}
 use Rattle.path_code.proofs.NumberLists.{first_values}
 use Rattle.path_code.proofs.Substituted.{flat, length_starts, semaphores_whole, ops_whole}
 use Rattle.path_code.proofs.translator.path_code.Goals as goal

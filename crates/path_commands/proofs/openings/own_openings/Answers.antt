@@ -1,11 +1,17 @@
 -- One more opening is that of the next resource.
-use Rattle.std.proofs.Common.{ap, ◌∙◌, arith}
+use Rattle.std.proofs.Common.{◌≡◌, ◌<◌, length, Some, option_map, sym, ap, ◌∙◌, arith}
+use Rattle.std.proofs.lemmas.Option.{slice_get-get_or}
+use Rattle.path_model.specs.Declarations.{law_of}
 use Rattle.path_shelf.specs.Openings.{opening_numbers}
-use Rattle.path_commands.proofs.OpeningLemmas.{opening_more}
+use Rattle.path_commands.proofs.OpeningLemmas.{undeclared, opening_more}
 use Rattle.path_commands.proofs.openings.own_openings.Goals as goal
 
 pub loop-number-preserved : goal.loop-number-preserved
 loop-number-preserved g c =
-    rw c.in_ok-push.ensures.items (opening_more (λ opening. opening.items) c.loop-number.openings.items c.in_ok-opening.field-0 c.args.decl.now.declaration c.loop-number.number
-    (omega (arith, c.loop-number-test.true, c.counts-resources.ensures.resources)) c.loop-number.invariant
-    (c.in_ok-opening.ensures ∙ ap opening_numbers c.law_at.ensures))
+    let d = c.args.decl.now.declaration in
+    let n = c.loop-number.number in
+    let within : n < length d.resources = omega (arith, c.loop-number-test.true, c.counts-resources.ensures.resources) in
+    let found : Some c.unwrap-law.result ≡ Some (law_of d n) = sym c.unwrap-law.ensures ∙ c.law_of.ensures ∙ ap (option_map (λ r. r.law)) (slice_get-get_or d.resources n undeclared within) in
+    let law : c.unwrap-law.result ≡ law_of d n = cc in
+    rw c.in_ok-push.ensures.items (opening_more (λ opening. opening.items) c.loop-number.openings.items c.in_ok-opening.field-0 d n
+    within c.loop-number.invariant (c.in_ok-opening.ensures ∙ ap opening_numbers law))

@@ -1,5 +1,5 @@
 -- A head names one room.
-use Rattle.std.proofs.Common.{◌≡◌, ◌++◌, decimal, arith}
+use Rattle.std.proofs.Common.{◌≡◌, ◌++◌, decimal, arith, inl, inr}
 use Rattle.std.proofs.lemmas.Grind.{common_steps}
 use Rattle.path_journal.proofs.HeadLemmas.{behind_head, one_number}
 use Rattle.path_journal.proofs.head.read_head.Goals as goal
@@ -15,10 +15,13 @@ returns-in_err-room-2-clause-none c =
     let same : c.in_ok-room.room ≡ room = p.0 in
     grind (arith, common_steps))
 
-pub returns-then-room-eq0-clause-none : goal.returns-then-room-eq0-clause-none
-returns-then-room-eq0-clause-none c = λ room rest is end e.
+pub returns-else-is_room-clause-none : goal.returns-else-is_room-clause-none
+returns-else-is_room-clause-none c = λ room rest is end e.
     let some = is.0 in
     let few = is.1 in
     let p = one_number c.in_ok-rest.rest.now c.in_ok-room.room room c.in_ok-room.rest.now rest c.in_ok-room.ensures.some.0 c.in_ok-room.ensures.some.1 c.in_ok-room.ensures.some.2 (omega (arith, few)) end (behind_head c.args.text.now c.in_ok-rest.rest.now room rest c.in_ok-rest.ensures e) in
     let same : c.in_ok-room.room ≡ room = p.0 in
-    grind (arith, common_steps)
+    elim (c.is_room.ensures.bad c.if-is_room.false) [
+      | inl zero ↦ absurd (grind (arith, common_steps, zero))
+      | inr over ↦ absurd (grind (arith, common_steps, over))
+    ]

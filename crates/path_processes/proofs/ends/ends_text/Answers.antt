@@ -8,7 +8,7 @@ use Rattle.path_processes.proofs.EndLemmas.{one_more}
 use Rattle.path_processes.proofs.ends.ends_text.Goals as goal
 
 pub loop-number-preserved : goal.loop-number-preserved
-loop-number-preserved c =
+loop-number-preserved g c =
     let d = c.args.decl.now.declaration in
     let n : ℕ = c.loop-number.number in
     let end : End = get_or c.args.ends.now n Done in

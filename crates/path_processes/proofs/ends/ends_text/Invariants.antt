@@ -5,4 +5,4 @@ use Rattle.path_processes.specs.Ends.{ends_text}
 use Rattle.path_processes.proofs.ends.ends_text.Given as goal
 
 abbrev pub invariant-loop-number : goal.invariant-loop-number
-invariant-loop-number l = string_bytes l.text ≡ ends_text l.decl.declaration (take l.number l.processes) (take l.number l.ends)
+invariant-loop-number g l = string_bytes l.text ≡ ends_text l.decl.declaration (take l.number l.processes) (take l.number l.ends)

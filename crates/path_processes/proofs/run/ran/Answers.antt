@@ -1,6 +1,8 @@
 -- The run began with an empty journal.
 use Rattle.std.proofs.Common.{rules, map}
-use Rattle.path_processes.proofs.RunLemmas.{ran_so}
+use denote.Param.Send.{sendable}
+use Rattle.path_system.proofs.CallerLemmas.{system_send}
+use Rattle.path_processes.proofs.RunLemmas.{ran_so, open_refused}
 use Rattle.path_processes.proofs.run.ran.Goals as goal
 
 pub returns-in-Ok-run-clause-run : goal.returns-in-Ok-run-clause-run
@@ -9,3 +11,10 @@ returns-in-Ok-run-clause-run g c =
     let e = c.in-Ok-run.ensures in
     ran_so c.args.decl.declaration (map g.D.Device.state c.args.devices.items) c.args.room c.in-Ok.system o.system c.in-Ok.ensures.ok e.later c.args.script.now.processes o.passes.items o.ends.items
     (search rules) (search rules) e.honest e.settled e.runs e.orderly e.blocked
+
+pub run-requires-send-S : goal.run-requires-send-S
+run-requires-send-S g c κs within = search (sendable, system_send) depth 20
+
+pub returns-in-Err-clause-err : goal.returns-in-Err-clause-err
+returns-in-Err-clause-err g c =
+    open_refused c.args.decl.declaration (map g.D.Device.state c.args.devices.items) c.args.room c.in-Err.fault c.in-Err.ensures.fault

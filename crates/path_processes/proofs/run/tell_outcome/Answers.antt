@@ -1,11 +1,14 @@
 -- The journal was written, and what the ends make of it is the status.
-use Rattle.std.proofs.Common.{List, ℕ, ap, ◌∙◌, subst}
+use Rattle.std.proofs.Common.{◌≡◌, List, ℕ, inl, inr, ap, ◌∙◌, subst}
 use Rattle.std.specs.Prelude.{Some}
 use Rattle.std.specs.Io.KnownBytes.{Appends}
 use Rattle.path_model.specs.declared.journal.Line.{Line}
 use Rattle.path_model.specs.Declarations.{Declaration}
 use Rattle.path_journal.specs.JournalTexts.{journal_text}
+use Rattle.path_streams.specs.declared.status.Status.TheVariants.{Unsound}
+use Rattle.path_streams.specs.Writes.{AppendsSome, IsFrontOf}
 use Rattle.path_processes.specs.Ends.{NotAllDone}
+use Rattle.path_processes.proofs.Endings.{ends_put}
 use Rattle.path_processes.proofs.TextLemmas.{unsound_so, whole_front}
 use Rattle.path_processes.proofs.run.tell_outcome.Given.{Over}
 use Rattle.path_processes.proofs.run.tell_outcome.Goals as goal
@@ -28,3 +31,16 @@ returns-in-Done-clause-memory g c = λ e.
     let o = c.args.outcome.now in
     let text : List ℕ = journal_text o.system.declaration (Some c.args.room) o.system.journal in
     (text, whole_front text, wrote g c)
+
+pub returns : goal.returns
+returns g c =
+    let d : Declaration = c.decl-decl.result.now.declaration in
+    let lines : List Line = c.args.outcome.now.system.journal in
+    let text = c.as_bytes.ensures.value ∙ c.in-Ok.ensures ∙ ap (λ (ls : List Line). journal_text d (Some c.args.room) ls) c.journal.ensures.value
+    ∙ ap (λ (x : Declaration). journal_text x (Some c.args.room) lines) c.decl-decl.ensures in
+    record {
+      done = λ e. absurd (c.in_default-put_text.not-Done e);
+      unsound = λ e. absurd (ends_put c.put_text.result Unsound c.put_text.ensures.statuses e);
+      memory = λ e. subst (λ (bytes : List ℕ). AppendsSome (g.O.Write.contents c.args.out.now) (g.O.Write.contents c.put_text.new.out) (IsFrontOf (λ all. all ≡ bytes))) text (c.put_text.ensures.memory e);
+      statuses = elim c.put_text.ensures.statuses [ inl e ↦ absurd (c.in_default-put_text.not-Done e) | inr (inl e) ↦ inr (inr (inl e)) | inr (inr e) ↦ inr (inr (inr e)) ];
+    }

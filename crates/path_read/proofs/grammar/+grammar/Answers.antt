@@ -1,8 +1,8 @@
 use Rattle.std.proofs.Common.{arith}
 use Rattle.std.proofs.lemmas.Result.{err_from_is_err_and}
-use Rattle.path_read.specs.Taking.{taken}
+use Rattle.path_read.specs.Inner.Taking.{taken}
 use Rattle.path_read.proofs.Reached.{first_reached, next_reached, no_alt_at, alt_ends, first_step_reached, next_step_reached, no_seq_at, seq_ends, no_first_unit, no_first_alt}
-use Rattle.path_read.specs.Reading.{told}
+use Rattle.path_read.specs.Inner.Reading.{told}
 use Rattle.path_read.proofs.Lists.{ok_then, err_then}
 use Rattle.path_read.proofs.Unit.{name_unit, group_unit, no_group, group_open, none_of, braces_unit, no_braces, no_sequence, braces_open, braces_closed}
 use Rattle.path_read.proofs.Following.{fails_then, no_value, handed_on}

@@ -1,4 +1,4 @@
-use Rattle.path_read.specs.Reading.{told}
+use Rattle.path_read.specs.Inner.Reading.{told}
 use Rattle.path_read.proofs.Unit.{plain_closing, bound_closing, neither, no_number}
 use Rattle.path_read.proofs.Following.{handed_on, no_value}
 use Rattle.path_read.proofs.grammar.closing.Goals as goal

@@ -1,6 +1,6 @@
 use Rattle.std.proofs.Common.{arith}
 use Rattle.std.proofs.lemmas.Result.{err_from_is_err_and}
-use Rattle.path_read.specs.Reading.{told}
+use Rattle.path_read.specs.Inner.Reading.{told}
 use Rattle.path_read.proofs.Following.{fails_then, no_value, handed_on}
 use Rattle.path_read.proofs.Lists.{first_body, next_body, no_body_at, body_ends, no_first_names}
 use Rattle.path_read.proofs.outline.body.Goals as goal

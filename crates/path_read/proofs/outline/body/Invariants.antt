@@ -1,6 +1,6 @@
 use Rattle.std.proofs.Common.{◌<◌, length}
-use Rattle.path_read.specs.Reading.{told}
-use Rattle.path_read.specs.Taking.{taken}
+use Rattle.path_read.specs.Inner.Reading.{told}
+use Rattle.path_read.specs.Inner.Taking.{taken}
 use Rattle.path_read.proofs.Lists.{ReachedBody}
 use Rattle.path_read.proofs.outline.body.Given as goal
 

@@ -1,8 +1,8 @@
 use Rattle.std.proofs.Common.{subst}
-use Rattle.path_read.specs.Parts.{file_parts}
-use Rattle.path_read.specs.Reading.{told}
-use Rattle.path_read.specs.Building.{nothing}
-use Rattle.path_read.specs.Taking.{sound, taken, Follows}
+use Rattle.path_read.specs.Inner.Parts.{file_parts}
+use Rattle.path_read.specs.Inner.Reading.{told}
+use Rattle.path_read.specs.Inner.Building.{nothing}
+use Rattle.path_read.specs.Inner.Taking.{sound, taken, Follows}
 use Rattle.path_read.proofs.Following.{fails_then}
 use Rattle.path_read.proofs.Lists.{ok_then, err_then, both_ok, both_err}
 use Rattle.path_read.proofs.Whole.{no_file_kept, broken_file}

@@ -1,4 +1,4 @@
-use Rattle.path_read.specs.Parts.{law_said}
+use Rattle.path_read.specs.Inner.Parts.{law_said}
 use Rattle.path_read.proofs.outline.law.Goals as goal
 
 pub returns-clause-found : goal.returns-clause-found

@@ -1,4 +1,4 @@
-use Rattle.path_read.specs.Reading.{told}
+use Rattle.path_read.specs.Inner.Reading.{told}
 use Rattle.path_read.proofs.Following.{no_value, handed_on}
 use Rattle.path_read.proofs.Lists.{path_open, path_closed, no_path_at}
 use Rattle.path_read.proofs.outline.path.Goals as goal

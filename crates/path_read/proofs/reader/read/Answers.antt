@@ -3,8 +3,8 @@ use Rattle.std.proofs.lemmas.Result.{err_from_is_err_and}
 use Rattle.path_lex.specs.Spelling.{views}
 use Rattle.path_decl.specs.Grammar.{IsFile}
 use Rattle.path_decl.specs.Text.{IsDeclarationText}
-use Rattle.path_read.specs.Reading.{told}
-use Rattle.path_read.specs.Building.{drafted}
+use Rattle.path_read.specs.Inner.Reading.{told}
+use Rattle.path_read.specs.Inner.Building.{drafted}
 use Rattle.path_read.proofs.Whole.{is_read, no_file_text, refuses_then, short_enough}
 use Rattle.path_read.proofs.Following.{no_value, no_fault, same_fault}
 use Rattle.path_read.proofs.reader.read.Goals as goal

@@ -1,6 +1,6 @@
 use Rattle.std.proofs.Common.{◌≡◌, List, ◌++◌}
 use Rattle.path_workers.specs.declared.answer.Receipt.{Receipt}
-use Rattle.path_run.specs.Parts.{AreTries}
+use Rattle.path_run.specs.Inner.Parts.{AreTries}
 use Rattle.path_run.proofs.enter.enter.Given as goal
 
 abbrev pub invariant-loop : goal.invariant-loop

@@ -1,14 +1,19 @@
 -- One more device is that of the next resource.
-use Rattle.std.proofs.Common.{ap, ◌∙◌, arith}
+use Rattle.std.proofs.Common.{◌≡◌, ◌<◌, length, Some, option_map, sym, ap, ◌∙◌, arith}
 use Rattle.std.specs.Prelude.{map}
+use Rattle.std.proofs.lemmas.Option.{slice_get-get_or}
+use Rattle.path_model.specs.Declarations.{law_of}
 use Rattle.path_shelf.specs.Openings.{opening_state}
 use Rattle.path_shelf.specs.Own.{own_state}
-use Rattle.path_trace.proofs.OwnLemmas.{own_more}
+use Rattle.path_trace.proofs.OwnLemmas.{undeclared, own_more}
 use Rattle.path_trace.proofs.own.own_devices.Goals as goal
 
 pub loop-number-preserved : goal.loop-number-preserved
 loop-number-preserved g c =
+    let d = c.args.decl.now.declaration in
+    let n = c.loop-number.number in
+    let within : n < length d.resources = omega (arith, c.loop-number-test.true, c.counts-resources.ensures.resources) in
+    let found : Some c.unwrap-law.result ≡ Some (law_of d n) = sym c.unwrap-law.ensures ∙ c.law_of.ensures ∙ ap (option_map (λ r. r.law)) (slice_get-get_or d.resources n undeclared within) in
+    let law : c.unwrap-law.result ≡ law_of d n = cc in
     ap (map own_state) c.in_ok-push.ensures.items
-    ∙ own_more own_state c.loop-number.devices.items c.in_ok-device.device c.args.decl.now.declaration c.loop-number.number
-    (omega (arith, c.loop-number-test.true, c.counts-resources.ensures.resources)) c.loop-number.invariant
-    (c.in_ok-device.ensures ∙ ap opening_state c.law_at.ensures.law)
+    ∙ own_more own_state c.loop-number.devices.items c.in_ok-new.field-0 d n within c.loop-number.invariant (c.in_ok-new.ensures ∙ ap opening_state law)

@@ -28,7 +28,7 @@ returns-in_err-answer-clause-err g c =
 pub loop-rest-preserved : goal.loop-rest-preserved
 loop-rest-preserved g c =
     answers_more _ c.args.system.now c.loop-rest.system _ c.decl.result.now.declaration c.args.attempts.now c.loop-rest.rest.now _ _ _ _ c.loop-rest.number c.in-Ok.first.length c.in-Ok.first.worker c.in-Ok.first.attempt c.decl.ensures (grind (arith, common_steps))
-    c.in-Ok.ensures.line c.in-Ok.ensures.fits c.in-Ok.ensures.length refl c.behind-rest.ensures c.in_ok-answer.ensures.ok c.loop-rest.invariant
+    c.in-Ok.ensures.line c.in-Ok.ensures.fits c.in-Ok.ensures.length refl c.after_line-rest.ensures c.in_ok-answer.ensures.ok c.loop-rest.invariant
 
 pub returns-clause-ok : goal.returns-clause-ok
 returns-clause-ok g c = answers_all _ c.args.system.now c.loop-rest.system c.args.attempts.now c.loop-rest.rest.now _ c.loop-rest.number (nil_from_length c.loop-rest.rest.now (grind (arith, common_steps))) c.loop-rest.invariant

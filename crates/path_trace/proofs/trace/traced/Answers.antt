@@ -6,13 +6,13 @@ use Rattle.path_trace.proofs.FaultLemmas.{refuses_attempts, refuses_memory}
 use Rattle.path_trace.proofs.trace.traced.Goals as goal
 
 pub returns-in-Ok-clause-ok : goal.returns-in-Ok-clause-ok
-returns-in-Ok-clause-ok g c = rw c.in-Ok.ensures.ok at c.told_by-told.ensures.ok
+returns-in-Ok-clause-ok g c = rw c.in-Ok.ensures.ok at c.replies_and_report-trace.ensures.ok
 
 pub returns-in-Ok-clause-err : goal.returns-in-Ok-clause-err
 returns-in-Ok-clause-err g c =
-    IfErr-weaker c.told_by-told.result _ _
+    IfErr-weaker c.replies_and_report-trace.result _ _
     (λ fault bad. refuses_attempts c.args.decl.declaration (map g.D.Device.state c.args.devices.items) c.args.room c.args.attempts.now (status_of fault) bad)
-    (rw c.in-Ok.ensures.ok at c.told_by-told.ensures.err)
+    (rw c.in-Ok.ensures.ok at c.replies_and_report-trace.ensures.err)
 
 pub returns-clause-err : goal.returns-clause-err
 returns-clause-err g c =

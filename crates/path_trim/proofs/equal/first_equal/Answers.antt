@@ -3,7 +3,7 @@ use Rattle.std.proofs.Common.{take, subst, sym, ◌∙◌}
 use Rattle.std.proofs.lemmas.List.{take_all}
 use Rattle.std.proofs.lemmas.List.Elements.{All-more, All-same}
 use Rattle.path_model.specs.Trees.{shape}
-use Rattle.path_trim.specs.FirstEqual.{HasOther}
+use Rattle.path_trim.specs.Inner.FirstEqual.{HasOther}
 use Rattle.path_trim.proofs.equal.first_equal.Goals as goal
 
 pub loop-place-preserved : goal.loop-place-preserved

@@ -1,7 +1,7 @@
 -- The next number goes to the end.
 use Rattle.std.proofs.Common.{◌≡◌, ◌+◌, ◌∷◌, [], Some, length, length-append, ap, arith, ◌∙◌}
 use Rattle.path_audit.specs.declared.activations.Owner.{Owner}
-use Rattle.path_audit.specs.Owners.{live_from}
+use Rattle.path_audit.specs.Inner.Owners.{live_from}
 use Rattle.path_audit.proofs.Places.{few, more, activation}
 use Rattle.path_audit.proofs.activations.Activations.begin.Goals as goal
 

@@ -4,8 +4,8 @@ use Rattle.std.specs.Prelude.{is_some, true}
 use Rattle.std.proofs.lemmas.List.{length-set}
 use Rattle.path_model.specs.declared.journal.Activation.{Activation}
 use Rattle.path_model.specs.Journals.{activation_of}
-use Rattle.path_audit.specs.Registers.{Register}
-use Rattle.path_audit.specs.Owners.{live_from}
+use Rattle.path_audit.specs.Inner.Registers.{Register}
+use Rattle.path_audit.specs.Inner.Owners.{live_from}
 use Rattle.path_audit.proofs.Places.{found, held, fewer, nowhere, without_here, there_is, there_is_none}
 use Rattle.path_audit.proofs.activations.Activations.end.Goals as goal
 use Rattle.path_audit.proofs.activations.Activations.end.Goals.{After-is_some}

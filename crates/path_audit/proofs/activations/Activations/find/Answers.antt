@@ -1,6 +1,6 @@
 -- The number is the place.
 use Rattle.std.proofs.Common.{sym, ap, arith, ◌∙◌}
-use Rattle.path_audit.specs.Owners.{owned}
+use Rattle.path_audit.specs.Inner.Owners.{owned}
 use Rattle.path_audit.proofs.Places.{late, here}
 use Rattle.path_audit.proofs.activations.Activations.find.Goals as goal
 

@@ -1,7 +1,7 @@
 -- What is live is in progress.
 use Rattle.std.proofs.Common.{sym, subst, ◌∙◌}
 use Rattle.std.specs.Prelude.{map}
-use Rattle.path_audit.specs.Replays.{AreReady}
+use Rattle.path_audit.specs.Inner.Replays.{AreReady}
 use Rattle.path_audit.proofs.replay.Replay.finish.Goals as goal
 
 pub release-requires : goal.release-requires

@@ -1,7 +1,7 @@
 -- What an admitted start changes.
 use Rattle.std.proofs.Common.{refl, subst, arith}
 use Rattle.std.specs.Prelude.{map}
-use Rattle.path_audit.specs.Replays.{ReplayValue, IsStarted}
+use Rattle.path_audit.specs.Inner.Replays.{ReplayValue, IsStarted}
 use Rattle.path_audit.proofs.replay.Replay.start.Goals as goal
 
 pub returns-in_ok-begin-in-Ok : goal.returns-in_ok-begin-in-Ok

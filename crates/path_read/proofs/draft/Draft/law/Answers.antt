@@ -2,7 +2,7 @@ use Rattle.std.proofs.Common.{◌-◌, ◌<◌, List, length, ap, ◌∙◌, ari
 use Rattle.path_model.specs.declared.resource.Law.{Law}
 use Rattle.path_model.specs.Declarations.{Resource}
 use Rattle.path_decl.specs.Table.{resources_of}
-use Rattle.path_read.specs.Building.{drafted, with_law}
+use Rattle.path_read.specs.Inner.Building.{drafted, with_law}
 use Rattle.path_read.proofs.TableLemmas.{last_with}
 use Rattle.path_read.proofs.draft.Draft.law.Goals as goal
 

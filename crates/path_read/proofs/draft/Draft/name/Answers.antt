@@ -4,7 +4,7 @@ use Rattle.std.proofs.lemmas.Option.{same_Some, slice_get_within, get_or_from_sl
 use Rattle.path_model.specs.Trees.{Tree, op, shape}
 use Rattle.path_model.specs.declared.ids.OpId.{OpId}
 use Rattle.path_decl.specs.Table.{names_of, name_at, operations_of}
-use Rattle.path_read.specs.Building.{drafted, number_of}
+use Rattle.path_read.specs.Inner.Building.{drafted, number_of}
 use Rattle.path_read.proofs.TableLemmas.{lacks_name, stands, is_place, owner_is, number_is, opened}
 use Rattle.path_read.proofs.Following.{no_value, no_memory}
 use Rattle.path_read.proofs.Numbered.{AreBelow, below_pushed, still_below, holds_number, named_by, numbered_by}

@@ -3,7 +3,7 @@ use Rattle.std.proofs.lemmas.List.{length-map}
 use Rattle.indexmap.proofs.CallerLemmas.{insert_entry-new}
 use Rattle.path_model.specs.Declarations.{Operation}
 use Rattle.path_decl.specs.Table.{names_of, name_at, operations_of}
-use Rattle.path_read.specs.Building.{drafted}
+use Rattle.path_read.specs.Inner.Building.{drafted}
 use Rattle.path_read.proofs.Following.{no_value, no_memory}
 use Rattle.path_read.proofs.TableLemmas.{names_of_operations, new_key, pushed, pushed_operation}
 use Rattle.path_read.proofs.Numbered.{AreBelow, still_below, table_kept, still_room, names_kept}

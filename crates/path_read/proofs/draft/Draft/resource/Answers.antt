@@ -4,7 +4,7 @@ use Rattle.indexmap.proofs.CallerLemmas.{insert_entry-new}
 use Rattle.path_model.specs.declared.resource.Law.TheVariants.{Cell}
 use Rattle.path_model.specs.Declarations.{Resource}
 use Rattle.path_decl.specs.Table.{resources_of}
-use Rattle.path_read.specs.Building.{drafted}
+use Rattle.path_read.specs.Inner.Building.{drafted}
 use Rattle.path_read.proofs.Following.{no_value, no_memory}
 use Rattle.path_read.proofs.TableLemmas.{names_of_resources, new_key, pushed_resource}
 use Rattle.path_read.proofs.draft.Draft.resource.Goals as goal

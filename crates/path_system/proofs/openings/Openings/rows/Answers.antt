@@ -1,6 +1,6 @@
 -- The numbers of each row.
 use Rattle.std.proofs.Common.{ap, sym, ◌∙◌}
-use Rattle.path_system.specs.Openings.{Row, numbers_of}
+use Rattle.path_system.specs.Inner.Openings.{Row, numbers_of}
 use Rattle.path_system.proofs.Rows.{map_map}
 use Rattle.path_system.proofs.openings.Openings.rows.Goals as goal
 

@@ -3,7 +3,7 @@ use Rattle.std.proofs.Common.{◌≤◌, ap, sym, ◌∙◌, ◌∷◌, [], arit
 use Rattle.std.proofs.lemmas.Bool.{cases_eq}
 use Rattle.std.proofs.lemmas.List.{length-append}
 use Rattle.path_model.specs.Declarations.{law_of}
-use Rattle.path_system.specs.Openings.{places_of}
+use Rattle.path_system.specs.Inner.Openings.{places_of}
 use Rattle.path_system.proofs.Rows.{law_found, law_none, row_pushed, row_before}
 use Rattle.path_system.proofs.openings.Openings.with_places.Goals as goal
 use Rattle.path_system.proofs.openings.Openings.with_places.Goals.{in-Some, in-None}

@@ -1,7 +1,7 @@
 -- The rows so far have the places of their laws.
 use Rattle.std.proofs.Common.{◌≡◌, ◌<◌, ◌≤◌, ℕ, length, map, vec_capacity}
 use Rattle.path_model.specs.Declarations.{law_of}
-use Rattle.path_system.specs.Openings.{places_of, row_at}
+use Rattle.path_system.specs.Inner.Openings.{places_of, row_at}
 use Rattle.path_system.proofs.openings.Openings.with_places.Given as goal
 
 abbrev pub invariant-loop-resource : goal.invariant-loop-resource

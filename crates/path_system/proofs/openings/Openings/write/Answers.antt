@@ -1,7 +1,7 @@
 -- One row is written.
 use Rattle.std.proofs.Common.{◌<◌, length, ap, arith, vec_capacity}
 use Rattle.std.proofs.lemmas.List.{length-map}
-use Rattle.path_system.specs.Openings.{Row}
+use Rattle.path_system.specs.Inner.Openings.{Row}
 use Rattle.path_system.proofs.Rows.{row_written}
 use Rattle.path_system.proofs.openings.Openings.write.Goals as goal
 

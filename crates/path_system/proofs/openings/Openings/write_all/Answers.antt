@@ -3,7 +3,7 @@ use Rattle.std.proofs.Common.{length, ap, ◌∙◌, arith}
 use Rattle.std.specs.Prelude.{map}
 use Rattle.std.proofs.lemmas.List.{length-set}
 use Rattle.path_shelf.specs.States.{state_at}
-use Rattle.path_system.specs.Openings.{Row}
+use Rattle.path_system.specs.Inner.Openings.{Row}
 use Rattle.path_system.proofs.Rows.{places_same, places_written, written_more, all_written}
 use Rattle.path_system.proofs.openings.Openings.write_all.Goals as goal
 

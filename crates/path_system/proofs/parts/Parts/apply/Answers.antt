@@ -1,7 +1,8 @@
 -- The operation of what is live was declared, and its resource has a device.
 use Rattle.std.proofs.Common.{sym, ◌∙◌, subst, arith}
-use Rattle.path_system.specs.Parts.{AreReady}
-use Rattle.path_system.proofs.Answered.{found_declared, declared_in}
+use Rattle.path_gate.proofs.CallerLemmas.{found_declared}
+use Rattle.path_system.specs.Inner.Parts.{AreReady}
+use Rattle.path_system.proofs.Answered.{declared_in}
 use Rattle.path_system.proofs.parts.Parts.apply.Goals as goal
 
 pub resource_at-resource-requires : goal.resource_at-resource-requires

@@ -1,7 +1,7 @@
 -- What is live is in progress.
 use Rattle.std.proofs.Common.{sym, subst}
-use Rattle.path_system.specs.Parts.{AreReady}
-use Rattle.path_system.proofs.Tested.{own_found}
+use Rattle.path_system.specs.Inner.Parts.{AreReady}
+use Rattle.path_system.proofs.Owned.{own_found}
 use Rattle.path_system.proofs.parts.Parts.finish.Goals as goal
 
 pub release-requires : goal.release-requires

@@ -1,6 +1,6 @@
 -- What an admitted start changes.
 use Rattle.std.proofs.Common.{refl, subst, arith}
-use Rattle.path_system.specs.Parts.{PartsValue, IsStarted}
+use Rattle.path_system.specs.Inner.Parts.{PartsValue, IsStarted}
 use Rattle.path_system.proofs.parts.Parts.start.Goals as goal
 
 pub returns-in-Ok-clause-moves : goal.returns-in-Ok-clause-moves

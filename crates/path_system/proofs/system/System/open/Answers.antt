@@ -1,23 +1,26 @@
--- The room is tested first, and then the parts are those of the empty journal.
-use Rattle.std.proofs.Common.{◌≡◌, ap, sym, subst, ◌∙◌, rules, inl, inr, arith, length}
+-- The room and the devices are tested first, and then the parts are those of the empty journal.
+use Rattle.std.proofs.Common.{◌≡◌, ap, sym, subst, ◌∙◌, rules, length}
 use Rattle.std.specs.Prelude.{map}
 use Rattle.path_model.specs.Declarations.{Declaration}
 use Rattle.path_shelf.specs.States.{laws_of}
 use Rattle.path_system.specs.Accounts.{contents_of}
-use Rattle.path_system.specs.Openings.{AreFor, numbers_of}
-use Rattle.path_system.proofs.Opened.{open_fault, have_places, same_for, opened_count}
+use Rattle.path_system.specs.Inner.Openings.{AreFor, numbers_of}
+use Rattle.path_system.proofs.Opened.{open_fault, good_room, have_places, same_for, opened_count}
 use Rattle.path_system.proofs.Stepped.{true_opened}
 use Rattle.path_system.proofs.system.System.open.Goals as goal
 
+pub returns-in-Some-clause-fault : goal.returns-in-Some-clause-fault
+returns-in-Some-clause-fault g c = rw c.deref.ensures.value at c.in-Some.ensures.some.1
+
 pub returns-in-Err-clause-fault : goal.returns-in-Err-clause-fault
-returns-in-Err-clause-fault g c = c.in-Err.ensures.fault (map g.D.Device.state c.args.devices.items)
+returns-in-Err-clause-fault g c = (c.in_default.ensures.none.0, tt)
 
 pub returns-in-Err-open-clause-fault : goal.returns-in-Err-open-clause-fault
 returns-in-Err-open-clause-fault g c =
-    let room = c.in-Ok.ensures.good_room in
-    open_fault c.args.room (map g.D.Device.state c.args.devices.items) c.args.decl.declaration c.in-Err-open.fault
-    (λ bad. elim bad [ inl e ↦ absurd (omega (arith, room, e)) | inr l ↦ absurd (omega (arith, room, l)) ])
-    c.in-Err-open.ensures.fault
+    open_fault c.args.room (map g.D.Device.state c.args.devices.items) c.args.decl.declaration c.in-Err-open.fault c.in_default.ensures.none.0 c.in-Err-open.ensures.fault
+
+pub returns-clause-good_room : goal.returns-clause-good_room
+returns-clause-good_room g c = good_room c.args.room c.in_default.ensures.none.0
 
 pub write_all-requires-clause-devices : goal.write_all-requires-clause-devices
 write_all-requires-clause-devices g c =

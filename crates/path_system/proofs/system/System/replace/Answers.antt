@@ -6,8 +6,8 @@ use Rattle.std.proofs.lemmas.Result.{IfErr-weaker}
 use Rattle.std.proofs.lemmas.Grind.{common_steps}
 use Rattle.path_shelf.specs.States.{State}
 use Rattle.path_system.specs.Accounts.{Account, failures_of}
-use Rattle.path_system.specs.Openings.{Row, row_at, numbers_of}
-use Rattle.path_system.specs.Parts.{PartsValue, IsPartsFault}
+use Rattle.path_system.specs.Inner.Openings.{Row, row_at, numbers_of}
+use Rattle.path_system.specs.Inner.Parts.{PartsValue, IsPartsFault}
 use Rattle.path_system.proofs.Answered.{ready}
 use Rattle.path_system.proofs.Replaced.{may_replace, replace_fault, told_replaced, replaced_in, replaced_state, replaced_places}
 use Rattle.path_system.proofs.system.System.replace.Goals as goal

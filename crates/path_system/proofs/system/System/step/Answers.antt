@@ -1,10 +1,10 @@
 -- The reply is owed, and the parts agree with the journal and its new line.
 use Rattle.std.proofs.Common.{◌≡◌, ◌≢◌, ℕ, length, arith, ◌∙◌, subst, sym}
 use Rattle.path_model.specs.declared.journal.Reply.TheVariants.{NoRoom}
-use Rattle.path_system.specs.Openings.{AreFor, numbers_of}
+use Rattle.path_system.specs.Inner.Openings.{AreFor, numbers_of}
 use Rattle.path_system.specs.Accounts.{failures_of}
 use Rattle.path_model.specs.Asked.{resource_asked}
-use Rattle.path_system.specs.Parts.{Answers}
+use Rattle.path_system.specs.Inner.Parts.{Answers}
 use Rattle.path_system.proofs.Answered.{ready, owed_is}
 use Rattle.path_system.proofs.Stepped.{declaration_kept, fits, begun_few, admitted_few, true_more, true_still, place_left}
 use Rattle.path_system.proofs.Counted.{AreCounted, counted}

@@ -3,7 +3,7 @@ use Rattle.std.proofs.Common.{◌≡◌, ℕ, List, [], length, ap, sym, subst, 
 use Rattle.std.specs.Prelude.{vec_len, vec_capacity}
 use Rattle.path_workers.specs.declared.answer.Receipt.{Receipt}
 use Rattle.path_workers.specs.Attempts.{receipts_then}
-use Rattle.path_workers.specs.Holdings.{Rise, opens, places_for}
+use Rattle.path_workers.specs.Inner.Holdings.{Rise, opens, places_for}
 use Rattle.path_workers.proofs.Opens.{placed_of, has_place, kept, starts_alone}
 use Rattle.path_workers.proofs.Rising.{rises_then}
 use Rattle.path_workers.proofs.pass.Pass.make.Goals as goal

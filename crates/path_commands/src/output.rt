@@ -1,0 +1,79 @@
+//! From the text of a declaration to what a command writes of it.
+
+ghost use Rattle.std.specs.Prelude.{◌≡◌, ◌≢◌, IfOk, IfErr};
+ghost use Rattle.std.specs.String.{string_bytes};
+ghost use Rattle.std.specs.Io.KnownBytes.{Keeps};
+ghost use Rattle.path_streams.specs.Statuses.{status_of};
+ghost use Rattle.path_streams.specs.Writes.{AppendsSome, IsFrontOf};
+ghost use Rattle.path_streams.specs.Refusals.{IsNoDeclaration, IsUndeclared};
+ghost use Rattle.path_commands.specs.Outputs.{output_text, IsOutputOf};
+
+use crate::listings::listings;
+use path_decl::Decl;
+use path_model::OutOfMemory;
+use path_print::print;
+use path_read::read;
+use path_streams::{Fault, Status, put_text, tell};
+use std::alloc::Allocator;
+use std::io::Write;
+
+/// What a command writes of a declaration.
+#[derive(Clone, Copy)]
+pub enum Output {
+    /// Its print.
+    Print,
+    /// What it is compiled to.
+    Listings,
+}
+
+/// What is written of a declaration. Fails only if allocation fails.
+fn output_of<A: Allocator + Copy>(
+    alloc: A,
+    decl: &Decl<A>,
+    output: Output,
+) -> Result<String<A>, OutOfMemory>
+    ensures { IfOk result (λ text. string_bytes text ≡ output_text output decl.now.declaration) }
+{
+    match output {
+        Output::Print => Ok(print(alloc, decl)?),
+        Output::Listings => listings(alloc, decl),
+    }
+}
+
+/// What is written of the declaration in `text`.
+fn read_output<A: Allocator + Copy>(
+    alloc: A,
+    text: &[u8],
+    output: Output,
+) -> Result<String<A>, Fault<'static>>
+    ensures ok { IfOk result (λ written. IsOutputOf output text.now (string_bytes written)) }
+    ensures err { IfErr result (λ fault. IsUndeclared text.now (status_of fault)) }
+{
+    match read(alloc, text) {
+        Ok(decl) => Ok(output_of(alloc, &decl, output)?),
+        Err(fault) => Err(Fault::Declaration(fault)),
+    }
+}
+
+/// Reads a declaration and writes this of it. The statuses are those of [`check_to`](crate::check_to).
+pub fn put_output<A: Allocator + Copy, O: Write, E: Write>(
+    alloc: A,
+    text: &[u8],
+    output: Output,
+    out: &mut O,
+    err: &mut E,
+) -> Status
+    // The text is a declaration, and this was written of it.
+    ensures done { result ≡ Status.Done → AppendsSome (O.contents out.old) (O.contents out.new) (IsOutputOf output text.now) }
+    // The text isn't a declaration, and nothing was written.
+    ensures refused { result ≡ Status.DeclarationRefused → Keeps (O.contents out.old) (O.contents out.new) × IsNoDeclaration text.now }
+    // Only a front was written.
+    ensures memory { result ≡ Status.NoMemory
+        → AppendsSome (O.contents out.old) (O.contents out.new) (IsFrontOf (IsOutputOf output text.now)) }
+    ensures statuses { (result ≢ Status.CommandRefused) × (result ≢ Status.TextRefused) × (result ≢ Status.Unsound) }
+{
+    match read_output(alloc, text, output) {
+        Ok(written) => put_text(out, err, written.as_bytes()),
+        Err(fault) => tell(err, fault),
+    }
+}

@@ -1,0 +1,8 @@
+-- What the crates above cite of these proofs, and all that they cite.
+
+-- whether a journal has a place for an attempt, and whose an activation is
+pub use Rattle.path_gate.proofs.Placed.{roomy, not_roomy, roomy_or, not_roomy_or, not_own, own_or_other}
+-- a start that no path forbids, and the operation of what is live
+pub use Rattle.path_gate.proofs.Placed.{none_forbids, found_declared}
+-- what may go to another thread
+pub use Rattle.path_gate.proofs.Threads.{gate_send}

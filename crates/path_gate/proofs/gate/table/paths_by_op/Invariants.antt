@@ -1,6 +1,0 @@
--- Each operation has a count.
-use Rattle.std.proofs.Common.{◌≡◌, length}
-use Rattle.path_gate.proofs.gate.table.paths_by_op.Given as goal
-
-abbrev pub invariant-loop-path : goal.invariant-loop-path
-invariant-loop-path g l = length l.counts.items ≡ 256

@@ -1,0 +1,5 @@
+//! The tests of translating and trimming.
+
+mod code;
+mod listing;
+mod trim;

@@ -1,0 +1,7 @@
+//! The tests of commands.
+
+mod audits;
+mod check;
+mod commands;
+mod compile;
+mod refusals;

@@ -1,0 +1,6 @@
+//! The tests of runs from bytes to bytes.
+
+mod memory;
+mod own;
+mod refused;
+mod runs;

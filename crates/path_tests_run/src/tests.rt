@@ -1,0 +1,9 @@
+//! The tests of runs.
+
+mod buffers;
+mod dropped;
+mod ends;
+mod memory;
+mod own;
+mod stopped;
+mod together;

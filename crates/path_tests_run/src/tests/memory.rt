@@ -1,0 +1,94 @@
+//! Each request for memory of a run is refused in turn.
+
+use crate::tests::own::{ROOM, SLOT, end_so, system_of};
+use path_model::OutOfMemory;
+use path_run::{AlwaysOpen, End, Outcome, RunFault, run};
+use path_script::{Script, ScriptFault, read_script};
+use path_shelf::Cell;
+use path_system::System;
+use path_workers::Steps;
+use std::alloc::{Allocator, Global};
+use std::process::Abort;
+use std::sync::Wait;
+use std::thread::Threads;
+use test_support::Refusing;
+
+/// A producer and a consumer of three rounds.
+const ROUNDS: &[u8] = b"process p
+enter deposit\nuse put 7\nleave\nenter deposit\nuse put 7\nleave\nenter deposit\nuse put 7\nleave\nend
+process q
+enter remove\nuse look\nleave\nenter remove\nuse look\nleave\nenter remove\nuse look\nleave\nend";
+
+/// Whether both processes are done. `OutOfMemory`: one of them ran out of memory. In each case nothing is live.
+fn both_done<A: Allocator + Copy>(outcome: Outcome<System<Cell>, A>) -> Result<bool, OutOfMemory> {
+    let Outcome {
+        system,
+        passes: _passes,
+        ends,
+    } = outcome;
+    let short = ends.iter().filter(|end| **end == End::NoMemory).count();
+    let are_done = end_so(ends.as_slice(), &[End::Done, End::Done]);
+    match system.close() {
+        Ok(_journal) if short == 1 => Err(OutOfMemory),
+        Ok(_journal) => Ok(are_done),
+        Err(_system) => Ok(false),
+    }
+}
+
+/// No process began, so the system has no lines.
+fn none_began(system: System<Cell>) -> Result<bool, OutOfMemory> {
+    if system.journal().is_empty() {
+        Err(OutOfMemory)
+    } else {
+        Ok(false)
+    }
+}
+
+/// Runs a script over this system, with memory from `alloc`.
+fn run_from<S: Steps + Send, A: Allocator + Copy + Send + Sync, R: Threads + Wait + Sync>(
+    rt: &R,
+    alloc: A,
+    system: S,
+    script: &Script<A>,
+) -> Result<Outcome<S, A>, RunFault<S>> {
+    run(rt, alloc, system, script, &AlwaysOpen)
+}
+
+/// Runs the slot's script. This allocator serves the script and the run.
+fn ran_with<R: Threads + Wait + Abort + Sync>(
+    rt: &R,
+    heap: Global,
+    refusing: &Refusing<Global>,
+) -> Result<bool, OutOfMemory> {
+    let system = system_of(rt, heap, SLOT, Cell::new(0), ROOM);
+    let script = match read_script(refusing, system.decl(), ROUNDS) {
+        Ok(script) => script,
+        Err(ScriptFault::OutOfMemory) => return Err(OutOfMemory),
+        Err(_fault) => return Ok(false),
+    };
+    match run_from::<System<Cell>, &Refusing<Global>, R>(rt, refusing, system, &script) {
+        Ok(outcome) => both_done(outcome),
+        Err(RunFault::OutOfMemory(system)) => none_began(system),
+        Err(RunFault::Unsettled(_fault, _system)) => Ok(false),
+    }
+}
+
+/// Whether the request of this number was made, and so refused. If it was, the script isn't read, or a process has no memory, unless
+/// it was for the receipt of a finish, which has its place already.
+fn refuses<R: Threads + Wait + Abort + Sync>(rt: &R, heap: Global, number: u64) -> bool {
+    let refusing = Refusing::new(heap, number);
+    let answer = ran_with(rt, heap, &refusing);
+    assert!(rt; answer == Ok(true) || (answer == Err(OutOfMemory) && refusing.has_refused()));
+    refusing.has_refused()
+}
+
+#[test]
+fn each_request_is_refused(rt: HostRuntime) {
+    for number in 1..1000u64 {
+        if !refuses(&rt, rt.alloc(), number) {
+            assert!(&rt; number > 4);
+            return;
+        }
+    }
+    panic!(&rt; "never passed");
+}

@@ -1,0 +1,6 @@
+//! The tests of scripts.
+
+mod declaration;
+mod faults;
+mod limits;
+mod scripts;

@@ -1,0 +1,5 @@
+//! The tests of devices and shelves.
+
+mod laws;
+mod remembering;
+mod shelf;

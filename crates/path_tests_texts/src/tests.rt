@@ -1,0 +1,8 @@
+//! The tests of texts.
+
+mod attempts;
+mod declaration;
+mod fields;
+mod journals;
+mod lines;
+mod verbs;

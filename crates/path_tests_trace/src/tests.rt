@@ -1,0 +1,13 @@
+//! The tests of streams and traces.
+
+mod bytes;
+mod devices;
+mod endings;
+mod failing_traces;
+mod faults;
+mod input;
+mod overlap;
+mod reports;
+mod trace;
+mod whole;
+mod writers;

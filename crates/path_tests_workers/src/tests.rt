@@ -1,0 +1,6 @@
+//! The tests of desks.
+
+mod memory;
+mod own;
+mod settling;
+mod threads;

@@ -1,0 +1,269 @@
+//! Desks that are settled, and those that aren't.
+
+ghost use Rattle.std.specs.Prelude.{◌≡◌};
+
+use crate::tests::own::{FIRST, ROOM, Row, SECOND, SLOT, makes, makes_all, open_system};
+use path_model::{ActId, Attempt, OutOfMemory, PathId, Reply, Verb};
+use path_shelf::Cell;
+use path_system::System;
+use path_workers::{Desk, Opening, Pass, Receipt, SettleFault, Steps};
+use std::alloc::Global;
+use std::marker::Brand;
+use std::process::Abort;
+use std::sync::Wait;
+use std::sync::ledger::{Blank, Ledger};
+
+const DEPOSIT: &[Row] = &[
+    (FIRST, Some(0), Reply::Started(ActId(0))),
+    (
+        Attempt::Apply(ActId(0), Verb::Put(7)),
+        Some(1),
+        Reply::Used(0),
+    ),
+    (Attempt::Finish(ActId(0)), Some(2), Reply::Finished),
+];
+
+const REMOVE: &[Row] = &[
+    (SECOND, Some(3), Reply::Started(ActId(1))),
+    (Attempt::Finish(ActId(1)), Some(4), Reply::Finished),
+];
+
+/// The receipts of worker 2 in the end.
+const REMOVED: [Receipt; 2] = [
+    Receipt {
+        place: 3,
+        attempt: SECOND,
+        reply: Reply::Started(ActId(1)),
+    },
+    Receipt {
+        place: 4,
+        attempt: Attempt::Finish(ActId(1)),
+        reply: Reply::Finished,
+    },
+];
+
+/// Which passes of the two a desk is settled with.
+#[derive(Clone, Copy)]
+enum Given {
+    Both,
+    Turned,
+    FirstAlone,
+}
+
+/// How many lines the journal has, and how many receipts each pass has; or why the desk isn't settled.
+type Outcome = Result<(usize, usize, usize), SettleFault>;
+
+fn chosen<L: Ledger>(
+    alloc: Global,
+    one: Pass<L>,
+    two: Pass<L>,
+    given: Given,
+) -> Result<Vec<Pass<L>>, OutOfMemory> {
+    let mut passes = Vec::with_capacity(alloc, 2)?;
+    match given {
+        Given::Both => {
+            passes.push(one)?;
+            passes.push(two)?;
+        }
+        Given::Turned => {
+            passes.push(two)?;
+            passes.push(one)?;
+        }
+        Given::FirstAlone => passes.push(one)?,
+    }
+    Ok(passes)
+}
+
+fn receipts<L: Ledger>(pass: Option<&Pass<L>>) -> usize {
+    match pass {
+        Some(pass) => pass.receipts().len(),
+        None => 0,
+    }
+}
+
+// The outcome of settling the desk with these passes.
+fn outcome<L: Opening, M: Ledger, S: Steps>(desk: Desk<L, S>, passes: Vec<Pass<M>>) -> Outcome {
+    match desk.settle(passes) {
+        Ok(settled) => Ok((
+            settled.system.journal().len(),
+            receipts(settled.passes.get(0)),
+            receipts(settled.passes.get(1)),
+        )),
+        Err((fault, _system)) => Err(fault),
+    }
+}
+
+// A deposit by worker 1 and its removal by worker 2, settled with the passes that are given.
+fn exchanged<L: Opening, R: Wait + Abort>(
+    rt: &R,
+    alloc: Global,
+    system: System<Cell>,
+    blank: Blank,
+    given: Given,
+) -> Result<Outcome, OutOfMemory>
+    requires name { blank.name ≡ L.name }
+    requires parts { (blank.parts ≡ L.parts) × (blank.parts ≡ 18446744073709551615) }
+    requires opened { system ≡ L.opened }
+{
+    let desk = Desk::<L, System<Cell>>::open(system, blank);
+    let mut one = desk.pass(alloc, 1);
+    let mut two = desk.pass(alloc, 2);
+    makes_all(rt, &desk, &mut one, DEPOSIT);
+    makes_all(rt, &desk, &mut two, REMOVE);
+    assert!(rt; two.worker() == 2 && two.receipts() == REMOVED.as_slice());
+    let passes = chosen(alloc, one, two, given)?;
+    Ok(outcome(desk, passes))
+}
+
+fn slot_settled<R: Wait + Abort>(
+    rt: &R,
+    alloc: Global,
+    given: Given,
+) -> Result<Outcome, OutOfMemory> {
+    let system = open_system(rt, alloc, SLOT, ROOM, Cell::new(0));
+    exchanged::<Brand, R>(rt, alloc, system, Blank::new(u64::MAX), given)
+}
+
+// Also finds a desk that makes another attempt than the one it was given, which no clause can see.
+#[test]
+fn settle(rt: HostRuntime) {
+    let outcome = slot_settled(&rt, rt.alloc(), Given::Both);
+    assert!(rt; outcome == Ok(Ok((5, 3, 2))));
+}
+
+#[test]
+fn passes_in_any_order(rt: HostRuntime) {
+    let outcome = slot_settled(&rt, rt.alloc(), Given::Turned);
+    assert!(rt; outcome == Ok(Ok((5, 2, 3))));
+}
+
+#[test]
+fn missing_pass(rt: HostRuntime) {
+    let outcome = slot_settled(&rt, rt.alloc(), Given::FirstAlone);
+    let fault = SettleFault::MissingPass {
+        lines: 5,
+        receipts: 3,
+    };
+    assert!(rt; outcome == Ok(Err(fault)));
+}
+
+// How settling a desk ends with the pass of a desk over another system.
+fn crossed<L: Opening, M: Opening, R: Wait + Abort>(
+    rt: &R,
+    alloc: Global,
+    here: System<Cell>,
+    blank_here: Blank,
+    there: System<Cell>,
+    blank_there: Blank,
+) -> Result<Outcome, OutOfMemory>
+    requires name { (blank_here.name ≡ L.name) × (blank_there.name ≡ M.name) }
+    requires parts { (blank_here.parts ≡ L.parts) × (blank_here.parts ≡ 18446744073709551615) }
+    requires parts_there { (blank_there.parts ≡ M.parts) × (blank_there.parts ≡ 18446744073709551615) }
+    requires opened { (here ≡ L.opened) × (there ≡ M.opened) }
+{
+    let desk = Desk::<L, System<Cell>>::open(here, blank_here);
+    let other = Desk::<M, System<Cell>>::open(there, blank_there);
+    let mut own = desk.pass(alloc, 1);
+    let mut foreign = other.pass(alloc, 1);
+    makes(
+        rt,
+        &desk,
+        &mut own,
+        (FIRST, Some(0), Reply::Started(ActId(0))),
+    );
+    makes(
+        rt,
+        &other,
+        &mut foreign,
+        (SECOND, Some(0), Reply::Blocked(PathId(0))),
+    );
+    let mut passes = Vec::new(alloc);
+    passes.push(foreign)?;
+    Ok(outcome(desk, passes))
+}
+
+fn slots_crossed<R: Wait + Abort>(rt: &R, alloc: Global) -> Result<Outcome, OutOfMemory> {
+    let here = open_system(rt, alloc, SLOT, ROOM, Cell::new(0));
+    let there = open_system(rt, alloc, SLOT, ROOM, Cell::new(0));
+    let blank_here = Blank::new(u64::MAX);
+    let blank_there = Blank::new(u64::MAX);
+    crossed::<Brand, Brand, R>(rt, alloc, here, blank_here, there, blank_there)
+}
+
+#[test]
+fn foreign_pass(rt: HostRuntime) {
+    let outcome = slots_crossed(&rt, rt.alloc());
+    assert!(rt; outcome == Ok(Err(SettleFault::Mismatch { place: 0 })));
+}
+
+// A desk with one pass, which makes the attempts of these rows.
+fn alone<L: Opening, R: Wait + Abort>(
+    rt: &R,
+    alloc: Global,
+    system: System<Cell>,
+    blank: Blank,
+    rows: &[Row],
+) -> Result<Outcome, OutOfMemory>
+    requires name { blank.name ≡ L.name }
+    requires parts { (blank.parts ≡ L.parts) × (blank.parts ≡ 18446744073709551615) }
+    requires opened { system ≡ L.opened }
+{
+    let desk = Desk::<L, System<Cell>>::open(system, blank);
+    let mut pass = desk.pass(alloc, 1);
+    makes_all(rt, &desk, &mut pass, rows);
+    let mut passes = Vec::new(alloc);
+    passes.push(pass)?;
+    Ok(outcome(desk, passes))
+}
+
+const ROOM_OF_TWO: &[Row] = &[
+    (FIRST, Some(0), Reply::Started(ActId(0))),
+    (Attempt::Apply(ActId(0), Verb::Put(7)), None, Reply::NoRoom),
+    (Attempt::Finish(ActId(0)), Some(1), Reply::Finished),
+];
+
+fn room_of_two<R: Wait + Abort>(rt: &R, alloc: Global) -> Result<Outcome, OutOfMemory> {
+    let system = open_system(rt, alloc, SLOT, 2, Cell::new(0));
+    alone::<Brand, R>(rt, alloc, system, Blank::new(u64::MAX), ROOM_OF_TWO)
+}
+
+#[test]
+fn receipts_and_room(rt: HostRuntime) {
+    let outcome = room_of_two(&rt, rt.alloc());
+    assert!(rt; outcome == Ok(Ok((2, 2, 0))));
+}
+
+// The desk is opened once a deposit is in the journal already.
+fn deposited_before<R: Wait + Abort>(rt: &R, alloc: Global) -> Result<Outcome, OutOfMemory> {
+    let mut system = open_system(rt, alloc, SLOT, ROOM, Cell::new(0));
+    for (attempt, _place, reply) in DEPOSIT {
+        assert!(rt; system.step(1, *attempt) == *reply);
+    }
+    alone::<Brand, R>(rt, alloc, system, Blank::new(u64::MAX), REMOVE)
+}
+
+#[test]
+fn lines_before_the_desk(rt: HostRuntime) {
+    let outcome = deposited_before(&rt, rt.alloc());
+    assert!(rt; outcome == Ok(Ok((5, 2, 0))));
+}
+
+fn check_spelling<R: Abort>(rt: &R, alloc: Global, fault: SettleFault, text: &str) {
+    let told = format!(in alloc; "{fault}").expect(rt, "memory is ample");
+    assert!(rt; told.as_str() == text);
+}
+
+#[test]
+fn fault_texts(rt: HostRuntime) {
+    let missing = SettleFault::MissingPass {
+        lines: 5,
+        receipts: 3,
+    };
+    check_spelling(&rt, rt.alloc(), missing, "5 lines and 3 receipts");
+    check_spelling(
+        &rt,
+        rt.alloc(),
+        SettleFault::Mismatch { place: 7 },
+        "line 7 is not one receipt",
+    );
+}

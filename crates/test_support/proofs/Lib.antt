@@ -1,0 +1,3 @@
+mod Over
+mod Shapes
+mod Ticks
