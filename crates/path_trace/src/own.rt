@@ -16,7 +16,7 @@ use std::alloc::Allocator;
 
 /// A device for each resource of the declaration, in order and of its law: a cell or a tally that contains 0, or an empty
 /// queue. Fails only if allocation fails. The cost is the memory for all queues at their capacity.
-fn own_devices<A: Allocator + Copy>(
+pub fn own_devices<A: Allocator + Copy>(
     alloc: A,
     decl: &Decl<A>,
 ) -> Result<Vec<OwnDevice<A>, A>, OutOfMemory>
