@@ -1,6 +1,6 @@
 //! The steps of a process.
 
-ghost use Rattle.std.specs.Prelude.{◌≡◌, ◌+◌, ◌^◌, ◌<◌, ◌≤◌, [], ◌∷◌, ◌++◌, map, length, All, IfSome, IfNone, IfOk, IfErr, OnOk};
+ghost use Rattle.std.specs.Prelude.{◌≡◌, ℕ, ◌+◌, ◌^◌, ◌<◌, ◌≤◌, [], ◌∷◌, ◌++◌, map, length, All, IfSome, IfNone, IfOk, IfErr, OnOk};
 ghost use Rattle.path_fields.specs.Splits.{HasNone};
 ghost use Rattle.path_script.specs.Scripts.{MayStep, entered_after, IsBalanced};
 ghost use Rattle.path_script.specs.ScriptLines.{ends, line_text, Reads};
@@ -44,6 +44,29 @@ fn check(step: Step, steps: u32, entered: u32) -> Result<(), Cause>
     Ok(())
 }
 
+/// The step that a line inside a process says, which may be one that can't be taken; `None` if the process ends.
+fn step_said<A: Allocator + Copy>(decl: &Decl<A>, line: &[u8]) -> Result<Option<Step>, Cause>
+    requires { HasNone 10 line.now }
+    ensures step { IfOk result (λ said. IfSome said (λ s.
+        (line.now ≡ line_text (step_line decl.now.declaration s)) × StepFits decl.now.declaration s)) }
+    ensures end { IfOk result (λ said. IfNone said (line.now ≡ line_text ends)) }
+    ensures err { IfErr result (λ cause. (steps entered : ℕ) → Refuses decl.now.declaration (within steps entered) line.now cause) }
+{
+    let Some(form) = read_form(line) else {
+        return Err(Cause::Bad);
+    };
+    match form {
+        Form::Process(_) => Err(Cause::Bad),
+        Form::Enter(name) => match declared(decl, name) {
+            Some(op) => Ok(Some(Step::Enter(op))),
+            None => Err(Cause::Undeclared),
+        },
+        Form::Use(verb) => Ok(Some(Step::Apply(verb))),
+        Form::Leave => Ok(Some(Step::Leave)),
+        Form::End => Ok(None),
+    }
+}
+
 /// A line inside a process, after `steps` steps of all processes and with `entered` operations entered: a step, or `None` if the
 /// process ends.
 fn read_step<A: Allocator + Copy>(
@@ -58,19 +81,11 @@ fn read_step<A: Allocator + Copy>(
     ensures end { IfOk result (λ told. IfNone told ((line.now ≡ line_text ends) × (entered ≡ 0))) }
     ensures err { IfErr result (λ cause. Refuses decl.now.declaration (within steps entered) line.now cause) }
 {
-    let Some(form) = read_form(line) else {
-        return Err(Cause::Bad);
-    };
-    let step = match form {
-        Form::Process(_) => return Err(Cause::Bad),
-        Form::Enter(name) => match declared(decl, name) {
-            Some(op) => Step::Enter(op),
-            None => return Err(Cause::Undeclared),
-        },
-        Form::Use(verb) => Step::Apply(verb),
-        Form::Leave => Step::Leave,
-        Form::End if entered > 0 => return Err(Cause::Unbalanced),
-        Form::End => return Ok(None),
+    let Some(step) = step_said(decl, line)? else {
+        if entered > 0 {
+            return Err(Cause::Unbalanced);
+        }
+        return Ok(None);
     };
     check(step, steps, entered)?;
     Ok(Some(step))

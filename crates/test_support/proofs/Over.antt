@@ -1,6 +1,7 @@
 -- What the calls of the refusing allocator share: the allocator that it stands over, and itself.
 use Rattle.std.proofs.Common.{[], ◌∷◌}
-use mir.Syntax.{Args, a_type, dnil, dcons}
+use mir.Syntax.{Args, Fn, a_type, dnil, dcons}
+use mir.MapTy.{inst_fn}
 use denote.Param.{bounded, param}
 use denote.Signature.{Slot, plain}
 use denote.Builtin.{RefOf}
@@ -13,3 +14,6 @@ module _ (Z : Al) where
 
   abbrev pub self : Slot 2
   self = RefOf (0 ∷ []) tt (plain (λ _. wrapper.the_row (param 0 Z.row))) (λ _. tt)
+
+  abbrev pub here : Fn → Fn
+  here f = inst_fn args f
