@@ -5,10 +5,10 @@ ghost use Rattle.std.specs.Prelude.{◌≡◌};
 use anyhow::{Result, anyhow};
 use path_model::{Attempt, MOST_LINES, OpId, Reply};
 use path_read::read;
-use path_shelf::Cell;
+use path_shelf::{Cell, Device};
 use path_system::System;
 use path_workers::{Desk, Opening, Pass, Steps};
-use std::alloc::{AllocError, Global};
+use std::alloc::{AllocError, Allocator, Global};
 use std::marker::Brand;
 use std::sync::Wait;
 use std::sync::ledger::{Blank, Ledger};
@@ -109,6 +109,17 @@ fn book(alloc: Global) -> Result<System<Cell>> {
     }
 }
 
+// The same at a new desk over this system.
+fn timed_at<D: Device + Send, A: Allocator + Copy + Send + Sync, R: Threads + Wait + Clock + Sync>(
+    rt: &R,
+    alloc: Global,
+    system: System<D, A>,
+    threads: u32,
+    rounds: u32,
+) -> Result<Times> {
+    measured::<Brand, System<D, A>, R>(rt, alloc, system, Blank::new(u64::MAX), threads, rounds)
+}
+
 /// Measures `threads` threads that read in `rounds` rounds.
 pub fn timed<R: Threads + Wait + Clock + Sync>(
     rt: &R,
@@ -116,6 +127,5 @@ pub fn timed<R: Threads + Wait + Clock + Sync>(
     threads: u32,
     rounds: u32,
 ) -> Result<Times> {
-    let system = book(alloc)?;
-    measured::<Brand, System<Cell>, R>(rt, alloc, system, Blank::new(u64::MAX), threads, rounds)
+    timed_at::<Cell, Global, R>(rt, alloc, book(alloc)?, threads, rounds)
 }

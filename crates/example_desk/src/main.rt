@@ -6,10 +6,10 @@ ghost use Rattle.std.specs.Prelude.{◌≡◌};
 use anyhow::{Result, anyhow};
 use path_model::{Attempt, OpId, Reply, Verb};
 use path_read::read;
-use path_shelf::Tally;
+use path_shelf::{Device, Tally};
 use path_system::System;
 use path_workers::{Desk, Opening, Pass, Steps};
-use std::alloc::Global;
+use std::alloc::{Allocator, Global};
 use std::marker::Brand;
 use std::sync::Wait;
 use std::sync::ledger::Blank;
@@ -72,14 +72,18 @@ fn opened(alloc: Global) -> Result<System<Tally>> {
     }
 }
 
+/// The same at a new desk over this system.
+fn served<D: Device + Send, A: Allocator + Copy + Send + Sync, R: Threads + Wait + Sync>(
+    rt: &R,
+    alloc: Global,
+    system: System<D, A>,
+) -> Result<System<D, A>> {
+    served_by_two::<Brand, System<D, A>, R>(rt, alloc, system, Blank::new(u64::MAX))
+}
+
 fn main(rt: HostRuntime) -> Result<()> {
     let system = opened(rt.alloc())?;
-    let system = served_by_two::<Brand, System<Tally>, HostRuntime>(
-        &rt,
-        rt.alloc(),
-        system,
-        Blank::new(u64::MAX),
-    )?;
+    let system = served::<Tally, Global, HostRuntime>(&rt, rt.alloc(), system)?;
     println!(rt; "{} lines, each with one receipt", system.journal().len())?;
     Ok(())
 }

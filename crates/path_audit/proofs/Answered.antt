@@ -18,10 +18,10 @@ use Rattle.path_model.specs.Journals.{live, activation_of, admitted_history}
 use Rattle.path_model.specs.Owed.{by_words, taken, IsOwn, OwedToStart, OwedToUse, OwedToFinish, Owed, outcome_for}
 use Rattle.path_model.proofs.CallerLemmas.{each_honest_journal_is_legal, live_in_progress}
 use Rattle.path_decl.specs.Lawful.{Lawful}
-use Rattle.path_gate.specs.Places.{has_room, is_own_of}
-use Rattle.path_gate.proofs.CallerLemmas.{roomy, not_roomy, roomy_or, not_roomy_or, not_own, own_or_other, none_forbids, found_declared}
+use Rattle.path_gate.specs.Places.{has_room, is_own_of, lacks_number}
+use Rattle.path_gate.proofs.CallerLemmas.{both_left, left_fails, roomy, not_roomy, roomy_or, not_roomy_or, not_own, own_or_other, none_forbids, found_declared}
 use Rattle.path_audit.specs.Inner.Outcomes.{Acts}
-use Rattle.path_audit.specs.Inner.Replays.{ReplayValue, held_at, MovesStart, MovesUse, MovesFinish, Moves, Answers, AreReady, IsReplayOf}
+use Rattle.path_audit.specs.Inner.Replays.{ReplayValue, held_at, MovesStart, MovesUse, MovesFinish, Moves, Answers, AreReady, IsReplayOf, can_take}
 
 module _ (d : Declaration) (lawful : Lawful d) (old : ReplayValue) (room : ℕ) (openings : List (List ℕ)) (journal : List Line) (s : IsReplayOf old d room openings journal) where
   -- the history is legal so far
@@ -96,15 +96,20 @@ module _ (d : Declaration) (lawful : Lawful d) (old : ReplayValue) (room : ℕ) 
   owed_outside w (Apply n verb) has = let k = not_roomy (length journal + length old.register.live + 1) room has in OwedToUse.no_room (omega (arith, k, taken_is))
   owed_outside w (Finish n) has = let k = not_roomy_or (length journal + length old.register.live + 1) room (is_own_of w (activation_of n old.register.live)) has in OwedToFinish.no_room (not_own_of w n k.1) (omega (arith, k, taken_is))
 
-  owed_case : (w : ℕ) (attempt : Attempt) (fails : Bool) (reply : Reply) (new : ReplayValue) (has : Bool) → has_room room (length journal) old.register.live w attempt ≡ has
+  -- the reply to what the replay can take
+  pub owed_taken : (w : ℕ) (attempt : Attempt) (fails : Bool) (reply : Reply) (new : ReplayValue) → can_take old room (length journal) w attempt ≡ true
       → Answers d old room (length journal) w attempt fails reply new → Owed d room openings journal w attempt reply
-  owed_case w attempt fails reply new true is answers = owed_inside w attempt fails reply new is (answers.inside is)
-  owed_case w attempt fails reply new false is answers = rw ((answers.outside is).0) (owed_outside w attempt is)
+  owed_taken w attempt fails reply new is answers = owed_inside w attempt fails reply new (both_left _ _ is) (answers.inside is)
 
-  -- each reply is owed
-  pub owed_is : (w : ℕ) (attempt : Attempt) (fails : Bool) (reply : Reply) (new : ReplayValue) → Answers d old room (length journal) w attempt fails reply new
-      → Owed d room openings journal w attempt reply
-  owed_is w attempt fails reply new answers = owed_case w attempt fails reply new _ refl answers
+  owed_case : (w : ℕ) (attempt : Attempt) (fails : Bool) (reply : Reply) (new : ReplayValue) (can : Bool) → can_take old room (length journal) w attempt ≡ can
+      → lacks_number old.register.begun attempt ≡ false → Answers d old room (length journal) w attempt fails reply new → Owed d room openings journal w attempt reply
+  owed_case w attempt fails reply new true is numbered answers = owed_taken w attempt fails reply new is answers
+  owed_case w attempt fails reply new false is numbered answers = rw ((answers.outside is).0) (owed_outside w attempt (left_fails _ _ is numbered))
+
+  -- each reply is owed, if a start has a number left
+  pub owed_is : (w : ℕ) (attempt : Attempt) (fails : Bool) (reply : Reply) (new : ReplayValue) → lacks_number old.register.begun attempt ≡ false
+      → Answers d old room (length journal) w attempt fails reply new → Owed d room openings journal w attempt reply
+  owed_is w attempt fails reply new numbered answers = owed_case w attempt fails reply new _ refl numbered answers
 
   -- the replay fits the declaration
   pub ready : AreReady d old

@@ -4,3 +4,4 @@ pub mod Resources
 pub mod Answered
 pub mod Written
 pub mod Replayed
+pub mod Segments

@@ -17,21 +17,12 @@ use Rattle.path_model.proofs.CallerLemmas.{line_of, one_reply_is_owed, fronts_ar
 use Rattle.path_decl.specs.Lawful.{Lawful}
 use Rattle.path_audit.specs.declared.auditor.AuditFault.{AuditFault}
 use Rattle.path_audit.specs.declared.auditor.AuditFault.TheVariants.{OutOfMemory}
-use Rattle.path_audit.specs.declared.auditor.Verdict.{Verdict}
-use Rattle.path_audit.specs.declared.auditor.Verdict.TheVariants.{Sound, WrongLine}
+use Rattle.path_audit.specs.declared.journals.Verdict.{Verdict}
+use Rattle.path_audit.specs.declared.journals.Verdict.TheVariants.{Sound, WrongLine}
 use Rattle.path_audit.specs.Inner.Registers.{Register}
 use Rattle.path_audit.specs.Inner.Replays.{ReplayValue, Answers, IsReplayOf, IsOpened, says_failed}
 use Rattle.path_audit.specs.Verdicts.{IsFirstWrong, IsVerdict, FitsAt}
-use Rattle.path_audit.proofs.Answered.{owed_is, taken_is}
-use Rattle.path_audit.proofs.Written.{with_the_line, like_line, IsLike}
-
--- the last line of an honest journal was owed
-last_from : (d : Declaration) (room : ℕ) (openings : List (List ℕ)) (before ls : List Line) (l : Line) → IsHonestFrom (by_words d) d room openings before (ls ++ l ∷ [])
-    → Owed d room openings (before ++ ls) l.worker l.attempt l.reply × (l.reply ≢ NoRoom)
-last_from d room openings before [] l h = (subst (λ b. Owed d room openings b l.worker l.attempt l.reply) (sym (append-nil before)) h.0, h.1)
-last_from d room openings before (k ∷ ls) l h =
-    let r = last_from d room openings (before ++ k ∷ []) ls l h.2 in
-    (subst (λ b. Owed d room openings b l.worker l.attempt l.reply) (append_assoc before (k ∷ []) ls) r.0, r.1)
+use Rattle.path_audit.proofs.Written.{IsLike}
 
 -- the replay of no lines
 pub opened_is : (d : Declaration) (replay : ReplayValue) (room : ℕ) (openings : List (List ℕ)) → length openings ≡ length d.resources → IsOpened replay d openings
@@ -49,33 +40,10 @@ opened_is d replay room openings counted o = record {
 }
 
 -- the owed reply and that of a line are equal if they agree on whether the device failed
-told_apart : (owed told : Reply) → IsLike (says_failed told) owed → AreSame owed told → owed ≡ told
+pub told_apart : (owed told : Reply) → IsLike (says_failed told) owed → AreSame owed told → owed ≡ told
 told_apart owed told like (inl same) = same
 told_apart owed told like (inr (inl (x, used, failed))) = absurd (let no = like.used x used in let yes = ap says_failed failed in cc)
 told_apart owed told like (inr (inr (x, failed, used))) = absurd (let yes = like.failed failed in let no = ap says_failed used in cc)
-
-module _ (d : Declaration) (lawful : Lawful d) (old : ReplayValue) (room : ℕ) (openings : List (List ℕ)) (journal : List Line) (s : IsReplayOf old d room openings journal) where
-  -- the lines and the finishes to come have room
-  pub fits : length journal + length old.register.live ≤ room
-  fits = let k = each_honest_journal_has_room d room openings journal s.honest in let l = taken_is d lawful old room openings journal s in omega (arith, k, l)
-
-  pub admitted_few : old.standing.admitted ≤ length journal
-  admitted_few = let k = begun_lines journal in let l = s.admitted in omega (arith, k, l)
-
-  module _ (line : Line) (reply : Reply) (new : ReplayValue) (answers : Answers d old room (length journal) line.worker line.attempt (says_failed line.reply) reply new) where
-    -- one line more
-    pub one_more : reply ≡ line.reply → line.reply ≢ NoRoom → IsReplayOf new d room openings (journal ++ line ∷ [])
-    one_more same some =
-        subst (λ r. IsReplayOf new d room openings (journal ++ line_of line.worker line.attempt r ∷ [])) same
-        (with_the_line d lawful old room openings journal s line.worker line.attempt (says_failed line.reply) reply new answers (λ e. some (sym same ∙ e)))
-
-    -- the line is wrong
-    pub wrong_line : ((reply ≡ line.reply) × (line.reply ≢ NoRoom) → ⊥) → IsHonest d room openings (journal ++ line ∷ []) → ⊥
-    wrong_line other honest =
-        let last = last_from d room openings [] journal line honest in
-        let owed = owed_is d lawful old room openings journal s line.worker line.attempt (says_failed line.reply) reply new answers in
-        let same = one_reply_is_owed d room openings journal line.worker line.attempt reply line.reply owed last.0 in
-        other (told_apart reply line.reply (like_line d old new line.worker (says_failed line.reply) reply room (length journal) line.attempt answers) same, last.1)
 
 -- what stands past the end
 abbrev pub nothing : Line
@@ -86,36 +54,6 @@ pub line_at : (lines : List Line) (n : ℕ) (x y : Line) → n < length lines �
 line_at [] n x y within = absurd (omega arith)
 line_at (l ∷ lines) zero x y within = refl
 line_at (l ∷ lines) (suc n) x y within = line_at lines n x y (omega arith)
-
--- one line more of a journal
-at_line : (lines : List Line) (n : ℕ) (line : Line) → n < length lines → line ≡ get_or lines n line → take (n + 1) lines ≡ take n lines ++ line ∷ []
-at_line lines n line within at = take_more lines n line within ∙ ap (λ x. take n lines ++ x ∷ []) (sym at)
-
-module _ (d : Declaration) (lawful : Lawful d) (old : ReplayValue) (room : ℕ) (openings : List (List ℕ)) (lines : List Line) (n : ℕ) (s : IsReplayOf old d room openings (take n lines)) (within : n < length lines) where
-  so_many : length (take n lines) ≡ n
-  so_many = length-take-le n lines (omega arith)
-
-  -- the line has room
-  pub few_lines : n + length old.register.live ≤ room
-  few_lines = let k = fits d lawful old room openings (take n lines) s in let l = so_many in omega (arith, k, l)
-
-  pub few_admitted : old.standing.admitted ≤ n
-  few_admitted = let k = admitted_few d lawful old room openings (take n lines) s in let l = so_many in omega (arith, k, l)
-
-  module _ (line : Line) (at : line ≡ get_or lines n line) (reply : Reply) (new : ReplayValue) (answers : Answers d old room n line.worker line.attempt (says_failed line.reply) reply new) where
-    answers_there : Answers d old room (length (take n lines)) line.worker line.attempt (says_failed line.reply) reply new
-    answers_there = subst (λ k. Answers d old room k line.worker line.attempt (says_failed line.reply) reply new) (sym so_many) answers
-
-    pub line_replayed : (reply ≡ line.reply) × (line.reply ≢ NoRoom) → IsReplayOf new d room openings (take (n + 1) lines)
-    line_replayed told =
-        subst (IsReplayOf new d room openings) (sym (at_line lines n line within at)) (one_more d lawful old room openings (take n lines) s line reply new answers_there told.0 told.1)
-
-    pub line_wrong : ((reply ≡ line.reply) × (line.reply ≢ NoRoom) → ⊥) → IsFirstWrong d room openings lines n
-    line_wrong other = record {
-      within = within;
-      honest = s.honest;
-      wrong = λ honest. wrong_line d lawful old room openings (take n lines) s line reply new answers_there other (subst (IsHonest d room openings) (at_line lines n line within at) honest);
-    }
 
 module _ (d : Declaration) (room : ℕ) (openings : List (List ℕ)) (lines : List Line) where
   -- what comes first in an honest journal

@@ -25,11 +25,10 @@ use Rattle.path_model.specs.Honest.{IsHonest}
 use Rattle.path_model.proofs.CallerLemmas.{begun_more, begun_quiet, live_quiet, history_quiet, contents_more, quiet_use, quiet_reply, line_of, honest_more, live_started, live_finished, live_found, history_started, history_finished}
 use Rattle.path_decl.specs.Lawful.{Lawful}
 use Rattle.path_gate.specs.Standings.{IsAt}
-use Rattle.path_gate.specs.Places.{has_room}
 use Rattle.path_audit.specs.Inner.Registers.{Register}
 use Rattle.path_audit.specs.Inner.Outcomes.{Acts}
-use Rattle.path_audit.specs.Inner.Replays.{ReplayValue, held_at, IsStarted, IsOver, MovesStart, MovesUse, MovesFinish, Moves, Answers, IsReplayOf}
-use Rattle.path_audit.proofs.Answered.{owed_is, found_live, resource_in}
+use Rattle.path_audit.specs.Inner.Replays.{ReplayValue, held_at, IsStarted, IsOver, MovesStart, MovesUse, MovesFinish, Moves, Answers, IsReplayOf, can_take}
+use Rattle.path_audit.proofs.Answered.{owed_taken, found_live, resource_in}
 
 -- a refusal is none of the replies to what is served
 pub record IsRefusal (reply : Reply) : Type 0 where
@@ -257,9 +256,9 @@ module _ (d : Declaration) (lawful : Lawful d) (old : ReplayValue) (room : ℕ) 
       → IsReplayOf new d room openings (journal ++ line_of w attempt reply ∷ [])
   with_the_line w attempt fails reply new answers some = go _ refl
     where
-      go : (has : Bool) → has_room room (length journal) old.register.live w attempt ≡ has → IsReplayOf new d room openings (journal ++ line_of w attempt reply ∷ [])
+      go : (can : Bool) → can_take old room (length journal) w attempt ≡ can → IsReplayOf new d room openings (journal ++ line_of w attempt reply ∷ [])
       go true is = after_move w attempt fails reply new (answers.inside is)
-          (honest_more d room openings journal (line_of w attempt reply) s.honest (owed_is d lawful old room openings journal s w attempt fails reply new answers) some)
+          (honest_more d room openings journal (line_of w attempt reply) s.honest (owed_taken d lawful old room openings journal s w attempt fails reply new is answers) some)
       go false is = absurd (some ((answers.outside is).0))
 
 -- the replay says that the device failed exactly when the line does
@@ -307,6 +306,6 @@ module _ (d : Declaration) (old new : ReplayValue) (w : ℕ) (fails : Bool) (rep
   pub like_line : (room lines : ℕ) (attempt : Attempt) → Answers d old room lines w attempt fails reply new → IsLike fails reply
   like_line room lines attempt answers = go _ refl
     where
-      go : (has : Bool) → has_room room lines old.register.live w attempt ≡ has → IsLike fails reply
+      go : (can : Bool) → can_take old room lines w attempt ≡ can → IsLike fails reply
       go true is = like_move attempt (answers.inside is)
       go false is = like_plain fails reply NoRoom (answers.outside is).0 (plain_reply NoRoom (λ x e. cc) (λ e. cc))

@@ -5,8 +5,8 @@ use Rattle.path_model.specs.Declarations.{Declaration, law_of}
 use Rattle.path_model.specs.Devices.{Fits}
 use Rattle.path_model.specs.Honest.{IsHonest}
 use Rattle.path_model.specs.Rooms.{IsRoom, IsBadRoom}
-use Rattle.path_audit.specs.declared.auditor.Verdict.{Verdict}
-use Rattle.path_audit.specs.declared.auditor.Verdict.TheVariants.{Sound, WrongLine}
+use Rattle.path_audit.specs.declared.journals.Verdict.{Verdict}
+use Rattle.path_audit.specs.declared.journals.Verdict.TheVariants.{Sound, WrongLine}
 use Rattle.path_audit.specs.declared.auditor.AuditFault.{AuditFault}
 use Rattle.path_audit.specs.declared.auditor.AuditFault.TheVariants.{BadRoom, WrongCount, BadOpening, OutOfMemory}
 

@@ -54,6 +54,13 @@ impl<A: Allocator + Copy> Activations<A> {
         self.live
     }
 
+    /// How many were begun. Takes constant time.
+    pub fn begun(&self) -> u64
+        ensures { result ≡ self.now.begun }
+    {
+        self.begun.len() as u64
+    }
+
     /// The live activation of this number, if there is one. Looks it up by number.
     pub fn find(&self, act: ActId) -> Option<Activation>
         ensures { result ≡ activation_of act self.now.live }

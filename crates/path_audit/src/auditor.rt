@@ -1,28 +1,20 @@
-//! Whether a journal is honest.
+//! An auditor judges the segments of a journal, one after another.
 
-ghost use Rattle.std.specs.Prelude.{◌≡◌, ◌≢◌, ◌↔◌, ◌<◌, ℕ, IsTrue, IfOk, IfErr, OnOk, MatchOption, length, map};
+ghost use Rattle.std.specs.Prelude.{◌≡◌, ◌≢◌, ◌↔◌, ◌++◌, ◌∷◌, [], ℕ, List, IsTrue, IfOk, IfErr, OnOk, MatchOption, length, map};
+ghost use Rattle.path_model.specs.declared.journal.Line.{Line};
 ghost use Rattle.path_model.specs.declared.journal.Reply.TheVariants as replies;
 ghost use Rattle.path_model.specs.Devices.{Fits};
-ghost use Rattle.path_model.specs.Honest.{IsHonest};
-ghost use Rattle.path_model.specs.Rooms.{IsRoom};
 ghost use Rattle.path_audit.specs.declared.auditor.AuditFault.TheVariants as faults;
-ghost use Rattle.path_audit.specs.declared.auditor.Verdict.TheVariants as verdicts;
-ghost use Rattle.path_audit.specs.Verdicts.{AllFit, IsAuditable, IsAuditFault, IsFirstMisfit, IsFirstWrong, IsVerdict};
+ghost use Rattle.path_audit.specs.declared.auditor.JudgeFault.TheVariants as judge_faults;
+ghost use Rattle.path_audit.specs.Verdicts.{AllFit, IsAuditable, IsAuditFault, IsFirstMisfit};
+ghost use Rattle.path_audit.specs.Judged.{HasJudged, IsJudgeFault};
 
 use crate::replay::{Replay, law_at};
 use path_decl::{Decl, counts};
 use path_model::{Law, Line, OutOfMemory, Reply, ResId, is_room};
-use std::alloc::Allocator;
+use std::alloc::{Allocator, Global};
+use std::marker::Model;
 use thiserror::Error;
-
-/// The verdict of an audit.
-#[derive(Clone, Copy, Debug, PartialEq, Eq)]
-pub enum Verdict {
-    /// Each reply was owed by the lines before it, and none is `NoRoom`.
-    Sound,
-    /// This line, counted from 0, is the first with which the journal isn't honest.
-    WrongLine(u32),
-}
 
 /// Why a journal can't be audited.
 #[derive(Clone, Copy, Debug, PartialEq, Eq, Error)]
@@ -46,6 +38,25 @@ impl From<OutOfMemory> for AuditFault {
 
     fn from(_error: OutOfMemory) -> AuditFault {
         AuditFault::OutOfMemory
+    }
+}
+
+/// Why an auditor doesn't go on behind a segment.
+#[derive(Clone, Copy, Debug, PartialEq, Eq, Error)]
+pub enum JudgeFault {
+    /// This line of the segment, counted from 0, is the first that is wrong.
+    #[error("wrong line {0}")]
+    WrongLine(u32),
+    /// An allocation failed.
+    #[error("out of memory")]
+    OutOfMemory,
+}
+
+impl From<OutOfMemory> for JudgeFault {
+    ghost from_gives = { λ _ e. e ≡ judge_faults.OutOfMemory };
+
+    fn from(_error: OutOfMemory) -> JudgeFault {
+        JudgeFault::OutOfMemory
     }
 }
 
@@ -81,61 +92,82 @@ fn is_told(owed: Reply, told: Reply) -> bool
     owed == told && !matches!(told, Reply::NoRoom)
 }
 
-/// Replays the lines as far as they are honest. Fails only if allocation fails.
-fn replayed<A: Allocator + Copy>(
-    alloc: A,
-    decl: &Decl<A>,
+/// An auditor of a journal: it judges one segment after another, in order. Contracts see what it replayed so far.
+#[derive(Drop)]
+pub struct Auditor<A: Allocator + Copy = Global> {
+    replay: Replay<A>,
     room: u32,
-    openings: &[Vec<u64, A>],
-    lines: &[Line],
-) -> Result<Verdict, OutOfMemory>
-    requires few { IsRoom room }
-    requires counted { length openings.now ≡ length decl.now.declaration.resources }
-    ensures { IfOk result (IsVerdict decl.now.declaration room (map (λ opening. opening.items) openings.now) lines.now) }
-{
-    let mut replay = Replay::open(alloc, decl, openings)?;
-    for (n, line) in lines.iter().enumerate() {
-        let owed = replay.answer(decl, room, n, *line)?;
-        if !is_told(owed, line.reply) {
-            return Ok(Verdict::WrongLine(n as u32));
-        }
-    }
-    Ok(Verdict::Sound)
 }
 
-/// Whether these lines are an honest journal of a system with this room, 1 to [`MOST_LINES`](path_model::MOST_LINES), whose resources
-/// opened with these contents, a list for each. `Sound` if and only if each reply was owed by the lines before it and none is `NoRoom`;
-/// `WrongLine(n)` if and only if line n, counted from 0, is the first with which they aren't honest. `DeviceFailed` is right in a line
-/// wherever the device's law would have served, and then nothing was served.
-///
-/// Fails with `BadRoom` if the room is outside that range, else with `WrongCount` if there isn't one opening for each resource, else
-/// with `BadOpening(r)` if r is the first resource whose opening doesn't fit its law: one number for a cell or a tally, at most as many
-/// as its capacity for a queue. Else fails only if allocation fails.
-///
-/// Asks no system and no device. Reads the lines once, and each costs what it cost the system: a look at the paths of its operation
-/// for a start or a finish, and a look-up by number for a use.
-pub fn audit<A: Allocator + Copy>(
-    alloc: A,
-    decl: &Decl<A>,
-    room: u32,
-    openings: &[Vec<u64, A>],
-    lines: &[Line],
-) -> Result<Verdict, AuditFault>
-    ensures sound { IfOk result (λ verdict. (verdict ≡ verdicts.Sound)
-        ↔ IsHonest decl.now.declaration room (map (λ opening. opening.items) openings.now) lines.now) }
-    ensures wrong { IfOk result (λ verdict. (n : ℕ) → (verdict ≡ verdicts.WrongLine n)
-        ↔ IsFirstWrong decl.now.declaration room (map (λ opening. opening.items) openings.now) lines.now n) }
-    ensures auditable { OnOk result (IsAuditable decl.now.declaration room (map (λ opening. opening.items) openings.now)) }
-    ensures fault { IfErr result (IsAuditFault decl.now.declaration room (map (λ opening. opening.items) openings.now)) }
-{
-    if !is_room(room) {
-        return Err(AuditFault::BadRoom);
+impl<A: Allocator + Copy> Model for Auditor<A> {
+    ghost use Rattle.std.specs.Coded.{codes};
+    ghost use Rattle.path_gate.specs.Standings.{standing_code};
+    ghost use Rattle.path_audit.specs.Judged.{AuditorValue};
+
+    ghost Value = { AuditorValue };
+
+    ghost coded = { Prim.hlevel (codes, standing_code) };
+
+    ghost view = { λ a. record { replay = a.replay; room = a.room } };
+}
+
+impl<A: Allocator + Copy> Auditor<A> {
+    /// An auditor that has judged no line, for segments that each have this room, 1 to [`MOST_LINES`](path_model::MOST_LINES), over
+    /// resources that opened with these contents, a list for each.
+    ///
+    /// Fails with `BadRoom` if the room is outside that range, else with `WrongCount` if there isn't one opening for each resource, else
+    /// with `BadOpening(r)` if r is the first resource whose opening doesn't fit its law: one number for a cell or a tally, at most as many
+    /// as its capacity for a queue. Else fails only if allocation fails. The cost is that of opening a gate, and of the openings.
+    pub fn open(
+        alloc: A,
+        decl: &Decl<A>,
+        room: u32,
+        openings: &[Vec<u64, A>],
+    ) -> Result<Auditor<A>, AuditFault>
+        ensures opened { IfOk result (λ auditor.
+            HasJudged auditor decl.now.declaration (map (λ opening. opening.items) openings.now) []) }
+        ensures room { IfOk result (λ auditor. auditor.room ≡ room) }
+        ensures auditable { OnOk result (IsAuditable decl.now.declaration room (map (λ opening. opening.items) openings.now)) }
+        ensures fault { IfErr result (IsAuditFault decl.now.declaration room (map (λ opening. opening.items) openings.now)) }
+    {
+        if !is_room(room) {
+            return Err(AuditFault::BadRoom);
+        }
+        if openings.len() != counts(decl).resources as usize {
+            return Err(AuditFault::WrongCount);
+        }
+        if let Some(resource) = first_misfit(decl, openings) {
+            return Err(AuditFault::BadOpening(resource));
+        }
+        let replay = Replay::open(alloc, decl, openings)?;
+        Ok(Auditor { replay, room })
     }
-    if openings.len() != counts(decl).resources as usize {
-        return Err(AuditFault::WrongCount);
+
+    /// Judges one more segment, under the declaration that the auditor was opened with. The auditor goes on behind it if and only if each
+    /// reply was owed by the lines of all segments before and by those before it in its own, and none is `NoRoom`. `DeviceFailed` is right
+    /// in a line wherever the device's law would have served, and then nothing was served. Only the lines of a segment take its room, and
+    /// what is live.
+    ///
+    /// Fails with `WrongLine(n)` if line n of the segment is the first that is wrong, and else only if allocation fails. Reads the lines
+    /// once, and each costs what it cost the system: a look at the paths of its operation for a start or a finish, and a look-up by number
+    /// for a use.
+    pub fn judge(self, decl: &Decl<A>, lines: &[Line]) -> Result<Auditor<A>, JudgeFault>
+        requires { (openings : List (List ℕ)) × (segments : List (List Line)) × HasJudged self decl.now.declaration openings segments }
+        ensures right { IfOk result (λ next. (openings : List (List ℕ)) (segments : List (List Line))
+            → HasJudged self decl.now.declaration openings segments
+            → HasJudged next decl.now.declaration openings (segments ++ lines.now ∷ [])) }
+        ensures room { IfOk result (λ next. next.room ≡ self.room) }
+        ensures wrong { IfErr result (λ fault. (openings : List (List ℕ)) (segments : List (List Line))
+            → HasJudged self decl.now.declaration openings segments
+            → IsJudgeFault decl.now.declaration self.room openings segments lines.now fault) }
+    {
+        let Auditor { mut replay, room } = self;
+        for (n, line) in lines.iter().enumerate() {
+            let owed = replay.answer(decl, room, n, *line)?;
+            if !is_told(owed, line.reply) {
+                return Err(JudgeFault::WrongLine(n as u32));
+            }
+        }
+        Ok(Auditor { replay, room })
     }
-    if let Some(resource) = first_misfit(decl, openings) {
-        return Err(AuditFault::BadOpening(resource));
-    }
-    Ok(replayed(alloc, decl, room, openings, lines)?)
 }

@@ -1,4 +1,5 @@
-//! The audit of a journal: whether each of its replies was owed by the lines before it, and none is `NoRoom`.
+//! The audit of a journal, in one segment or in several: whether each of its replies was owed by the lines before it, and none is
+//! `NoRoom`.
 //!
 //! The audit replays the journal line by line, with semaphores, activations and contents of its own. It asks no system and no
 //! device.
@@ -7,6 +8,8 @@
 mod activations;
 mod auditor;
 mod contents;
+mod journals;
 mod replay;
 
-pub use auditor::{AuditFault, Verdict, audit};
+pub use auditor::{AuditFault, Auditor, JudgeFault};
+pub use journals::{SegmentsVerdict, Verdict, audit, audit_segments};

@@ -75,7 +75,7 @@ impl<A: Allocator + Copy> Replay<A> {
         })
     }
 
-    /// Replays a start. The caller has checked that there is room.
+    /// Replays a start. The caller has checked that there is room, and a number.
     fn start(&mut self, decl: &Decl<A>, worker: u32, op: OpId) -> Result<Reply, OutOfMemory>
         requires { self.old.standing.admitted < 4294967295 }
         ensures { IfOk result (λ reply. MovesStart decl.now.declaration self.old worker op reply self.new) }
@@ -148,7 +148,7 @@ impl<A: Allocator + Copy> Replay<A> {
     ) -> Result<Reply, OutOfMemory>
         requires ready { AreReady decl.now.declaration self.old }
         requires few { lines + length self.old.register.live ≤ room }
-        requires admitted { self.old.standing.admitted ≤ lines }
+        requires admitted { self.old.standing.admitted ≡ self.old.register.begun }
         ensures { IfOk result (λ reply.
             Answers decl.now.declaration self.old room lines line.worker line.attempt (says_failed line.reply) reply self.new) }
     {
@@ -156,7 +156,7 @@ impl<A: Allocator + Copy> Replay<A> {
         let room = room as usize;
         match line.attempt {
             Attempt::Start(op) => {
-                if taken + 2 <= room {
+                if taken + 2 <= room && self.activations.begun() < u64::from(u32::MAX) {
                     self.start(decl, line.worker, op)
                 } else {
                     Ok(Reply::NoRoom)

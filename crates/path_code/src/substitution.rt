@@ -3,7 +3,8 @@
 
 ghost use Rattle.std.specs.Prelude.{◌≡◌, ◌≤◌, ◌++◌, length, OnOk};
 ghost use Rattle.path_model.specs.Trees.{shape, FewAtOnce};
-ghost use Rattle.path_code.specs.Inner.Walks.{FitsFrom, NumbersAfter, FitsBelow, IsFlat, start_within, end_within, starts_in, bounds_from, ended};
+ghost use Rattle.path_code.specs.Inner.Walks.{FitsFrom, NumbersAfter, FitsBelow, IsFlat};
+ghost use Rattle.path_code.specs.Inner.Walks.{start_within, end_within, starts_in, bounds_from, ended};
 
 use crate::terms::{Epilogue, OpCode, Prologue};
 use path_model::{Expr, OutOfMemory};

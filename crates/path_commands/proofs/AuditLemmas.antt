@@ -14,8 +14,8 @@ use Rattle.path_shelf.specs.Openings.{opening_numbers}
 use Rattle.path_model.specs.Rooms.{IsBadRoom}
 use Rattle.path_audit.specs.declared.auditor.AuditFault.{AuditFault}
 use Rattle.path_audit.specs.declared.auditor.AuditFault.TheVariants as audits
-use Rattle.path_audit.specs.declared.auditor.Verdict.{Verdict}
-use Rattle.path_audit.specs.declared.auditor.Verdict.TheVariants.{Sound, WrongLine}
+use Rattle.path_audit.specs.declared.journals.Verdict.{Verdict}
+use Rattle.path_audit.specs.declared.journals.Verdict.TheVariants.{Sound, WrongLine}
 use Rattle.path_audit.specs.Verdicts.{FitsAt, IsAuditFault}
 use Rattle.path_streams.specs.declared.status.Status.{Status}
 use Rattle.path_streams.specs.declared.status.Status.TheVariants.{Done, Unsound, StreamFailed, NoMemory}

@@ -7,8 +7,8 @@ use Rattle.path_model.specs.Rooms.{IsRoom, IsBadRoom}
 use Rattle.path_decl.specs.Text.{IsDeclarationText}
 use Rattle.path_journal.specs.JournalTexts.{IsJournalText, IsNoJournalText}
 use Rattle.path_shelf.specs.Openings.{opening_numbers}
-use Rattle.path_audit.specs.declared.auditor.Verdict.{Verdict}
-use Rattle.path_audit.specs.declared.auditor.Verdict.TheVariants.{Sound, WrongLine}
+use Rattle.path_audit.specs.declared.journals.Verdict.{Verdict}
+use Rattle.path_audit.specs.declared.journals.Verdict.TheVariants.{Sound, WrongLine}
 use Rattle.path_audit.specs.Verdicts.{IsVerdict}
 use Rattle.path_streams.specs.declared.status.Status.{Status}
 use Rattle.path_streams.specs.declared.status.Status.TheVariants as statuses

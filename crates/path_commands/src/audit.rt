@@ -3,8 +3,8 @@
 ghost use Rattle.std.specs.Prelude.{◌≡◌, ◌≢◌, ◌⊎◌, ℕ, IfOk, IfErr};
 ghost use Rattle.std.specs.String.{string_bytes};
 ghost use Rattle.std.specs.Io.KnownBytes.{Appends, Keeps};
-ghost use Rattle.path_audit.specs.declared.auditor.Verdict.{Verdict};
-ghost use Rattle.path_audit.specs.declared.auditor.Verdict.TheVariants as verdicts;
+ghost use Rattle.path_audit.specs.declared.journals.Verdict.{Verdict};
+ghost use Rattle.path_audit.specs.declared.journals.Verdict.TheVariants as verdicts;
 ghost use Rattle.path_streams.specs.Refusals.{IsNoDeclaration};
 ghost use Rattle.path_streams.specs.Statuses.{status_of};
 ghost use Rattle.path_streams.specs.Writes.{AppendsSome, IsFrontOf};

@@ -11,5 +11,6 @@ pub mod Opened
 pub mod Adding
 pub mod Appended
 pub mod Placed
+pub mod Numbered
 pub mod Threads
 pub mod CallerLemmas

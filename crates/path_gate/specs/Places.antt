@@ -1,4 +1,4 @@
--- Whether a journal has a place for an attempt.
+-- Whether a journal has a place for an attempt, and a number if it is a start.
 use Rattle.std.specs.Prelude.{◌==◌, ◌||◌, ◌+◌, nat_le, ℕ, Bool, false, List, length, Option, Some, None}
 use Rattle.path_model.specs.declared.journal.Attempt.{Attempt}
 use Rattle.path_model.specs.declared.journal.Attempt.TheVariants.{Start, Apply, Finish}
@@ -25,3 +25,8 @@ has_place activations w attempt = false
 abbrev pub has_room : ℕ → ℕ → List Activation → ℕ → Attempt → Bool
 has_room room lines activations w attempt =
     nat_le (lines + length activations + wanted_places attempt) room || has_place activations w attempt
+
+-- whether the attempt is a start for which no number is left: so many were begun before it
+abbrev pub lacks_number : ℕ → Attempt → Bool
+lacks_number begun (Start a) = nat_le 4294967295 begun
+lacks_number begun attempt = false

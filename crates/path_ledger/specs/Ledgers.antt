@@ -14,11 +14,11 @@ pub record Book : Type 0 where
   pub begun : ℕ
   pub room : ℕ
 
--- what always holds of a ledger: its numbers ascend, and there is memory for all its room
+-- what always holds of a ledger: its numbers ascend, and there is a place for all its room
 pub record IsKept (live : List Activation) (begun room places : ℕ) : Type 0 where
   pub numbered : AreNumbered live begun
   pub within : length live ≤ room
-  pub reserved : room ≤ places
+  pub reserved : room ≡ places
 
 -- one more was begun
 abbrev pub one_begun : Book → Activation → Book

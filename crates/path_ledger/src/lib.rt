@@ -2,5 +2,6 @@
 #![tactic(auto)]
 
 mod ledger;
+mod row;
 
 pub use ledger::{EndFault, Ledger};

@@ -88,7 +88,7 @@ live_named : (s : Tree) {h : List Event} → Live s h → Named s h
 live_named s start = tt
 live_named s (step w e r m k) = subst (Named s) (sym k) (named_snoc s w e (live_named s r) (May-names s w e _ m))
 
-live_ends : (s : Tree) {h : List Event} → Live s h → (c : OpId) → outs (op c) h ≤ ins (op c) h
+pub live_ends : (s : Tree) {h : List Event} → Live s h → (c : OpId) → outs (op c) h ≤ ins (op c) h
 live_ends s start c = omega arith
 live_ends s (step w e r m k) c = omega (arith, ap (outs (op c)) k, ap (ins (op c)) k, ins-append (op c) w (e ∷ []), outs-append (op c) w (e ∷ []), go e m (live_ends s r c))
   where

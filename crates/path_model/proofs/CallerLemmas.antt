@@ -17,6 +17,11 @@ pub use Rattle.path_model.proofs.Progress.{legal_kept as each_honest_journal_is_
 pub use Rattle.path_model.proofs.OwedReplies.{each_attempt_is_owed_a_reply, one_reply_is_owed}
 pub use Rattle.path_model.proofs.StuckStates.{frozen_stays_frozen, startables_may_start, live_activations_may_finish, finishes_come_between}
 pub use Rattle.path_model.proofs.Unasked.{unasked_devices_may_be_replaced}
+pub use Rattle.path_model.proofs.Segments.{one_segment_is_a_journal, more_room_keeps_honest, segments_are_one_journal, each_segment_has_room, each_attempt_is_owed_a_reply_behind, one_reply_is_owed_behind}
+pub use Rattle.path_model.proofs.TreeTests.{well_formed_trees_pass}
+pub use Rattle.path_model.proofs.Guarantees.{each_front_is_legal, each_front_is_legal_on_all, counts_add_up, each_path_keeps_its_counts, each_value_is_a_count, entered_parts_are_underway, each_end_was_begun, each_part_outside_braces_is_alone, progress_is_underway, bounds_hold, sequences_keep_their_order, sequences_go_round_by_round}
+pub use Rattle.path_model.proofs.Refusals.{each_refusal_has_a_reason, starts_are_legal_unless_opposed, finishes_are_legal_in_progress}
+pub use Rattle.path_model.proofs.JournalGuarantees.{each_journal_follows_its_paths, segments_follow_their_paths, live_is_in_progress, live_counts_add_up, live_bounds_hold, one_is_live_outside_braces, live_parts_outside_braces_are_alone, each_block_has_a_reason, each_block_has_a_reason_behind, unopposed_starts_are_admitted, unopposed_starts_are_admitted_behind, live_activations_are_counted, own_activations_finish, roomy_starts_are_judged, roomy_starts_are_judged_behind, each_reply_tells_what_is_live, each_reply_tells_what_is_live_behind}
 -- the names of a tree, and the path above a name
 pub use Rattle.path_model.proofs.Upward.{has_names, names_has, path_left, path_right, path_one, path_other}
 -- lists of paths with numbers, and the values of all paths as those of each
@@ -33,8 +38,10 @@ pub use Rattle.path_model.proofs.FlatNumbers.{none_counted}
 pub use Rattle.path_model.proofs.Flat.{plain_openings}
 -- one more line of a journal
 pub use Rattle.path_model.proofs.JournalLists.{begun_more, begun_quiet, live_quiet, history_quiet, contents_more, quiet_use, quiet_reply}
-pub use Rattle.path_model.proofs.Unasked.{asked_by_own, asked_more}
+pub use Rattle.path_model.proofs.Unasked.{asked_by_own, asked_more, RefusesAsDevice, refuses_as_device}
 pub use Rattle.path_model.proofs.HonestJournals.{line_of, honest_more, live_started, live_finished, live_found}
 pub use Rattle.path_model.proofs.Progress.{history_started, history_finished, live_in_progress, begun_lines}
+-- one more line of a segment, and one more segment
+pub use Rattle.path_model.proofs.Segments.{room_behind_is, joined_more, segments_more, segments_rotated, segments_over, owed_numbered}
 -- what may go to another thread
 pub use Rattle.path_model.proofs.Threads.{expr_send}

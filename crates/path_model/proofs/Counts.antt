@@ -6,22 +6,9 @@ use Rattle.path_model.specs.declared.history.Event.{Event}
 use Rattle.path_model.specs.declared.history.Event.TheVariants.{Began, Ended}
 use Rattle.path_model.specs.Trees.{Room, Tree, op, seq, alt, burst, Names}
 use Rattle.path_model.specs.Histories.{op_of}
+pub use Rattle.path_model.specs.Executions.{entry, exit, count, opens, closes}
 
--- an event begins the tree, or ends it
-abbrev pub entry : Tree → Event → ℕ
-entry (op b) (Began a) = if a.0 == b.0 then 1 else 0
-entry (op b) (Ended a) = 0
-entry (seq s t) e = entry s e
-entry (alt s t) e = entry s e + entry t e
-entry (burst bd s) e = entry s e
-
-abbrev pub exit : Tree → Event → ℕ
-exit (op b) (Began a) = 0
-exit (op b) (Ended a) = if a.0 == b.0 then 1 else 0
-exit (seq s t) e = exit t e
-exit (alt s t) e = exit s e + exit t e
-exit (burst bd s) e = exit s e
-
+-- the counts of all entries and exits
 abbrev pub ins : Tree → List Event → ℕ
 ins s [] = 0
 ins s (e ∷ w) = entry s e + ins s w
@@ -30,20 +17,7 @@ abbrev pub outs : Tree → List Event → ℕ
 outs s [] = 0
 outs s (e ∷ w) = exit s e + outs s w
 
--- the counter of braces around the tree
-abbrev pub count : Tree → ℕ → List Event → ℕ
-count s c [] = c
-count s c (e ∷ w) = count s (c + entry s e - exit s e) w
-
--- how often it left 0, and how often it came back
-abbrev pub opens : Tree → ℕ → List Event → ℕ
-opens s c [] = 0
-opens s c (e ∷ w) = (if c == 0 then entry s e else 0) + opens s (c + entry s e - exit s e) w
-
-abbrev pub closes : Tree → ℕ → List Event → ℕ
-closes s c [] = 0
-closes s c (e ∷ w) = (if c + entry s e - exit s e == 0 then exit s e else 0) + closes s (c + entry s e - exit s e) w
-
+-- how often the tree was entered, and how often it was left
 abbrev pub inn : Tree → List Event → ℕ
 inn (op b) w = ins (op b) w
 inn (seq s t) w = inn s w

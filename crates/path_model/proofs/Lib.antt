@@ -41,5 +41,13 @@ pub mod LabelExamples
 pub mod JournalExamples
 pub mod StuckExamples
 pub mod Unasked
+pub mod Segments
 pub mod Threads
+pub mod TreeTests
+pub mod Executions
+pub mod Guarantees
+pub mod Refusals
+pub mod JournalGuarantees
+pub mod GuaranteeExamples
+pub mod JournalGuaranteeExamples
 pub mod CallerLemmas

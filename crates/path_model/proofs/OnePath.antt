@@ -108,12 +108,12 @@ rooted s nr nn {h = v} (step w e r m k) = subst (λ x. Rooted s x (values_after 
     go (Ended a) m y q = rooted_ended s nr nn w _ a q (live_steady s nr nn r) y (May-names s w (Ended a) _ m)
 
 -- finishes
-begun_ins : (a : OpId) (h : List Event) → begun a h ≡ ins (op a) h
+pub begun_ins : (a : OpId) (h : List Event) → begun a h ≡ ins (op a) h
 begun_ins a [] = refl
 begun_ins a (Began b ∷ h) = elim (b.0 == a.0) as (λ x. (if x then (begun a h + 1) else begun a h) ≡ (if x then 1 else 0) + ins (op a) h) [ true ↦ omega (arith, begun_ins a h) | false ↦ omega (arith, begun_ins a h) ]
 begun_ins a (Ended b ∷ h) = omega (arith, begun_ins a h)
 
-ended_outs : (a : OpId) (h : List Event) → ended a h ≡ outs (op a) h
+pub ended_outs : (a : OpId) (h : List Event) → ended a h ≡ outs (op a) h
 ended_outs a [] = refl
 ended_outs a (Ended b ∷ h) = elim (b.0 == a.0) as (λ x. (if x then (ended a h + 1) else ended a h) ≡ (if x then 1 else 0) + outs (op a) h) [ true ↦ omega (arith, ended_outs a h) | false ↦ omega (arith, ended_outs a h) ]
 ended_outs a (Began b ∷ h) = omega (arith, ended_outs a h)

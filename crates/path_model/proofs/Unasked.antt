@@ -23,7 +23,7 @@ use Rattle.path_model.proofs.JournalLists.{contents_more}
 use Rattle.path_model.proofs.HonestJournals.{honest_more, live_found, honest_induction}
 
 -- a refusal of the table is a device's reply
-abbrev RefusesAsDevice : Outcome → Type 0
+abbrev pub RefusesAsDevice : Outcome → Type 0
 RefusesAsDevice (serves x rest) = Unit {0}
 RefusesAsDevice (refuses r) = is_device_reply r ≡ true
 
@@ -39,7 +39,7 @@ seen_as_device : (held : List ℕ) → RefusesAsDevice (first_seen held)
 seen_as_device [] = refl
 seen_as_device (x ∷ xs) = tt
 
-refuses_as_device : (law : Law) (verb : Verb) (held : List ℕ) → RefusesAsDevice (outcome_of law verb held)
+pub refuses_as_device : (law : Law) (verb : Verb) (held : List ℕ) → RefusesAsDevice (outcome_of law verb held)
 refuses_as_device Cell (Put x) held = tt
 refuses_as_device Cell Take held = refl
 refuses_as_device Cell Look held = tt
@@ -105,7 +105,7 @@ module _ (d : Declaration) (room : ℕ) (openings others : List (List ℕ)) (ls 
   use_same w n verb _ (OwedToUse.served a x rest l own k) other = OwedToUse.served a x rest l own (outcome_same w n verb a (Used x) own refl other ∙ k)
   use_same w n verb _ (OwedToUse.failed a x rest l own k) other = OwedToUse.failed a x rest l own (outcome_same w n verb a DeviceFailed own refl other ∙ k)
 
-  owed_same : (w : ℕ) (attempt : Attempt) (reply : Reply) → Owed d room openings ls w attempt reply → resource_asked d ls attempt reply ≢ Some r
+  pub owed_same : (w : ℕ) (attempt : Attempt) (reply : Reply) → Owed d room openings ls w attempt reply → resource_asked d ls attempt reply ≢ Some r
       → Owed d room others ls w attempt reply
   owed_same w (Start a) reply owed other = owed
   owed_same w (Apply n verb) reply owed other = use_same w n verb reply owed other

@@ -25,3 +25,9 @@ pub mod Owed
 pub mod Honest
 pub mod Asked
 pub mod Stuck
+pub mod Segments
+pub mod TreeTests
+pub mod Executions
+pub mod Guarantees
+pub mod Refusals
+pub mod JournalGuarantees

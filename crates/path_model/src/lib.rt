@@ -2,7 +2,8 @@
 //!
 //! The types are plain data. The specs next to them have all definitions of the subject: histories, words, bursts and the
 //! behaviour of a path, the replies that a journal owes to attempts, and how semaphores keep the meaning of paths
-//! (Campbell and Habermann, 1974). The laws of [`theorems`] say that the semaphores admit exactly what the words allow.
+//! (Campbell and Habermann, 1974). The laws of [`theorems`] say that the semaphores admit exactly what the words allow, and
+//! what a path guarantees, in words of operations.
 #![tactic(auto)]
 
 pub mod history;

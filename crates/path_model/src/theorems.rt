@@ -16,7 +16,22 @@ ghost use Rattle.path_model.specs.Honest.{EachHonestJournalIsLegal, EachHonestJo
 ghost use Rattle.path_model.specs.Honest.{LiveActivationsAreInProgress, EachAttemptIsOwedAReply};
 ghost use Rattle.path_model.specs.Owed.{OneReplyIsOwed};
 ghost use Rattle.path_model.specs.Asked.{UnaskedDevicesMayBeReplaced};
+ghost use Rattle.path_model.specs.Segments.{OneSegmentIsAJournal, MoreRoomKeepsHonest, SegmentsAreOneJournal, EachSegmentHasRoom};
+ghost use Rattle.path_model.specs.Segments.{EachAttemptIsOwedAReplyBehind, OneReplyIsOwedBehind};
 ghost use Rattle.path_model.specs.Stuck.{FrozenStaysFrozen, StartablesMayStart, LiveActivationsMayFinish, FinishesComeBetween};
+ghost use Rattle.path_model.specs.TreeTests.{WellFormedTreesPass};
+ghost use Rattle.path_model.specs.Guarantees.{EachFrontIsLegal, EachFrontIsLegalOnAll, CountsAddUp};
+ghost use Rattle.path_model.specs.Guarantees.{EachPathKeepsItsCounts, EachValueIsACount, EnteredPartsAreUnderway, EachEndWasBegun};
+ghost use Rattle.path_model.specs.Guarantees.{EachPartOutsideBracesIsAlone, ProgressIsUnderway, BoundsHold};
+ghost use Rattle.path_model.specs.Guarantees.{SequencesKeepTheirOrder, SequencesGoRoundByRound};
+ghost use Rattle.path_model.specs.Refusals.{EachRefusalHasAReason, StartsAreLegalUnlessOpposed, FinishesAreLegalInProgress};
+ghost use Rattle.path_model.specs.JournalGuarantees.{EachJournalFollowsItsPaths, SegmentsFollowTheirPaths};
+ghost use Rattle.path_model.specs.JournalGuarantees.{LiveIsInProgress, LiveCountsAddUp, LiveActivationsAreCounted};
+ghost use Rattle.path_model.specs.JournalGuarantees.{LiveBoundsHold, OneIsLiveOutsideBraces, LivePartsOutsideBracesAreAlone};
+ghost use Rattle.path_model.specs.JournalGuarantees.{EachBlockHasAReason, EachBlockHasAReasonBehind};
+ghost use Rattle.path_model.specs.JournalGuarantees.{UnopposedStartsAreAdmitted, UnopposedStartsAreAdmittedBehind, OwnActivationsFinish};
+ghost use Rattle.path_model.specs.JournalGuarantees.{RoomyStartsAreJudged, RoomyStartsAreJudgedBehind};
+ghost use Rattle.path_model.specs.JournalGuarantees.{EachReplyTellsWhatIsLive, EachReplyTellsWhatIsLiveBehind};
 
 /// After every history of a path's behaviour the semaphores let an operation begin or end exactly when the behaviour does.
 pub fn each_path_admits_its_words()
@@ -196,4 +211,199 @@ pub fn live_activations_may_finish()
 /// Between a blocked start of an operation and a later admitted one there is an admitted finish.
 pub fn finishes_come_between()
     ensures { FinishesComeBetween }
+{}
+
+/// A journal of one segment is a journal.
+pub fn one_segment_is_a_journal()
+    ensures { OneSegmentIsAJournal }
+{}
+
+/// An honest journal is honest in more room.
+pub fn more_room_keeps_honest()
+    ensures { MoreRoomKeepsHonest }
+{}
+
+/// Honest segments are one honest journal together, so each law of honest journals holds of them.
+pub fn segments_are_one_journal()
+    ensures { SegmentsAreOneJournal }
+{}
+
+/// The last of honest segments has room for its lines, and for the finish of each live activation.
+pub fn each_segment_has_room()
+    ensures { EachSegmentHasRoom }
+{}
+
+/// Behind honest segments some reply is owed to each attempt.
+pub fn each_attempt_is_owed_a_reply_behind()
+    ensures { EachAttemptIsOwedAReplyBehind }
+{}
+
+/// Behind earlier lines, too, at most one reply is owed to an attempt, except that a device may fail.
+pub fn one_reply_is_owed_behind()
+    ensures { OneReplyIsOwedBehind }
+{}
+
+/// Whether a tree is well formed can be found by computing.
+pub fn well_formed_trees_pass()
+    ensures { WellFormedTreesPass }
+{}
+
+/// A front of a history that is legal on a path is legal on it.
+pub fn each_front_is_legal()
+    ensures { EachFrontIsLegal }
+{}
+
+/// A front of a history that is legal on all paths is legal on all of them.
+pub fn each_front_is_legal_on_all()
+    ensures { EachFrontIsLegalOnAll }
+{}
+
+/// How often an operation begins and ends adds up over the parts of a history.
+pub fn counts_add_up()
+    ensures { CountsAddUp }
+{}
+
+/// After a legal history each part of a path has kept its own order, bounds and turns, and the whole path is underway at most once.
+pub fn each_path_keeps_its_counts()
+    ensures { EachPathKeepsItsCounts }
+{}
+
+/// After a legal history each semaphore, counter and bound is a difference of how often parts of the path were entered and left.
+pub fn each_value_is_a_count()
+    ensures { EachValueIsACount }
+{}
+
+/// A part of a path was entered and not left exactly where an operation of it is in progress or one has still to follow another.
+pub fn entered_parts_are_underway()
+    ensures { EnteredPartsAreUnderway }
+{}
+
+/// No operation ends more often than it begins.
+pub fn each_end_was_begun()
+    ensures { EachEndWasBegun }
+{}
+
+/// What stands outside braces, as an operation or a pair of braces, excludes all else of its path while it is underway.
+pub fn each_part_outside_braces_is_alone()
+    ensures { EachPartOutsideBracesIsAlone }
+{}
+
+/// A part of a path is underway while an operation of it is in progress.
+pub fn progress_is_underway()
+    ensures { ProgressIsUnderway }
+{}
+
+/// Of `{ S : n }` at most n operations are in progress.
+pub fn bounds_hold()
+    ensures { BoundsHold }
+{}
+
+/// In `S ; T` T is entered at most as often as S was left.
+pub fn sequences_keep_their_order()
+    ensures { SequencesKeepTheirOrder }
+{}
+
+/// In `S ; T` outside braces S is left at most once before T is entered, and entered at most once before T is left.
+pub fn sequences_go_round_by_round()
+    ensures { SequencesGoRoundByRound }
+{}
+
+/// A path forbids a start exactly where full braces, a missing predecessor, or what is underway stands against it.
+pub fn each_refusal_has_a_reason()
+    ensures { EachRefusalHasAReason }
+{}
+
+/// A start that nothing stands against is legal.
+pub fn starts_are_legal_unless_opposed()
+    ensures { StartsAreLegalUnlessOpposed }
+{}
+
+/// A finish is legal exactly where its operation is in progress.
+pub fn finishes_are_legal_in_progress()
+    ensures { FinishesAreLegalInProgress }
+{}
+
+/// An honest journal follows each path of its declaration: its admitted history is legal there, and what has begun and not ended is live.
+pub fn each_journal_follows_its_paths()
+    ensures { EachJournalFollowsItsPaths }
+{}
+
+/// Honest segments together follow each path of their declaration.
+pub fn segments_follow_their_paths()
+    ensures { SegmentsFollowTheirPaths }
+{}
+
+/// An operation is in progress exactly while an activation of it is live.
+pub fn live_is_in_progress()
+    ensures { LiveIsInProgress }
+{}
+
+/// The operations of a tree have begun as often as they have ended and are live.
+pub fn live_counts_add_up()
+    ensures { LiveCountsAddUp }
+{}
+
+/// Of `{ S : n }` at most n activations are live.
+pub fn live_bounds_hold()
+    ensures { LiveBoundsHold }
+{}
+
+/// Of what neither has braces nor stands in any at most one activation is live.
+pub fn one_is_live_outside_braces()
+    ensures { OneIsLiveOutsideBraces }
+{}
+
+/// While a part that stands outside braces is live, nothing else of its path is.
+pub fn live_parts_outside_braces_are_alone()
+    ensures { LivePartsOutsideBracesAreAlone }
+{}
+
+/// The path that blocks a start is the first in which something stands against it.
+pub fn each_block_has_a_reason()
+    ensures { EachBlockHasAReason }
+{}
+
+/// The same holds behind earlier segments.
+pub fn each_block_has_a_reason_behind()
+    ensures { EachBlockHasAReasonBehind }
+{}
+
+/// A start for which there is room, and against which nothing stands in any path, is admitted.
+pub fn unopposed_starts_are_admitted()
+    ensures { UnopposedStartsAreAdmitted }
+{}
+
+/// The same holds behind earlier segments, if there is a number for the start.
+pub fn unopposed_starts_are_admitted_behind()
+    ensures { UnopposedStartsAreAdmittedBehind }
+{}
+
+/// What is live is of declared operations: together it is as much as of each of them.
+pub fn live_activations_are_counted()
+    ensures { LiveActivationsAreCounted }
+{}
+
+/// A finish is admitted exactly where it is that of the worker's own live activation, be there earlier segments or none.
+pub fn own_activations_finish()
+    ensures { OwnActivationsFinish }
+{}
+
+/// A start of a declared operation for which there is room is admitted or blocked.
+pub fn roomy_starts_are_judged()
+    ensures { RoomyStartsAreJudged }
+{}
+
+/// The same holds behind earlier lines, if there is a number for the start.
+pub fn roomy_starts_are_judged_behind()
+    ensures { RoomyStartsAreJudgedBehind }
+{}
+
+/// Only an admitted start and an admitted finish change what is live.
+pub fn each_reply_tells_what_is_live()
+    ensures { EachReplyTellsWhatIsLive }
+{}
+
+/// The same holds behind earlier segments.
+pub fn each_reply_tells_what_is_live_behind()
+    ensures { EachReplyTellsWhatIsLiveBehind }
 {}

@@ -1,9 +1,12 @@
 -- A run from the opening of its system on.
-use Rattle.std.proofs.Common.{◌≡◌, ℕ, List, length, ap, ◌∙◌, subst}
+use Rattle.std.proofs.Common.{◌≡◌, ℕ, List, [], ◌∷◌, ◌++◌, length, ap, ◌∙◌, subst}
+use Rattle.path_model.specs.declared.journal.Line.{Line}
 use Rattle.path_model.specs.Declarations.{Declaration}
 use Rattle.path_model.specs.Honest.{IsHonest}
+use Rattle.path_model.specs.Segments.{joined, AreHonest}
+use Rattle.path_model.proofs.CallerLemmas.{one_segment_is_a_journal}
 use Rattle.path_shelf.specs.States.{State}
-use Rattle.path_system.specs.Accounts.{Account, account_of, contents_of}
+use Rattle.path_system.specs.Accounts.{Account, IsSystem, account_of, all_lines, contents_of}
 use Rattle.path_system.specs.Faults.{IsOpenFault}
 use Rattle.path_system.specs.declared.fault.OpenFault.{OpenFault}
 use Rattle.path_system.specs.declared.fault.OpenFault.TheVariants as openings
@@ -30,9 +33,13 @@ module _ (d : Declaration) (states : List State) (room : ℕ) (opened last : Acc
   declared = later.declaration ∙ ap (λ (a : Account). a.declaration) new
 
   pub ran_so : (plans : List Plan) (passes : List Held) (es : List End) → length passes ≡ length plans → length es ≡ length plans
-      → IsHonest last.declaration last.room last.openings last.journal → IsSettled (length opened.journal) last.journal passes → EachRuns plans passes es
-      → EachIsOrderly last.journal passes es → EachIsBlockedNow last.declaration last.journal es → IsRunOf d states room plans last.journal es
-  ran_so plans passes es count ends honest settled runs orderly blocked =
+      → IsSystem last → IsSettled (length opened.journal) last.journal passes → EachRuns plans passes es
+      → EachIsOrderly last.journal passes es → EachIsBlockedNow last.declaration (all_lines last) es → IsRunOf d states room plans last.journal es
+  ran_so plans passes es count ends system settled runs orderly blocked =
+      let whole : last.earlier ≡ [] = later.earlier ∙ ap (λ (a : Account). a.earlier) new in
+      let honest : IsHonest last.declaration last.room last.openings last.journal =
+      (one_segment_is_a_journal last.declaration last.room last.openings last.journal).0
+      (subst (λ (ss : List (List Line)). AreHonest last.declaration last.room last.openings (ss ++ last.journal ∷ [])) whole system.honest) in
       let rooms : last.room ≡ room = later.room ∙ ap (λ (a : Account). a.room) new in
       let openings : last.openings ≡ contents_of states = later.openings ∙ ap (λ (a : Account). a.openings) new in
       record {
@@ -44,5 +51,6 @@ module _ (d : Declaration) (states : List State) (room : ℕ) (opened last : Acc
         settled = subst (λ (n : ℕ). IsSettled n last.journal passes) (ap (λ (a : Account). length a.journal) new) settled;
         runs = runs;
         orderly = orderly;
-        blocked = subst (λ (x : Declaration). EachIsBlockedNow x last.journal es) declared blocked;
+        blocked = subst (λ (x : Declaration). EachIsBlockedNow x last.journal es) declared
+            (subst (λ (ss : List (List Line)). EachIsBlockedNow last.declaration (joined ss ++ last.journal) es) whole blocked);
       }

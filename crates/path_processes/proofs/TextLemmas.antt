@@ -14,17 +14,22 @@ use Rattle.path_script.specs.ScriptFaults.{IsScriptFault}
 use Rattle.path_shelf.specs.States.{State}
 use Rattle.path_run.specs.declared.outcome.End.{End}
 use Rattle.path_streams.specs.declared.status.Status.{Status}
-use Rattle.path_streams.specs.declared.status.Status.TheVariants.{StreamFailed, TextRefused, Unsound}
+use Rattle.path_streams.specs.declared.status.Status.TheVariants.{Done, StreamFailed, TextRefused, Unsound}
 use Rattle.path_streams.specs.Statuses.{script_status}
 use Rattle.path_streams.specs.Writes.{AppendsSome, IsFrontOf}
 use Rattle.path_trace.specs.Traces.{own_states}
-use Rattle.path_processes.specs.Ends.{AnyEnds, NotAllDone, IsStatusOf}
+use Rattle.path_processes.specs.Ends.{AllDone, AnyEnds, NotAllDone, IsStatusOf}
 use Rattle.path_processes.specs.RunTexts.{IsRunOf, IsRunText, IsRunOfTexts, IsBadScript}
 
 -- a run that ends as unsound has a process that isn't done
 pub unsound_so : (es : List End) (result : Status) → IsStatusOf es result ⊎ (result ≡ StreamFailed) → result ≡ Unsound → NotAllDone es
 unsound_so es result (inl is) e = (subst (IsStatusOf es) e is).0
 unsound_so es result (inr failed) e = absurd (let other : Unsound ≡ StreamFailed = sym e ∙ failed in cc)
+
+-- and one that ends as done has none
+pub done_so : (es : List End) (result : Status) → IsStatusOf es result ⊎ (result ≡ StreamFailed) → result ≡ Done → AllDone es
+done_so es result (inl is) e = subst (IsStatusOf es) e is
+done_so es result (inr failed) e = absurd (let other : Done ≡ StreamFailed = sym e ∙ failed in cc)
 
 -- all of it is a front of it
 pub whole_front : (all : List ℕ) → IsFrontOf (λ bytes. bytes ≡ all) all

@@ -17,3 +17,5 @@ pub mod Made
 pub mod FromLawful
 pub mod Whole
 pub mod Unique
+pub mod Computed
+pub mod Known

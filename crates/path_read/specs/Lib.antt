@@ -1,3 +1,4 @@
 pub mod Refused
 pub mod Once
+pub mod Computed
 pub mod Inner

@@ -17,4 +17,4 @@ mod reader;
 pub mod theorems;
 
 pub use path_lex::DeclFault;
-pub use reader::read;
+pub use reader::{read, read_constant};

@@ -1,11 +1,12 @@
 //! From bytes to declarations.
 
-ghost use Rattle.std.specs.Prelude.{◌≡◌, ◌⊎◌, ℕ, ◌<◌, ◌≤◌, ◌↔◌, length, IfOk, IfErr, IsErrOf};
+ghost use Rattle.std.specs.Prelude.{◌≡◌, ◌⊎◌, ℕ, ◌<◌, ◌≤◌, ◌↔◌, length, IsSome, Some, IfOk, IfErr, IsErrOf};
 ghost use Rattle.path_lex.specs.Bytes.{IsFirstBad};
 ghost use Rattle.path_lex.specs.Spelling.{IsFirstLongWord, IsFirstLongNumber};
 ghost use Rattle.path_decl.specs.Text.{IsDeclarationText, IsDeclared};
 ghost use Rattle.path_read.specs.Inner.Building.{drafted, declared_by};
 ghost use Rattle.path_read.specs.Refused.{Refuses};
+ghost use Rattle.path_read.specs.Computed.{declared_in};
 
 use crate::draft::Draft;
 use crate::outline::file;
@@ -61,4 +62,22 @@ pub fn read<A: Allocator + Copy>(alloc: A, text: &[u8]) -> Result<Decl<A>, DeclF
     let draft = file(alloc, &tokens, text.len() as u32)?;
     let decl = finish(alloc, draft)?;
     Ok(decl)
+}
+
+/// Reads a constant text that is a declaration. Fails only if allocation fails. Takes the time and the memory of [`read`].
+///
+/// Which declaration the constant is, the proof of a caller computes: `#[tactic(auto, unfolding(path_read::specs::Computed::declared_in))]`
+/// on the calling function shows what is required, and that the result is the declaration that the function's own contract names.
+pub fn read_constant<A: Allocator + Copy>(alloc: A, text: &[u8]) -> Result<Decl<A>, OutOfMemory>
+    requires { IsSome (declared_in text.now) }
+    ensures computed { IfOk result (λ d. declared_in text.now ≡ Some d.declaration) }
+    ensures text { IfOk result (λ d. IsDeclarationText text.now d.declaration) }
+{
+    match read(alloc, text) {
+        Ok(decl) => Ok(decl),
+        Err(fault) => {
+            prove!(fault == DeclFault::OutOfMemory);
+            Err(OutOfMemory)
+        }
+    }
 }

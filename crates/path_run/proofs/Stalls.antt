@@ -2,7 +2,7 @@
 use Rattle.std.proofs.Common.{◌≡◌, inl, inr, ℕ, ◌+◌, ◌-◌, ◌<◌, suc, List, [], ◌∷◌, ◌++◌, length, take, drop, get_or, Bool, true, refl, sym, ap, ◌∙◌, subst, arith, length-append, length-drop, drop-cons, add-one}
 use Rattle.std.specs.Prelude.{Some, ◌&&◌, ◌==◌}
 use Rattle.std.proofs.lemmas.Bool.Decides.{nat_tests}
-use Rattle.std.proofs.lemmas.List.{get_or-drop, take-append-drop}
+use Rattle.std.proofs.lemmas.List.{append_assoc, get_or-drop, take-append-drop}
 use Rattle.std.proofs.Math.Seq.{get_or-append_seam}
 use Rattle.path_model.specs.declared.ids.OpId.{OpId}
 use Rattle.path_model.specs.declared.ids.ActId.{ActId}
@@ -18,7 +18,10 @@ use Rattle.path_model.specs.Declarations.{Declaration, paths_of}
 use Rattle.path_model.specs.Journals.{admitted_history}
 use Rattle.path_model.specs.Owed.{by_words}
 use Rattle.path_model.specs.Honest.{IsHonest}
+use Rattle.path_model.specs.Segments.{joined, room_behind}
 use Rattle.path_model.specs.Stuck.{HasFinishLine, blocked_line}
+use Rattle.path_model.proofs.CallerLemmas.{segments_are_one_journal}
+use Rattle.path_system.specs.Accounts.{Account, IsSystem, all_lines}
 use Rattle.path_workers.specs.declared.answer.Receipt.{Receipt}
 use Rattle.path_workers.specs.Attempts.{Held}
 use Rattle.path_workers.specs.Settled.{same_attempt, same_reply, is_copy, IsSettled}
@@ -74,24 +77,25 @@ a_line = record { worker = 0; attempt = Start (record { 0 = 0 }); reply = Finish
 abbrev IsLine : List Line → Receipt → Type 0
 IsLine lines r = (r.place < length lines) × (is_copy r.place (get_or lines r.place a_line) r ≡ true)
 
-module _ (d : Declaration) (room : ℕ) (openings : List (List ℕ)) (wf : legal.Every WellFormed (paths_of d)) (lines : List Line) (honest : IsHonest d room openings lines) where
+module _ (d : Declaration) (room : ℕ) (openings : List (List ℕ)) (wf : legal.Every WellFormed (paths_of d)) (earlier lines : List Line) (honest : IsHonest d room openings (earlier ++ lines)) where
   -- a blocked start with no finish after it is blocked after all lines
   blocked_at : (place w : ℕ) (op : OpId) (path : PathId) → place < length lines → get_or lines place a_line ≡ blocked_line w op path → HasNoFinish lines place (length lines)
-      → (q : PathId) × by_words d (admitted_history lines) op (Some q)
+      → (q : PathId) × by_words d (admitted_history (earlier ++ lines)) op (Some q)
   blocked_at place w op path within is none =
       let x : List Line = take place lines in
       let y : List Line = drop (place + 1) lines in
       let here : drop place lines ≡ blocked_line w op path ∷ y = rw (add-one, drop-cons lines place a_line) (ap (λ (l : Line). l ∷ drop (suc place) lines) is) in
-      let split : x ++ blocked_line w op path ∷ y ≡ lines = ap (λ (ls : List Line). x ++ ls) (sym here) ∙ take-append-drop place lines in
+      let split : (earlier ++ x) ++ blocked_line w op path ∷ y ≡ earlier ++ lines =
+      append_assoc earlier x (blocked_line w op path ∷ y) ∙ ap (λ (ls : List Line). earlier ++ ls) (ap (λ (ls : List Line). x ++ ls) (sym here) ∙ take-append-drop place lines) in
       let free : HasFinishLine y → ⊥ = λ f.
       (let k = finish_at y f in
       let len = length-drop (place + 1) lines in
       none (place + 1 + k.0) a_line (omega arith) (omega (arith, k.1, len)) (omega (arith, k.1, len)) (ap (λ (l : Line). l.reply) (sym (get_or-drop (place + 1) lines k.0 a_line)) ∙ k.2 a_line)) in
-      let found = still_blocked d room openings wf x y w op path (subst (λ (ls : List Line). IsHonest d room openings ls) (sym split) honest) free in
+      let found = still_blocked d room openings wf (earlier ++ x) y w op path (subst (λ (ls : List Line). IsHonest d room openings ls) (sym split) honest) free in
       (found.0, subst (λ (ls : List Line). by_words d (admitted_history ls) op (Some found.0)) split found.1)
 
   blocked_now : (rs : List Receipt) (op : OpId) → ((j : ℕ) (e : Receipt) → j < length rs → IsLine lines (get_or rs j e)) → EndsBlocked op rs
-      → ((e : Receipt) → 0 < length rs → HasNoFinish lines (get_or rs (length rs - 1) e).place (length lines)) → (q : PathId) × by_words d (admitted_history lines) op (Some q)
+      → ((e : Receipt) → 0 < length rs → HasNoFinish lines (get_or rs (length rs - 1) e).place (length lines)) → (q : PathId) × by_words d (admitted_history (earlier ++ lines)) op (Some q)
   blocked_now rs op copied last none =
       let first : List Receipt = last.0 in
       let r : Receipt = note last.1 (Start op) (Blocked last.2) in
@@ -107,12 +111,12 @@ module _ (d : Declaration) (room : ℕ) (openings : List (List ℕ)) (wf : legal
       let final : (get_or rs (length rs - 1) r).place ≡ last.1 = ap (λ (k : ℕ). (get_or rs k r).place) end ∙ ap (λ (q : Receipt). q.place) at in
       blocked_at last.1 l.worker op last.2 line.0 is (subst (λ (k : ℕ). HasNoFinish lines k (length lines)) final (none r (omega arith)))
 
-  by_end : (steps : List Step) (rs : List Receipt) (end : End) → ((j : ℕ) (e : Receipt) → j < length rs → IsLine lines (get_or rs j e)) → IsRun steps [] rs end → IsCurrent lines rs end → IsBlockedNow d lines end
+  by_end : (steps : List Step) (rs : List Receipt) (end : End) → ((j : ℕ) (e : Receipt) → j < length rs → IsLine lines (get_or rs j e)) → IsRun steps [] rs end → IsCurrent lines rs end → IsBlockedNow d (earlier ++ lines) end
   by_end steps rs (ends.Stalled op) copied run none = blocked_now rs op copied (ends_blocked steps [] rs op run) none
   by_end steps rs end copied run none = tt
 
   -- what each stalled process waits for is blocked after the whole journal
-  pub stays_blocked : (plans : List Plan) (b : ℕ) (hs : List Held) (es : List End) → length hs ≡ length plans → length es ≡ length plans → IsSettled b lines hs → EachIsOrderly lines hs es → EachRuns plans hs es → EachIsBlockedNow d lines es
+  pub stays_blocked : (plans : List Plan) (b : ℕ) (hs : List Held) (es : List End) → length hs ≡ length plans → length es ≡ length plans → IsSettled b lines hs → EachIsOrderly lines hs es → EachRuns plans hs es → EachIsBlockedNow d (earlier ++ lines) es
   stays_blocked plans b hs es passes ends settled orderly runs i e lt =
       let p : Plan = record { name = []; steps = [] } in
       let h : Held = record { worker = 0; receipts = [] } in
@@ -120,3 +124,10 @@ module _ (d : Declaration) (room : ℕ) (openings : List (List ℕ)) (wf : legal
       let current = orderly i h e (omega arith) in
       by_end (get_or plans i p).steps (get_or hs i h).receipts (get_or es i e)
       (λ j r in_range. let line = each_receipt_is_a_line b lines hs settled i j h r a_line (omega arith) in_range in (line.1, line.2)) run.1 current.1
+
+-- and after all lines of a system, where earlier ones were given away
+pub blocked_behind : (a : Account) → IsSystem a → (plans : List Plan) (b : ℕ) (hs : List Held) (es : List End) → length hs ≡ length plans → length es ≡ length plans
+    → IsSettled b a.journal hs → EachIsOrderly a.journal hs es → EachRuns plans hs es → EachIsBlockedNow a.declaration (all_lines a) es
+blocked_behind a system plans b hs es passes ends settled orderly runs =
+    stays_blocked a.declaration (room_behind (joined a.earlier) a.room) a.openings system.lawful.well_formed (joined a.earlier) a.journal
+    (segments_are_one_journal a.declaration a.room a.openings a.earlier a.journal system.honest) plans b hs es passes ends settled orderly runs

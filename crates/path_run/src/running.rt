@@ -1,10 +1,7 @@
 //! Runs.
 
 ghost use Rattle.std.specs.Prelude.{◌≡◌, ◌≢◌, ℕ, ◌<◌, ◌≤◌, length, vec_len, vec_capacity, slice_index_or, IfOk, IfErr};
-ghost use Rattle.path_model.specs.Declarations.{paths_of};
-ghost use Rattle.path_model.specs.Honest.{IsHonest};
-ghost use Rattle.path_model.specs.Legal.{Every};
-ghost use Rattle.path_model.specs.Trees.{WellFormed};
+ghost use Rattle.path_system.specs.Accounts.{IsSystem, all_lines};
 ghost use Rattle.path_script.specs.Scripts.{LawfulScript};
 ghost use Rattle.path_workers.specs.declared.settle.SettleFault.{SettleFault as Fault};
 ghost use Rattle.path_workers.specs.Later.{IsLater};
@@ -68,9 +65,7 @@ fn outcome<L: Opening, S: Steps, A: Allocator + Copy>(
     ensures passes { IfOk result (λ o. (o.passes.items ≡ passes.items) × (vec_len o.passes ≡ vec_len passes)) }
     ensures settled { IfOk result (λ o. IsSettled before (S.account o.system).journal o.passes.items) }
     ensures orderly { IfOk result (λ o. EachIsOrderly (S.account o.system).journal o.passes.items o.ends.items) }
-    ensures honest { IfOk result (λ o. IsHonest (S.account o.system).declaration (S.account o.system).room (S.account o.system).openings
-        (S.account o.system).journal) }
-    ensures well_formed { IfOk result (λ o. Every WellFormed (paths_of (S.account o.system).declaration)) }
+    ensures system { IfOk result (λ o. IsSystem (S.account o.system)) }
     ensures memory { IfErr result (λ e. (left : _) → e ≢ faults.OutOfMemory left) }
     ensures left { IfErr result (λ e. (fault : Fault) (left : _) → e ≡ faults.Unsettled fault left → IsLater L.opened (S.account left)) }
     ensures unsettled { IfErr result (λ e. (fault : Fault) (left : _) → e ≡ faults.Unsettled fault left
@@ -78,7 +73,6 @@ fn outcome<L: Opening, S: Steps, A: Allocator + Copy>(
 {
     match settle_own(hall, before, passes, slips) {
         Ok((system, slips)) => {
-            system.has_well_formed_paths();
             match first_disorder(system.journal(), slips.as_slice(), ends.as_slice()) {
                 None => Ok(Outcome {
                     system,
@@ -115,9 +109,8 @@ fn run_at<
     ensures settled { IfOk result (λ o. IsSettled (length (S.account system).journal) (S.account o.system).journal o.passes.items) }
     ensures runs { IfOk result (λ o. EachRuns processes.now o.passes.items o.ends.items) }
     ensures orderly { IfOk result (λ o. EachIsOrderly (S.account o.system).journal o.passes.items o.ends.items) }
-    ensures blocked { IfOk result (λ o. EachIsBlockedNow (S.account o.system).declaration (S.account o.system).journal o.ends.items) }
-    ensures honest { IfOk result (λ o. IsHonest (S.account o.system).declaration (S.account o.system).room (S.account o.system).openings
-        (S.account o.system).journal) }
+    ensures blocked { IfOk result (λ o. EachIsBlockedNow (S.account o.system).declaration (all_lines (S.account o.system)) o.ends.items) }
+    ensures system { IfOk result (λ o. IsSystem (S.account o.system)) }
     ensures later { IfOk result (λ o. IsLater (S.account system) (S.account o.system)) }
     ensures memory { IfErr result (λ e. (left : _) → e ≡ faults.OutOfMemory left → IsLater (S.account system) (S.account left)) }
     ensures left { IfErr result (λ e. (fault : Fault) (left : _) → e ≡ faults.Unsettled fault left
@@ -182,9 +175,8 @@ pub fn run<
     ensures settled { IfOk result (λ o. IsSettled (length (S.account system).journal) (S.account o.system).journal o.passes.items) }
     ensures runs { IfOk result (λ o. EachRuns script.now.processes o.passes.items o.ends.items) }
     ensures orderly { IfOk result (λ o. EachIsOrderly (S.account o.system).journal o.passes.items o.ends.items) }
-    ensures blocked { IfOk result (λ o. EachIsBlockedNow (S.account o.system).declaration (S.account o.system).journal o.ends.items) }
-    ensures honest { IfOk result (λ o. IsHonest (S.account o.system).declaration (S.account o.system).room (S.account o.system).openings
-        (S.account o.system).journal) }
+    ensures blocked { IfOk result (λ o. EachIsBlockedNow (S.account o.system).declaration (all_lines (S.account o.system)) o.ends.items) }
+    ensures system { IfOk result (λ o. IsSystem (S.account o.system)) }
     // The system that comes back is the one that was handed in, with the lines of the run after those that it had.
     ensures later { IfOk result (λ o. IsLater (S.account system) (S.account o.system)) }
     ensures memory { IfErr result (λ e. (left : _) → e ≡ faults.OutOfMemory left → IsLater (S.account system) (S.account left)) }

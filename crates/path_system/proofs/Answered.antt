@@ -19,13 +19,13 @@ use Rattle.path_model.specs.Journals.{live, activation_of, admitted_history}
 use Rattle.path_model.specs.Owed.{by_words, taken, IsOwn, OwedToStart, OwedToUse, OwedToFinish, Owed, outcome_for}
 use Rattle.path_model.specs.Contents.{contents_after}
 use Rattle.path_model.proofs.CallerLemmas.{each_honest_journal_is_legal, live_in_progress}
-use Rattle.path_gate.specs.Places.{has_room, is_own_of}
-use Rattle.path_gate.proofs.CallerLemmas.{roomy, not_roomy, roomy_or, not_roomy_or, not_own, own_or_other, none_forbids, found_declared}
+use Rattle.path_gate.specs.Places.{has_room, is_own_of, lacks_number}
+use Rattle.path_gate.proofs.CallerLemmas.{both_left, left_fails, roomy, not_roomy, roomy_or, not_roomy_or, not_own, own_or_other, none_forbids, found_declared}
 use Rattle.path_shelf.specs.declared.device.ActFault.{ActFault}
 use Rattle.path_shelf.specs.declared.device.ActFault.TheVariants as faults
 use Rattle.path_shelf.specs.States.{State, Acts, state_at}
 use Rattle.path_shelf.proofs.CallerLemmas.{law_at, would_serve}
-use Rattle.path_system.specs.Inner.Parts.{PartsValue, as_reply, MovesStart, MovesUse, MovesFinish, Moves, Answers, AreReady, AreTrueTo}
+use Rattle.path_system.specs.Inner.Parts.{PartsValue, as_reply, MovesStart, MovesUse, MovesFinish, Moves, Answers, AreReady, AreTrueTo, can_take}
 
 module _ (old : PartsValue) (room : ℕ) (openings : List (List ℕ)) (journal : List Line) (s : AreTrueTo old room openings journal) where
   -- the history is legal so far
@@ -123,14 +123,20 @@ module _ (old : PartsValue) (room : ℕ) (openings : List (List ℕ)) (journal :
   owed_outside w (Apply n verb) has = let k = not_roomy (length journal + length old.book.live + 1) room has in OwedToUse.no_room (omega (arith, k, taken_is))
   owed_outside w (Finish n) has = let k = not_roomy_or (length journal + length old.book.live + 1) room (is_own_of w (activation_of n old.book.live)) has in OwedToFinish.no_room (not_own_of w n k.1) (omega (arith, k, taken_is))
 
-  owed_case : (w : ℕ) (attempt : Attempt) (reply : Reply) (new : PartsValue) (has : Bool) → has_room room (length journal) old.book.live w attempt ≡ has
-      → Answers old room (length journal) w attempt reply new → Owed old.declaration room openings journal w attempt reply
-  owed_case w attempt reply new true is answers = owed_inside w attempt reply new is (answers.inside is)
-  owed_case w attempt reply new false is answers = rw ((answers.outside is).0) (owed_outside w attempt is)
+  -- the reply to what the parts can take
+  pub owed_taken : (w : ℕ) (attempt : Attempt) (reply : Reply) (new : PartsValue) → can_take old room (length journal) w attempt ≡ true → Answers old room (length journal) w attempt reply new
+      → Owed old.declaration room openings journal w attempt reply
+  owed_taken w attempt reply new is answers = owed_inside w attempt reply new (both_left _ _ is) (answers.inside is)
 
-  -- each reply is owed
-  pub owed_is : (w : ℕ) (attempt : Attempt) (reply : Reply) (new : PartsValue) → Answers old room (length journal) w attempt reply new → Owed old.declaration room openings journal w attempt reply
-  owed_is w attempt reply new answers = owed_case w attempt reply new _ refl answers
+  owed_case : (w : ℕ) (attempt : Attempt) (reply : Reply) (new : PartsValue) (can : Bool) → can_take old room (length journal) w attempt ≡ can → lacks_number old.book.begun attempt ≡ false
+      → Answers old room (length journal) w attempt reply new → Owed old.declaration room openings journal w attempt reply
+  owed_case w attempt reply new true is numbered answers = owed_taken w attempt reply new is answers
+  owed_case w attempt reply new false is numbered answers = rw ((answers.outside is).0) (owed_outside w attempt (left_fails _ _ is numbered))
+
+  -- each reply is owed, if a start has a number left
+  pub owed_is : (w : ℕ) (attempt : Attempt) (reply : Reply) (new : PartsValue) → lacks_number old.book.begun attempt ≡ false → Answers old room (length journal) w attempt reply new
+      → Owed old.declaration room openings journal w attempt reply
+  owed_is w attempt reply new numbered answers = owed_case w attempt reply new _ refl numbered answers
 
   -- the parts fit one another
   pub ready : AreReady old

@@ -15,13 +15,12 @@ use Rattle.path_model.specs.declared.journal.Activation.{Activation}
 use Rattle.path_model.specs.Declarations.{resource_of}
 use Rattle.path_model.specs.Journals.{activation_of}
 use Rattle.path_model.specs.Asked.{resource_asked}
-use Rattle.path_gate.specs.Places.{has_room}
 use Rattle.path_shelf.specs.declared.device.ActFault.{ActFault}
 use Rattle.path_shelf.specs.declared.device.ActFault.TheVariants as faults
 use Rattle.path_shelf.specs.States.{State, Acts, ActsAt, IsCounted, state_at}
 use Rattle.path_shelf.proofs.CallerLemmas.{count_acted}
 use Rattle.path_system.specs.Accounts.{failures_of, StayBut, HasFailed}
-use Rattle.path_system.specs.Inner.Parts.{PartsValue, as_reply, IsUse, MovesStart, MovesUse, MovesFinish, Moves, Answers, AreTrueTo}
+use Rattle.path_system.specs.Inner.Parts.{PartsValue, as_reply, IsUse, MovesStart, MovesUse, MovesFinish, Moves, Answers, AreTrueTo, can_take}
 use Rattle.path_model.proofs.CallerLemmas.{asked_by_own}
 use Rattle.path_system.proofs.Answered.{found_live, resource_in, states_count}
 use Rattle.path_system.proofs.Written.{answer_is_device}
@@ -110,6 +109,6 @@ module _ (old : PartsValue) (room : ℕ) (openings : List (List ℕ)) (journal :
   pub counted : (attempt : Attempt) (reply : Reply) → Answers old room (length journal) w attempt reply new → Counts attempt reply
   counted attempt reply answers = go _ refl
     where
-      go : (has : Bool) → has_room room (length journal) old.book.live w attempt ≡ has → Counts attempt reply
+      go : (can : Bool) → can_take old room (length journal) w attempt ≡ can → Counts attempt reply
       go true is = count_moved attempt reply (answers.inside is)
       go false is = told_none attempt reply NoRoom (answers.outside is).0 (λ e. cc) (none_outside attempt) (ap (λ (p : PartsValue). p.states) (answers.outside is).1)

@@ -6,7 +6,10 @@ pub mod Stepped
 pub mod Counted
 pub mod Rows
 pub mod Opened
+pub mod Controlled
 pub mod Replaced
 pub mod Reported
+pub mod Narrow
+pub mod Next
 pub mod Threads
 pub mod CallerLemmas

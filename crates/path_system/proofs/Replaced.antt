@@ -1,5 +1,5 @@
 -- Another device for a resource that nothing live uses, and whose device no line asked.
-use Rattle.std.proofs.Common.{◌≡◌, ℕ, ◌<◌, ◌≤◌, false, List, length, get_or, arith, ap, sym, subst, ◌∙◌, inl, inr}
+use Rattle.std.proofs.Common.{◌≡◌, ℕ, ◌<◌, ◌≤◌, false, List, [], ◌∷◌, ◌++◌, length, get_or, arith, ap, sym, subst, ◌∙◌, inl, inr}
 use Rattle.std.specs.Prelude.{Any}
 use Rattle.std.proofs.Math.ListN.{set}
 use Rattle.std.proofs.lemmas.Bool.{cases_eq}
@@ -10,13 +10,15 @@ use Rattle.path_model.specs.declared.journal.Activation.{Activation}
 use Rattle.path_model.specs.Declarations.{resource_of, law_of}
 use Rattle.path_model.specs.Contents.{contents_after}
 use Rattle.path_model.specs.Asked.{IsAsked}
-use Rattle.path_model.proofs.CallerLemmas.{unasked_devices_may_be_replaced}
+use Rattle.path_model.specs.Segments.{joined, room_behind, AreHonest}
+use Rattle.path_model.proofs.CallerLemmas.{unasked_devices_may_be_replaced, segments_over}
 use Rattle.path_shelf.specs.States.{State, state_at}
 use Rattle.path_shelf.proofs.CallerLemmas.{laws_replaced, others_replaced}
 use Rattle.path_system.specs.declared.fault.ReplaceFault.{ReplaceFault}
 use Rattle.path_system.specs.declared.fault.ReplaceFault.TheVariants.{Busy, Used, OtherLaw}
 use Rattle.path_system.specs.Faults.{IsBusy, IsUntouched, IsReplaceFault, MayReplace}
 use Rattle.path_system.specs.Inner.Openings.{Row, row_at, places_of, numbers_of}
+use Rattle.path_system.specs.Inner.Pasts.{Lines}
 use Rattle.path_system.specs.Inner.Parts.{PartsValue, AreTrueTo, IsTold, IsLiveAt, IsFreeAt, IsPartsFault, MayReplacePart, with_state}
 use Rattle.path_system.proofs.Answered.{states_count, law_is}
 use Rattle.path_system.proofs.Rows.{places_written}
@@ -57,7 +59,6 @@ module _ (old : PartsValue) (room : ℕ) (openings : List (List ℕ)) (journal :
         admitted = s.admitted;
         live = s.live;
         begun = s.begun;
-        places = s.places;
         declared = s.declared;
         laws = laws_replaced old.states r state may.1 ∙ s.laws;
         contents = λ q inside. elim (cases_eq q r) [
@@ -70,24 +71,32 @@ module _ (old : PartsValue) (room : ℕ) (openings : List (List ℕ)) (journal :
       }
 
 -- and the row has its numbers
-pub told_replaced : (old : PartsValue) (room : ℕ) (rows : List Row) (journal : List Line) (places : ℕ) → IsTold old room rows journal places
+pub told_replaced : (old : PartsValue) (room : ℕ) (rows : List Row) (past : Lines) (count : ℕ) → IsTold old room rows past count
     → (r : ℕ) (state : State) → r < length old.declaration.resources → MayReplacePart old r state.law
-    → IsTold (with_state old r state) room (set rows r (record { numbers = state.contents; places = (row_at rows r).places })) journal places
-told_replaced old room rows journal places t r state within may =
+    → IsTold (with_state old r state) room (set rows r (record { numbers = state.contents; places = (row_at rows r).places })) past count
+told_replaced old room rows past count t r state within may =
     let row : Row = record { numbers = state.contents; places = (row_at rows r).places } in
-    let count = length-map rows (λ (x : Row). x.numbers) in
+    let k = length-map rows (λ (x : Row). x.numbers) in
     let all = t.roomy.count in
+    let opened : r < length (numbers_of rows) = omega (arith, within, k, all) in
+    let numbers : numbers_of (set rows r row) ≡ set (numbers_of rows) r state.contents = map-set (λ (x : Row). x.numbers) rows r row in
     record {
-      told = subst (λ xs. AreTrueTo (with_state old r state) room xs journal) (sym (map-set (λ (x : Row). x.numbers) rows r row))
-          (true_replaced old room (numbers_of rows) journal t.told r within state (omega (arith, within, count, all)) may);
+      told = subst (λ xs. AreTrueTo (with_state old r state) (room_behind (joined past.earlier) room) xs (joined past.earlier ++ past.present)) (sym numbers)
+          (true_replaced old (room_behind (joined past.earlier) room) (numbers_of rows) (joined past.earlier ++ past.present) t.told r within state opened may);
+      segments = subst (λ xs. AreHonest old.declaration room xs (past.earlier ++ past.present ∷ [])) (sym numbers)
+          (segments_over old.declaration room (numbers_of rows) (set (numbers_of rows) r state.contents) past.earlier past.present r
+          (λ q other. get_or-set_other (numbers_of rows) r q state.contents _ other) t.segments
+          (unasked_is old (room_behind (joined past.earlier) room) (numbers_of rows) (joined past.earlier ++ past.present) t.told r within may.0.1));
+      good_room = t.good_room;
+      counted = t.counted;
+      places = t.places;
       roomy = same_for (set rows r row) rows old.declaration (places_written rows r state.contents) t.roomy;
-      reserved = t.reserved;
     }
 
-module _ (old : PartsValue) (room : ℕ) (rows : List Row) (journal : List Line) (places : ℕ) (t : IsTold old room rows journal places)
+module _ (old : PartsValue) (room : ℕ) (rows : List Row) (past : Lines) (count : ℕ) (t : IsTold old room rows past count)
     (r : ℕ) (state : State) (within : r < length old.declaration.resources) (states : List State) (replaced : states ≡ set old.states r state) where
   here : r < length old.states
-  here = let count = states_count old room (numbers_of rows) journal t.told in omega (arith, count, within)
+  here = let count = states_count old (room_behind (joined past.earlier) room) (numbers_of rows) (joined past.earlier ++ past.present) t.told in omega (arith, count, within)
 
   -- the device stands there, and finds its places
   pub replaced_in : r < length states
@@ -98,5 +107,6 @@ module _ (old : PartsValue) (room : ℕ) (rows : List Row) (journal : List Line)
 
   pub replaced_places : MayReplacePart old r state.law → places_of (state_at states r).law ≤ (row_at rows r).places
   replaced_places may =
-      let law : (state_at states r).law ≡ law_of old.declaration r = ap (λ (x : State). x.law) replaced_state ∙ may.1 ∙ law_is old room (numbers_of rows) journal t.told r within in
+      let law : (state_at states r).law ≡ law_of old.declaration r =
+      ap (λ (x : State). x.law) replaced_state ∙ may.1 ∙ law_is old (room_behind (joined past.earlier) room) (numbers_of rows) (joined past.earlier ++ past.present) t.told r within in
       rw law (t.roomy.places r within)

@@ -10,10 +10,9 @@ use Rattle.path_model.specs.declared.journal.Reply.{Reply}
 use Rattle.path_model.specs.declared.journal.Reply.TheVariants.{Started, Blocked, UnknownOperation, NoRoom}
 use Rattle.path_model.specs.declared.journal.Activation.{Activation}
 use Rattle.path_model.specs.Journals.{activation_of}
-use Rattle.path_gate.specs.Places.{has_room}
 use Rattle.path_shelf.specs.declared.device.ActFault.{ActFault}
 use Rattle.path_shelf.specs.declared.device.ActFault.TheVariants as faults
-use Rattle.path_system.specs.Inner.Parts.{PartsValue, as_reply, MovesStart, MovesUse, MovesFinish, Moves, Answers}
+use Rattle.path_system.specs.Inner.Parts.{PartsValue, as_reply, MovesStart, MovesUse, MovesFinish, Moves, Answers, can_take}
 
 some_answered : (answer : Result ℕ ActFault) → as_reply answer ≢ NoRoom
 some_answered (Ok x) e = cc
@@ -52,6 +51,6 @@ some_moved old new w (Finish n) reply m = some_finish old new w n (activation_of
 pub stays : (old new : PartsValue) (room lines w : ℕ) (attempt : Attempt) (reply : Reply) → Answers old room lines w attempt reply new → reply ≡ NoRoom → new ≡ old
 stays old new room lines w attempt reply answers none = go _ refl
   where
-    go : (has : Bool) → has_room room lines old.book.live w attempt ≡ has → new ≡ old
+    go : (can : Bool) → can_take old room lines w attempt ≡ can → new ≡ old
     go true is = absurd (some_moved old new w attempt reply (answers.inside is) none)
     go false is = (answers.outside is).1

@@ -1,7 +1,7 @@
 -- One step of a system, as its journal sees it.
 use Rattle.std.proofs.Common.{◌≡◌, ◌≢◌, ℕ, ◌+◌, ◌<◌, ◌≤◌, Bool, true, false, List, [], ◌∷◌, ◌++◌, All, length, get_or, arith, refl, ap, sym, subst, ◌∙◌, Option, Some, None, inl, inr}
 use Rattle.std.proofs.lemmas.Bool.{cases_eq}
-use Rattle.std.proofs.lemmas.List.{length-append, length-replicate, get_or-replicate, get_or-map, length-map}
+use Rattle.std.proofs.lemmas.List.{length-replicate, get_or-replicate, get_or-map, length-map}
 use Rattle.path_model.specs.declared.ids.OpId.{OpId}
 use Rattle.path_model.specs.declared.ids.ActId.{ActId}
 use Rattle.path_model.specs.declared.journal.Verb.{Verb}
@@ -13,59 +13,58 @@ use Rattle.path_model.specs.declared.journal.Line.{Line}
 use Rattle.path_model.specs.declared.journal.Activation.{Activation}
 use Rattle.path_model.specs.Declarations.{Declaration, Resource}
 use Rattle.path_model.specs.Journals.{activation_of}
-use Rattle.path_model.proofs.CallerLemmas.{line_of, each_honest_journal_has_room, begun_lines}
-use Rattle.path_gate.specs.Places.{has_room}
+use Rattle.path_model.proofs.CallerLemmas.{line_of, each_honest_journal_has_room}
 use Rattle.path_shelf.specs.States.{State}
 use Rattle.path_system.specs.Accounts.{contents_of}
 use Rattle.path_ledger.specs.Ledgers.{Book}
-use Rattle.path_system.specs.Inner.Parts.{PartsValue, AreOpened, MovesStart, MovesUse, MovesFinish, Moves, Answers, AreTrueTo}
+use Rattle.path_system.specs.Inner.Parts.{PartsValue, AreOpened, MovesStart, MovesUse, MovesFinish, Moves, Answers, AreTrueTo, can_take}
 use Rattle.path_system.proofs.Answered.{taken_is}
 use Rattle.path_system.proofs.Written.{true_line}
 use Rattle.path_system.proofs.Roomy.{stays}
 
--- no attempt changes the declaration
-kept_by_start : (old new : PartsValue) (w : ℕ) (a : OpId) (reply : Reply) → MovesStart old w a reply new → new.declaration ≡ old.declaration
-kept_by_start old new w a (Started n) m = m.declaration
-kept_by_start old new w a (Blocked p) m = ap (λ (p : PartsValue). p.declaration) m.1
-kept_by_start old new w a UnknownOperation m = ap (λ (p : PartsValue). p.declaration) m.1
+-- no attempt changes the declaration, or the room of the ledger
+abbrev pub Keeps : PartsValue → PartsValue → Type 0
+Keeps old new = (new.declaration ≡ old.declaration) × (new.book.room ≡ old.book.room)
+
+same_keeps : (old new : PartsValue) → new ≡ old → Keeps old new
+same_keeps old new same = (ap (λ (p : PartsValue). p.declaration) same, ap (λ (p : PartsValue). p.book.room) same)
+
+kept_by_start : (old new : PartsValue) (w : ℕ) (a : OpId) (reply : Reply) → MovesStart old w a reply new → Keeps old new
+kept_by_start old new w a (Started n) m = (m.declaration, ap (λ (b : Book). b.room) m.book)
+kept_by_start old new w a (Blocked p) m = same_keeps old new m.1
+kept_by_start old new w a UnknownOperation m = same_keeps old new m.1
 kept_by_start old new w a reply m = absurd m
 
-kept_by_use : (old new : PartsValue) (w : ℕ) (verb : Verb) (o : Option Activation) (reply : Reply) → MovesUse old w verb o reply new → new.declaration ≡ old.declaration
-kept_by_use old new w verb None reply m = ap (λ (p : PartsValue). p.declaration) m.1
+kept_by_use : (old new : PartsValue) (w : ℕ) (verb : Verb) (o : Option Activation) (reply : Reply) → MovesUse old w verb o reply new → Keeps old new
+kept_by_use old new w verb None reply m = same_keeps old new m.1
 kept_by_use old new w verb (Some a) reply m = elim (cases_eq a.worker w) [
-  | inl own ↦ ap (λ (p : PartsValue). p.declaration) (m.1 own).others
-  | inr other ↦ ap (λ (p : PartsValue). p.declaration) (m.0 other).1
+  | inl own ↦ (ap (λ (p : PartsValue). p.declaration) (m.1 own).others, ap (λ (p : PartsValue). p.book.room) (m.1 own).others)
+  | inr other ↦ same_keeps old new (m.0 other).1
 ]
 
-kept_by_finish : (old new : PartsValue) (w : ℕ) (n : ActId) (o : Option Activation) (reply : Reply) → MovesFinish old w n o reply new → new.declaration ≡ old.declaration
-kept_by_finish old new w n None reply m = ap (λ (p : PartsValue). p.declaration) m.1
+kept_by_finish : (old new : PartsValue) (w : ℕ) (n : ActId) (o : Option Activation) (reply : Reply) → MovesFinish old w n o reply new → Keeps old new
+kept_by_finish old new w n None reply m = same_keeps old new m.1
 kept_by_finish old new w n (Some a) reply m = elim (cases_eq a.worker w) [
-  | inl own ↦ (m.1 own).declaration
-  | inr other ↦ ap (λ (p : PartsValue). p.declaration) (m.0 other).1
+  | inl own ↦ ((m.1 own).declaration, ap (λ (b : Book). b.room) (m.1 own).book)
+  | inr other ↦ same_keeps old new (m.0 other).1
 ]
 
-kept_by_move : (old new : PartsValue) (w : ℕ) (attempt : Attempt) (reply : Reply) → Moves old w attempt reply new → new.declaration ≡ old.declaration
+kept_by_move : (old new : PartsValue) (w : ℕ) (attempt : Attempt) (reply : Reply) → Moves old w attempt reply new → Keeps old new
 kept_by_move old new w (Start a) reply m = kept_by_start old new w a reply m
 kept_by_move old new w (Apply n verb) reply m = kept_by_use old new w verb (activation_of n old.book.live) reply m
 kept_by_move old new w (Finish n) reply m = kept_by_finish old new w n (activation_of n old.book.live) reply m
 
-pub declaration_kept : (old new : PartsValue) (room lines w : ℕ) (attempt : Attempt) (reply : Reply) → Answers old room lines w attempt reply new → new.declaration ≡ old.declaration
-declaration_kept old new room lines w attempt reply answers = go _ refl
+pub answers_keep : (old new : PartsValue) (room lines w : ℕ) (attempt : Attempt) (reply : Reply) → Answers old room lines w attempt reply new → Keeps old new
+answers_keep old new room lines w attempt reply answers = go _ refl
   where
-    go : (has : Bool) → has_room room lines old.book.live w attempt ≡ has → new.declaration ≡ old.declaration
+    go : (can : Bool) → can_take old room lines w attempt ≡ can → Keeps old new
     go true is = kept_by_move old new w attempt reply (answers.inside is)
-    go false is = ap (λ (p : PartsValue). p.declaration) ((answers.outside is).1)
+    go false is = same_keeps old new ((answers.outside is).1)
 
 module _ (old : PartsValue) (room : ℕ) (openings : List (List ℕ)) (journal : List Line) (s : AreTrueTo old room openings journal) where
   -- the lines and the finishes to come have room
   pub fits : length journal + length old.book.live ≤ room
   fits = let k = each_honest_journal_has_room old.declaration room openings journal s.honest in let l = taken_is old room openings journal s in omega (arith, k, l)
-
-  pub begun_few : old.book.begun ≤ length journal
-  begun_few = let k = begun_lines journal in let l = s.begun in omega (arith, k, l)
-
-  pub admitted_few : old.standing.admitted ≤ length journal
-  admitted_few = let k = begun_lines journal in let l = s.admitted in omega (arith, k, l)
 
   module _ (new : PartsValue) (w : ℕ) (attempt : Attempt) (reply : Reply) (answers : Answers old room (length journal) w attempt reply new) where
     -- one line more
@@ -75,14 +74,6 @@ module _ (old : PartsValue) (room : ℕ) (openings : List (List ℕ)) (journal :
     -- no line
     pub true_still : reply ≡ NoRoom → AreTrueTo new room openings journal
     true_still none = subst (λ p. AreTrueTo p room openings journal) (sym (stays old new room (length journal) w attempt reply answers none)) s
-
-    -- there is a place for the line
-    pub place_left : reply ≢ NoRoom → length journal < room
-    place_left some =
-        let t = true_more some in
-        let k = each_honest_journal_has_room new.declaration room openings (journal ++ line_of w attempt reply ∷ []) t.honest in
-        let l = length-append journal (line_of w attempt reply ∷ []) in
-        omega (arith, k, l)
 
 -- the parts before any attempt agree with the empty journal
 pub true_opened : (parts : PartsValue) (d : Declaration) (room : ℕ) (states : List State) → AreOpened parts d room states → AreTrueTo parts room (contents_of states) []
@@ -96,7 +87,6 @@ true_opened parts d room states o =
       admitted = o.fresh.admitted;
       live = ap (λ (b : Book). b.live) o.fresh.idle;
       begun = ap (λ (b : Book). b.begun) o.fresh.idle;
-      places = ap (λ (b : Book). b.room) o.fresh.idle;
       declared = subst (λ (b : Book). All (λ a. a.op.0 < length d.operations) b.live) (sym o.fresh.idle) (λ k a h. absurd (omega arith));
       laws = o.laws;
       contents = λ r within. sym (get_or-map (λ (x : State). x.contents) states r _ [] (count r within));

@@ -12,6 +12,7 @@ use Rattle.path_ledger.specs.contracts.ledger.Ledger as Ledger
 use Rattle.path_shelf.specs.declared.device.Device as devices
 use Rattle.path_shelf.specs.contracts.shelf.Shelf as Shelf
 use Rattle.path_system.specs.contracts.system.System as System
+use Rattle.path_system.specs.contracts.controller.Controller as Controller
 use Rattle.path_system.specs.contracts.parts.Parts as Parts
 use Rattle.path_system.specs.contracts.openings.Openings as Openings
 
@@ -35,10 +36,18 @@ module _ (D A : RattleType) (d : devices.Ghosts D.Denot) (a : memory.Ghosts A.De
       let s = shelf_send sd sa fa in
       search (sendable, crosses) depth 20
 
-  system_whole : IsSend D → IsSend A → Frees a a.dealloc_token → IsSend (System.the_field D A d a).row
-  system_whole sd sa fa =
+  controller_whole : IsSend D → IsSend A → Frees a a.dealloc_token → IsSend (Controller.the_field D A d a).row
+  controller_whole sd sa fa =
       let o = openings_send sa fa in
       let p = parts_send sd sa fa in
+      search (sendable, crosses) depth 20
+
+  pub controller_send : IsSend D → IsSend A → Frees a a.dealloc_token → IsSend (Controller.the_row D A d a)
+  controller_send sd sa fa = let c = controller_whole sd sa fa in search sendable
+
+  system_whole : IsSend D → IsSend A → Frees a a.dealloc_token → IsSend (System.the_field D A d a).row
+  system_whole sd sa fa =
+      let c = controller_send sd sa fa in
       let l : IsSend Line.the_row = search sendable depth 20 in
       search (sendable, crosses) depth 20
 

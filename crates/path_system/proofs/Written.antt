@@ -23,13 +23,12 @@ use Rattle.path_model.specs.Asked.{is_device_reply, resource_asked, IsAsked}
 use Rattle.path_model.proofs.CallerLemmas.{begun_more, begun_quiet, live_quiet, history_quiet, contents_more, quiet_use, quiet_reply, line_of, honest_more, live_started, live_finished, live_found, history_started, history_finished, asked_by_own, asked_more}
 use Rattle.path_gate.specs.Standings.{IsAt}
 use Rattle.path_ledger.specs.Ledgers.{Book}
-use Rattle.path_gate.specs.Places.{has_room}
 use Rattle.path_shelf.specs.declared.device.ActFault.{ActFault}
 use Rattle.path_shelf.specs.declared.device.ActFault.TheVariants as faults
 use Rattle.path_shelf.specs.States.{State, Acts, ActsAt, state_at}
 use Rattle.path_shelf.proofs.CallerLemmas.{laws_acted, others_acted}
-use Rattle.path_system.specs.Inner.Parts.{PartsValue, as_reply, IsStarted, IsUse, IsOver, MovesStart, MovesUse, MovesFinish, Moves, Answers, AreTrueTo}
-use Rattle.path_system.proofs.Answered.{owed_is, found_live, law_is, resource_in}
+use Rattle.path_system.specs.Inner.Parts.{PartsValue, as_reply, IsStarted, IsUse, IsOver, MovesStart, MovesUse, MovesFinish, Moves, Answers, AreTrueTo, can_take}
+use Rattle.path_system.proofs.Answered.{owed_taken, found_live, law_is, resource_in}
 
 -- what a device answered is a device's reply, and no fault changes contents
 pub answer_is_device : (answer : Result ℕ ActFault) → is_device_reply (as_reply answer) ≡ true
@@ -73,7 +72,6 @@ module _ (old : PartsValue) (room : ℕ) (openings : List (List ℕ)) (journal :
     admitted = s.admitted ∙ sym (begun_quiet journal (line_of w attempt reply) quiet);
     live = s.live ∙ sym (live_quiet journal (line_of w attempt reply) quiet);
     begun = s.begun ∙ sym (begun_quiet journal (line_of w attempt reply) quiet);
-    places = s.places;
     declared = s.declared;
     laws = s.laws;
     contents = λ r within. s.contents r within ∙ sym (kept r) ∙ sym (contents_more old.declaration openings journal (line_of w attempt reply) r);
@@ -95,7 +93,6 @@ module _ (old : PartsValue) (room : ℕ) (openings : List (List ℕ)) (journal :
         admitted = (let k = m.standing.admitted in let l = s.admitted in omega (arith, k, l, begun));
         live = ap (λ b. b.live) m.book ∙ ap (λ xs. xs ++ record { act = n; worker = w; op = a } ∷ []) s.live ∙ sym (live_started old.declaration room openings journal s.honest w a n (m.number ∙ s.begun));
         begun = (let k = ap (λ (b : Book). b.begun) m.book in let l = s.begun in omega (arith, k, l, begun));
-        places = ap (λ b. b.room) m.book ∙ s.places;
         declared = subst (λ (b : Book). All (λ a. a.op.0 < length old.declaration.operations) b.live) (sym m.book)
             (All-append (λ (a : Activation). a.op.0 < length old.declaration.operations) old.book.live _ s.declared
             (All-cons (λ (a : Activation). a.op.0 < length old.declaration.operations) (record { act = n; worker = w; op = a }) [] m.declared (λ k d h. absurd (omega arith))));
@@ -120,7 +117,6 @@ module _ (old : PartsValue) (room : ℕ) (openings : List (List ℕ)) (journal :
         admitted = (let k = m.standing.admitted in let l = s.admitted in omega (arith, k, l, begun));
         live = ap (λ b. b.live) m.book ∙ ap (without n) s.live ∙ sym (live_finished journal w n);
         begun = (let k = ap (λ (b : Book). b.begun) m.book in let l = s.begun in omega (arith, k, l, begun));
-        places = ap (λ b. b.room) m.book ∙ s.places;
         declared = subst (λ (b : Book). All (λ a. a.op.0 < length old.declaration.operations) b.live) (sym m.book)
             (All-filter (λ (a : Activation). not (a.act.0 == n.0)) (λ (a : Activation). a.op.0 < length old.declaration.operations) old.book.live s.declared);
         laws = s.laws;
@@ -193,7 +189,6 @@ module _ (old : PartsValue) (room : ℕ) (openings : List (List ℕ)) (journal :
           admitted = s.admitted ∙ sym (begun_quiet journal line quiet);
           live = s.live ∙ sym (live_quiet journal line quiet);
           begun = s.begun ∙ sym (begun_quiet journal line quiet);
-          places = s.places;
           declared = s.declared;
           laws = laws_acted old.states states r verb answer acts ∙ s.laws;
           contents = λ q within. elim (cases_eq q r) [
@@ -265,7 +260,7 @@ module _ (old : PartsValue) (room : ℕ) (openings : List (List ℕ)) (journal :
       → AreTrueTo new room openings (journal ++ line_of w attempt reply ∷ [])
   true_line w attempt reply new answers some = go _ refl
     where
-      go : (has : Bool) → has_room room (length journal) old.book.live w attempt ≡ has → AreTrueTo new room openings (journal ++ line_of w attempt reply ∷ [])
+      go : (can : Bool) → can_take old room (length journal) w attempt ≡ can → AreTrueTo new room openings (journal ++ line_of w attempt reply ∷ [])
       go true is = true_moved w attempt reply new (answers.inside is)
-          (honest_more old.declaration room openings journal (line_of w attempt reply) s.honest (owed_is old room openings journal s w attempt reply new answers) some)
+          (honest_more old.declaration room openings journal (line_of w attempt reply) s.honest (owed_taken old room openings journal s w attempt reply new is answers) some)
       go false is = absurd (some ((answers.outside is).0))

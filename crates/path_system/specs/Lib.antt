@@ -1,4 +1,5 @@
 pub mod Accounts
+pub mod Calls
 pub mod Faults
 pub mod Reports
 pub mod Inner

@@ -3,6 +3,7 @@
 ghost use Rattle.std.specs.Prelude.{◌≡◌, ◌≢◌, ◌+◌, ◌<◌, ◌≤◌, [], ◌↔◌, IsTrue, length, map, replicate, false, IfOk, IfErr};
 ghost use Rattle.path_model.specs.declared.journal.Reply.TheVariants as replies;
 ghost use Rattle.path_model.specs.Declarations as declarations;
+ghost use Rattle.path_gate.specs.Standings.{Judges};
 ghost use Rattle.path_model.specs.Journals.{activation_of};
 ghost use Rattle.path_shelf.specs.States.{MayFail};
 ghost use Rattle.path_system.specs.Faults.{IsDevicesFault};
@@ -12,7 +13,7 @@ use crate::fault::OpenFault;
 use path_decl::{Decl, counts, resource_of};
 use path_gate::{Gate, compile};
 use path_ledger::{EndFault, Ledger};
-use path_model::{ActId, Attempt, OpId, OutOfMemory, Reply, ResId, Verb};
+use path_model::{ActId, Activation, Attempt, OpId, OutOfMemory, PathId, Reply, ResId, Verb};
 use path_shelf::{ActFault, Device, Shelf};
 use std::alloc::{Allocator, Global};
 use std::marker::Model;
@@ -139,6 +140,27 @@ impl<D: Device, A: Allocator + Copy> Parts<D, A> {
         self.ledger.live().is_empty()
     }
 
+    /// The live activations, in the order of their starts.
+    pub fn live(&self) -> &[Activation]
+        ensures { result.now ≡ self.now.book.live }
+    {
+        self.ledger.live()
+    }
+
+    /// The live activation of this number, if there is one.
+    pub fn find(&self, act: ActId) -> Option<Activation>
+        ensures { result ≡ activation_of act self.now.book.live }
+    {
+        self.ledger.find(act)
+    }
+
+    /// Whether a start of the operation would be admitted; the error is the first path that forbids it.
+    pub fn can_start(&self, op: OpId) -> Result<(), PathId>
+        ensures { Judges self.now.standing op result }
+    {
+        self.gate.would_admit(op)
+    }
+
     /// Starts an operation. The caller has checked that there is room.
     fn start(&mut self, worker: u32, op: OpId) -> Reply
         requires room { length self.old.book.live < self.old.book.room }
@@ -193,20 +215,19 @@ impl<D: Device, A: Allocator + Copy> Parts<D, A> {
 
     /// Replies to one attempt after `lines` lines, in a journal of this room. Allocates nothing. A use or a finish searches for its
     /// activation once.
-    pub fn answer(&mut self, room: u32, lines: usize, worker: u32, attempt: Attempt) -> Reply
+    pub fn answer(&mut self, room: u32, lines: u32, worker: u32, attempt: Attempt) -> Reply
         requires ready { AreReady self.old }
         requires few { lines + length self.old.book.live ≤ room }
         requires places { self.old.book.room ≡ room }
-        requires number { self.old.book.begun ≤ lines }
-        requires admitted { self.old.standing.admitted ≤ lines }
+        requires admitted { self.old.standing.admitted ≡ self.old.book.begun }
         ensures moves { Answers self.old room lines worker attempt result self.new }
         ensures failed { (result ≡ replies.DeviceFailed) → MayFail D.state }
     {
-        let taken = lines + self.ledger.live().len();
+        let taken = lines as usize + self.ledger.live().len();
         let room = room as usize;
         match attempt {
             Attempt::Start(op) => {
-                if taken + 2 <= room {
+                if taken + 2 <= room && self.ledger.begun() < u32::MAX {
                     self.start(worker, op)
                 } else {
                     Reply::NoRoom

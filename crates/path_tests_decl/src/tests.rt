@@ -1,7 +1,9 @@
 //! The tests of declarations.
 
 mod braces;
+mod constant;
 mod decl;
+mod equal;
 mod faults;
 mod hostile;
 mod laws;

@@ -3,9 +3,11 @@
 mod boxes;
 mod devices;
 mod gate;
+mod lasting;
 mod ledger;
 mod opening;
 mod replacing;
 mod report;
+mod segments;
 mod stepping;
 mod system;

@@ -1,6 +1,6 @@
 //! From bytes to bytes: attempts in, each with its reply out, and a report of the system at the end.
 
-ghost use Rattle.std.specs.Prelude.{◌≡◌, ◌≢◌, ◌≤◌, length, map, IfOk, IfErr, IfSome, IfNone, OnOk};
+ghost use Rattle.std.specs.Prelude.{◌≡◌, ◌≢◌, ◌≤◌, [], length, map, IfOk, IfErr, IfSome, IfNone, OnOk};
 ghost use Rattle.std.specs.Io.KnownBytes.{Keeps};
 ghost use Rattle.path_model.specs.Rooms.{IsBadRoom};
 ghost use Rattle.path_shelf.specs.States.{MayFail, laws_of};
@@ -19,7 +19,7 @@ use path_lines::{LIMIT, TextFault, fault_at, first_entry, push_told, read_attemp
 use path_model::{Attempt, OutOfMemory};
 use path_shelf::Device;
 use path_streams::{Fault, Status, put_text, tell};
-use path_system::{System, open_fault};
+use path_system::{Controller, open_fault};
 use std::alloc::Allocator;
 use std::io::Write;
 
@@ -39,12 +39,13 @@ fn longest_trace(attempts: &[u8]) -> usize {
 
 /// Steps the system, and appends the attempt's own line with its reply and a line feed. Fails only if allocation fails.
 fn answer<D: Device, A: Allocator + Copy>(
-    system: &mut System<D, A>,
+    system: &mut Controller<D, A>,
     worker: u32,
     attempt: Attempt,
     line: &[u8],
     trace: &mut Vec<u8, A>,
 ) -> Result<(), Fault<'static>>
+    requires { system.old.earlier ≡ [] }
     ensures ok { OnOk result (IsAnswered (MayFail D.state) system.old system.new worker attempt line.now trace.old.items trace.new.items) }
     ensures memory { IfErr result (λ fault. fault ≡ Fault.OutOfMemory) }
 {
@@ -58,13 +59,15 @@ fn answer<D: Device, A: Allocator + Copy>(
 /// copied.
 fn answers<D: Device, A: Allocator + Copy>(
     alloc: A,
-    system: &mut System<D, A>,
+    system: &mut Controller<D, A>,
     attempts: &[u8],
 ) -> Result<Vec<u8, A>, Fault<'static>>
-    requires { length attempts.now ≤ LIMIT }
+    requires short { length attempts.now ≤ LIMIT }
+    requires whole { system.old.earlier ≡ [] }
     ensures ok { IfOk result (λ bytes.
         IsTraceBy (MayFail D.state) system.old attempts.now system.new.journal bytes.items) }
     ensures declaration { OnOk result (system.new.declaration ≡ system.old.declaration) }
+    ensures whole { OnOk result (system.new.earlier ≡ []) }
     ensures err { IfErr result (λ fault. IsBadAttempts system.old.declaration attempts.now (status_of fault)) }
 {
     let mut trace = Vec::with_capacity(alloc, longest_trace(attempts))?;
@@ -86,10 +89,11 @@ fn answers<D: Device, A: Allocator + Copy>(
 /// Appends the report of the system if `report` is set. Fails only if allocation fails.
 fn push_report_if<D: Device, A: Allocator + Copy>(
     alloc: A,
-    system: &System<D, A>,
+    system: &Controller<D, A>,
     report: bool,
     trace: &mut Vec<u8, A>,
 ) -> Result<(), OutOfMemory>
+    requires { system.now.earlier ≡ [] }
     ensures { OnOk result (GrowsBehind system.now.declaration system.now.journal report trace.old.items trace.new.items) }
 {
     if report {
@@ -102,11 +106,12 @@ fn push_report_if<D: Device, A: Allocator + Copy>(
 /// The system's replies to the attempts of a text, and then its report if `report` is set.
 fn replies_and_report<D: Device, A: Allocator + Copy>(
     alloc: A,
-    system: &mut System<D, A>,
+    system: &mut Controller<D, A>,
     report: bool,
     attempts: &[u8],
 ) -> Result<Vec<u8, A>, Fault<'static>>
-    requires { length attempts.now ≤ LIMIT }
+    requires short { length attempts.now ≤ LIMIT }
+    requires whole { system.old.earlier ≡ [] }
     ensures ok { IfOk result (λ bytes. IsToldBy (MayFail D.state) system.old report attempts.now bytes.items) }
     ensures err { IfErr result (λ fault. IsBadAttempts system.old.declaration attempts.now (status_of fault)) }
 {
@@ -158,7 +163,7 @@ fn traced<D: Device, A: Allocator + Copy>(
         drop(decl);
         return Err(fault);
     }
-    match System::open(alloc, decl, devices, room) {
+    match Controller::open(alloc, decl, devices, room) {
         Ok(mut system) => {
             let trace = replies_and_report(alloc, &mut system, report, attempts);
             drop(system);

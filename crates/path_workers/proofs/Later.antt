@@ -33,6 +33,7 @@ later_then opened before after w a r so step =
       declaration = ap (λ (x : Account). x.declaration) step ∙ so.declaration;
       room = ap (λ (x : Account). x.room) step ∙ so.room;
       openings = ap (λ (x : Account). x.openings) step ∙ so.openings;
+      earlier = ap (λ (x : Account). x.earlier) step ∙ so.earlier;
       more = so.more ++ more.0;
       journal = ap (λ (x : Account). x.journal) step ∙ more.1 ∙ ap (λ (ls : List Line). ls ++ more.0) so.journal ∙ append_assoc opened.journal so.more more.0;
     }

@@ -16,6 +16,7 @@ use Rattle.path_model.specs.Declarations.{Declaration, resource_of, law_of}
 use Rattle.path_model.specs.Contents.{contents_after}
 use Rattle.path_model.specs.Devices.{Outcome, serves, refuses, first_taken, first_seen, outcome_of}
 use Rattle.path_model.specs.Owed.{Owed, OwedToUse, OwedToFinish}
+use Rattle.path_model.specs.Segments.{has_no_number, room_behind, OwedBehind, OwedUnless}
 use Rattle.path_workers.specs.declared.answer.Receipt.{Receipt}
 use Rattle.path_workers.specs.Attempts.{starts, finishes, has_finish, is_open, finishes_open, receipts_then, place_of}
 use Rattle.path_workers.specs.Inner.Holdings.{opens, open_count, open_then, places_for}
@@ -175,11 +176,19 @@ use_owed d room openings ls w n verb q (OwedToUse.refused a r fits own e) = subs
 use_owed d room openings ls w n verb q (OwedToUse.served a x rest fits own e) = refl
 use_owed d room openings ls w n verb q (OwedToUse.failed a x rest fits own e) = refl
 
+start_owed : (d : Declaration) (room : ℕ) (openings : List (List ℕ)) (ls : List Line) (w : ℕ) (a : Attempt) (q : Reply) → Owed d room openings ls w a q → places_for a ≡ 1 → opens q [] ≡ 0
+start_owed d room openings ls w (Start op) q owed one = absurd (omega arith)
+start_owed d room openings ls w (Apply n v) q owed one = use_owed d room openings ls w n v q owed
+start_owed d room openings ls w (Finish n) q owed one = finish_owed d room ls w n q owed
+
 -- so only an attempt that takes two places gets a start as its reply
-pub starts_alone : (d : Declaration) (room : ℕ) (openings : List (List ℕ)) (ls : List Line) (w : ℕ) (a : Attempt) (q : Reply) → Owed d room openings ls w a q → places_for a ≡ 1 → opens q [] ≡ 0
-starts_alone d room openings ls w (Start op) q owed one = absurd (omega arith)
-starts_alone d room openings ls w (Apply n v) q owed one = use_owed d room openings ls w n v q owed
-starts_alone d room openings ls w (Finish n) q owed one = finish_owed d room ls w n q owed
+pub starts_alone : (d : Declaration) (room : ℕ) (openings : List (List ℕ)) (earlier ls : List Line) (w : ℕ) (a : Attempt) (q : Reply) → OwedBehind d room openings earlier ls w a q
+    → places_for a ≡ 1 → opens q [] ≡ 0
+starts_alone d room openings earlier ls w a q owed one = go (has_no_number earlier ls a) owed
+  where
+    go : (b : Bool) → OwedUnless b (Owed d (room_behind earlier room) openings (earlier ++ ls) w a q) q → opens q [] ≡ 0
+    go true is = rw is refl
+    go false is = start_owed d (room_behind earlier room) openings (earlier ++ ls) w a q is one
 
 opens_at_most : (q : Reply) → opens q [] ≤ 1
 opens_at_most (Started k) = omega arith

@@ -8,5 +8,6 @@ pub record IsLater (old new : Account) : Type 0 where
   pub declaration : new.declaration ≡ old.declaration
   pub room : new.room ≡ old.room
   pub openings : new.openings ≡ old.openings
+  pub earlier : new.earlier ≡ old.earlier
   pub more : List Line
   pub journal : new.journal ≡ old.journal ++ more

@@ -2,7 +2,7 @@
 
 ghost use Rattle.std.specs.Prelude.{◌≡◌, ◌+◌, ◌<◌, ◌≤◌, ◌^◌, length, vec_len, vec_capacity, IfSome};
 ghost use Rattle.path_model.specs.Journals.{with_line};
-ghost use Rattle.path_model.specs.Owed.{Owed};
+ghost use Rattle.path_model.specs.Segments.{OwedBehind, joined};
 ghost use Rattle.path_workers.specs.Attempts.{lines_of, place_of, receipts_then};
 ghost use Rattle.path_workers.specs.Later.{IsLater};
 
@@ -70,7 +70,7 @@ impl<L: Opening, S: Steps> Hall<L, S> {
         system
     }
 
-    /// All lines, in the order of the steps.
+    /// All lines since the last rotation, in the order of the steps.
     pub(crate) fn journal(&self) -> &[Line]
         ensures { result.now ≡ self.now.journal }
     {
@@ -95,7 +95,8 @@ impl<L: Opening, S: Steps> Hall<L, S> {
 
     /// Makes one step. The stake gains a line exactly when the journal does.
     fn step(&mut self, stake: &mut Stake<L>, worker: u32, attempt: Attempt) -> Answer
-        ensures owed { Owed self.old.declaration self.old.room self.old.openings self.old.journal worker attempt result.reply }
+        ensures owed { OwedBehind self.old.declaration self.old.room self.old.openings (joined self.old.earlier) self.old.journal
+            worker attempt result.reply }
         ensures journal { self.new ≡ record self.old {
           journal = with_line self.old.journal worker attempt result.reply;
           failures = self.new.failures;
@@ -126,7 +127,8 @@ impl<L: Opening, S: Steps> Hall<L, S> {
         attempt: Attempt,
     ) -> Answer
         requires { vec_len receipts.old < vec_capacity receipts.old }
-        ensures owed { Owed self.old.declaration self.old.room self.old.openings self.old.journal worker attempt result.reply }
+        ensures owed { OwedBehind self.old.declaration self.old.room self.old.openings (joined self.old.earlier) self.old.journal
+            worker attempt result.reply }
         ensures journal { self.new ≡ record self.old {
           journal = with_line self.old.journal worker attempt result.reply;
           failures = self.new.failures;

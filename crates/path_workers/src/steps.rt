@@ -1,15 +1,11 @@
 //! What a desk needs of the system that its threads share.
 
-ghost use Rattle.std.specs.Prelude.{◌≡◌, ◌≤◌};
+ghost use Rattle.std.specs.Prelude.{◌≡◌};
 ghost use Rattle.path_model.specs.declared.journal.Reply.TheVariants as replies;
 ghost use Rattle.path_model.specs.Asked.{resource_asked};
-ghost use Rattle.path_model.specs.Declarations.{paths_of};
-ghost use Rattle.path_model.specs.Honest.{IsHonest};
 ghost use Rattle.path_model.specs.Journals.{with_line};
-ghost use Rattle.path_model.specs.Legal.{Every};
-ghost use Rattle.path_model.specs.Owed.{Owed, taken};
-ghost use Rattle.path_model.specs.Trees.{WellFormed};
-ghost use Rattle.path_system.specs.Accounts.{Account, HasFailed, StayBut};
+ghost use Rattle.path_model.specs.Segments.{OwedBehind, joined};
+ghost use Rattle.path_system.specs.Accounts.{Account, HasFailed, IsSystem, StayBut, all_lines};
 
 use path_model::{Attempt, Line, Reply};
 use path_shelf::Device;
@@ -22,29 +18,23 @@ use std::alloc::Allocator;
 pub trait Steps: Drop {
     ghost account: { Self → Account };
 
-    /// All lines, in the order of the steps.
+    /// All lines since the last rotation, in the order of the steps.
     fn journal(&self) -> &[Line]
         ensures value { result.now ≡ (account self.now).journal }
-        ensures honest { IsHonest (account self.now).declaration (account self.now).room (account self.now).openings
-            (account self.now).journal }
-        ensures room { taken (account self.now).journal ≤ (account self.now).room };
-
-    /// A law, which takes no time: the paths of the declaration are well formed.
-    fn has_well_formed_paths(&self)
-        ensures { Every WellFormed (paths_of (account self.now).declaration) };
+        ensures system { IsSystem (account self.now) };
 
     /// Makes one attempt of a worker, as [`System::step`] says.
     fn step(&mut self, worker: u32, attempt: Attempt) -> Reply
-        ensures owed { Owed (account self.old).declaration (account self.old).room (account self.old).openings
-            (account self.old).journal worker attempt result }
+        ensures owed { OwedBehind (account self.old).declaration (account self.old).room (account self.old).openings
+            (joined (account self.old).earlier) (account self.old).journal worker attempt result }
         ensures journal { account self.new ≡ record (account self.old) {
           journal = with_line (account self.old).journal worker attempt result;
           failures = (account self.new).failures;
         } }
-        ensures failures { StayBut (resource_asked (account self.old).declaration (account self.old).journal attempt result)
+        ensures failures { StayBut (resource_asked (account self.old).declaration (all_lines (account self.old)) attempt result)
             (account self.old).failures (account self.new).failures }
         ensures failed { (result ≡ replies.DeviceFailed)
-            → HasFailed (resource_asked (account self.old).declaration (account self.old).journal attempt result)
+            → HasFailed (resource_asked (account self.old).declaration (all_lines (account self.old)) attempt result)
             (account self.old).failures (account self.new).failures };
 }
 
@@ -53,10 +43,6 @@ impl<D: Device, A: Allocator + Copy> Steps for System<D, A> {
 
     fn journal(&self) -> &[Line] {
         System::journal(self)
-    }
-
-    fn has_well_formed_paths(&self) {
-        let _decl = System::decl(self);
     }
 
     fn step(&mut self, worker: u32, attempt: Attempt) -> Reply {

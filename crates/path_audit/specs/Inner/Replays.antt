@@ -1,5 +1,5 @@
 -- The replay of a journal: what one line does to it, and when it agrees with a journal.
-use Rattle.std.specs.Prelude.{◌≡◌, ◌≢◌, ◌<◌, ◌≤◌, ℕ, Bool, true, false, List, [], ◌∷◌, ◌++◌}
+use Rattle.std.specs.Prelude.{◌≡◌, ◌≢◌, ◌<◌, ◌≤◌, ◌&&◌, not, ℕ, Bool, true, false, List, [], ◌∷◌, ◌++◌}
 use Rattle.std.specs.Prelude.{All, length, slice_index_or, slice_index, slice_set, Option, Some, None}
 use Rattle.path_model.specs.declared.ids.OpId.{OpId}
 use Rattle.path_model.specs.declared.ids.ActId.{ActId}
@@ -21,7 +21,7 @@ use Rattle.path_model.specs.Journals.{live, begun_in, activation_of, admitted_hi
 use Rattle.path_model.specs.Contents.{contents_after}
 use Rattle.path_model.specs.Honest.{IsHonest}
 use Rattle.path_gate.specs.Standings.{Standing, IsNamed, IsAt, Admitted, Released}
-use Rattle.path_gate.specs.Places.{has_room}
+use Rattle.path_gate.specs.Places.{has_room, lacks_number}
 use Rattle.path_audit.specs.Inner.Registers.{Register, registered}
 use Rattle.path_audit.specs.Inner.Outcomes.{Acts}
 
@@ -93,11 +93,15 @@ Moves d old w (Start a) fails reply new = MovesStart d old w a reply new
 Moves d old w (Apply n verb) fails reply new = MovesUse d old w verb fails (activation_of n old.register.live) reply new
 Moves d old w (Finish n) fails reply new = MovesFinish old w n (activation_of n old.register.live) reply new
 
--- the replay moves if there is room, and stays as it was if not; the device fails if `fails` says so
+-- whether there is room for the attempt after this number of lines, and a number if it is a start
+abbrev pub can_take : ReplayValue → ℕ → ℕ → ℕ → Attempt → Bool
+can_take replay room lines w attempt = has_room room lines replay.register.live w attempt && not (lacks_number replay.register.begun attempt)
+
+-- the replay moves if it can take the attempt, and stays as it was if not; the device fails if `fails` says so
 pub record Answers (d : Declaration) (old : ReplayValue) (room lines w : ℕ) (attempt : Attempt) (fails : Bool) (reply : Reply)
     (new : ReplayValue) : Type 0 where
-  pub inside : has_room room lines old.register.live w attempt ≡ true → Moves d old w attempt fails reply new
-  pub outside : has_room room lines old.register.live w attempt ≡ false → (reply ≡ NoRoom) × (new ≡ old)
+  pub inside : can_take old room lines w attempt ≡ true → Moves d old w attempt fails reply new
+  pub outside : can_take old room lines w attempt ≡ false → (reply ≡ NoRoom) × (new ≡ old)
 
 -- whether the reply says that the device failed
 abbrev pub says_failed : Reply → Bool

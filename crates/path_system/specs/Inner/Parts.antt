@@ -1,5 +1,5 @@
 -- The parts of a system: what one attempt does to them, and when they agree with a journal.
-use Rattle.std.specs.Prelude.{◌≡◌, ◌≢◌, ◌+◌, ◌<◌, ◌≤◌, ℕ, Bool, true, false, List, [], ◌∷◌, ◌++◌}
+use Rattle.std.specs.Prelude.{◌≡◌, ◌≢◌, ◌+◌, ◌<◌, ◌≤◌, ◌&&◌, not, ℕ, Bool, true, false, List, [], ◌∷◌, ◌++◌}
 use Rattle.std.specs.Prelude.{◌↔◌, All, Any, length, slice_index, slice_index_or, slice_set, replicate, Option, Some, None, Result, Ok, Err}
 use Rattle.path_model.specs.declared.ids.OpId.{OpId}
 use Rattle.path_model.specs.declared.ids.ActId.{ActId}
@@ -20,9 +20,11 @@ use Rattle.path_model.specs.Declarations.{Declaration, paths_of, resource_of}
 use Rattle.path_model.specs.Journals.{live, begun_in, activation_of, admitted_history, without}
 use Rattle.path_model.specs.Contents.{contents_after}
 use Rattle.path_model.specs.Honest.{IsHonest}
+use Rattle.path_model.specs.Rooms.{IsRoom}
+use Rattle.path_model.specs.Segments.{joined, room_behind, AreHonest}
 use Rattle.path_decl.specs.Lawful.{Lawful}
 use Rattle.path_gate.specs.Standings.{Standing, IsNamed, IsAt, Admitted, Released}
-use Rattle.path_gate.specs.Places.{has_room}
+use Rattle.path_gate.specs.Places.{has_room, lacks_number}
 use Rattle.path_ledger.specs.Ledgers.{Book}
 use Rattle.path_model.specs.Asked.{IsAsked}
 use Rattle.path_shelf.specs.declared.device.ActFault.{ActFault}
@@ -32,6 +34,7 @@ use Rattle.path_shelf.specs.Shelves.{declared_laws}
 use Rattle.path_system.specs.declared.fault.ReplaceFault.{ReplaceFault}
 use Rattle.path_system.specs.declared.fault.ReplaceFault.TheVariants.{Busy, Used, OtherLaw}
 use Rattle.path_system.specs.Inner.Openings.{Row, AreFor, numbers_of}
+use Rattle.path_system.specs.Inner.Pasts.{Lines}
 
 -- the declaration, the gate, the ledger, the states of the devices, and for each device whether it was asked
 pub record PartsValue : Type 0 where
@@ -110,10 +113,14 @@ Moves old w (Start a) reply new = MovesStart old w a reply new
 Moves old w (Apply n verb) reply new = MovesUse old w verb (activation_of n old.book.live) reply new
 Moves old w (Finish n) reply new = MovesFinish old w n (activation_of n old.book.live) reply new
 
--- the parts move if there is room, and stay as they were if not
+-- whether there is room for the attempt after this number of lines, and a number if it is a start
+abbrev pub can_take : PartsValue → ℕ → ℕ → ℕ → Attempt → Bool
+can_take parts room lines w attempt = has_room room lines parts.book.live w attempt && not (lacks_number parts.book.begun attempt)
+
+-- the parts move if they can take the attempt, and stay as they were if not
 pub record Answers (old : PartsValue) (room lines w : ℕ) (attempt : Attempt) (reply : Reply) (new : PartsValue) : Type 0 where
-  pub inside : has_room room lines old.book.live w attempt ≡ true → Moves old w attempt reply new
-  pub outside : has_room room lines old.book.live w attempt ≡ false → (reply ≡ NoRoom) × (new ≡ old)
+  pub inside : can_take old room lines w attempt ≡ true → Moves old w attempt reply new
+  pub outside : can_take old room lines w attempt ≡ false → (reply ≡ NoRoom) × (new ≡ old)
 
 -- the parts fit one another: what is live was declared, and is in progress if a path names it
 pub record AreReady (parts : PartsValue) : Type 0 where
@@ -134,7 +141,6 @@ pub record AreTrueTo (parts : PartsValue) (room : ℕ) (openings : List (List �
   pub admitted : parts.standing.admitted ≡ begun_in journal
   pub live : parts.book.live ≡ live journal
   pub begun : parts.book.begun ≡ begun_in journal
-  pub places : parts.book.room ≡ room
   pub declared : All (λ a. a.op.0 < length parts.declaration.operations) parts.book.live
   pub laws : laws_of parts.states ≡ declared_laws parts.declaration
   pub contents :
@@ -145,12 +151,15 @@ pub record AreTrueTo (parts : PartsValue) (room : ℕ) (openings : List (List �
       (r : ℕ) → r < length parts.declaration.resources
       → (slice_index_or parts.asked r false ≡ true) ↔ IsAsked parts.declaration journal r
 
--- what always holds of a system: its parts agree with its journal, there is capacity for each line of the room, and for the
--- numbers of any device that may replace another
-pub record IsTold (parts : PartsValue) (room : ℕ) (rows : List Row) (journal : List Line) (places : ℕ) : Type 0 where
-  pub told : AreTrueTo parts room (numbers_of rows) journal
+-- what always holds of a controller: its parts agree with all lines, which are the segments of an honest journal; the present ones are
+-- counted; the ledger has the room; and there are places for the numbers of any device that may replace another
+pub record IsTold (parts : PartsValue) (room : ℕ) (rows : List Row) (past : Lines) (count : ℕ) : Type 0 where
+  pub told : AreTrueTo parts (room_behind (joined past.earlier) room) (numbers_of rows) (joined past.earlier ++ past.present)
+  pub segments : AreHonest parts.declaration room (numbers_of rows) (past.earlier ++ past.present ∷ [])
+  pub good_room : IsRoom room
+  pub counted : count ≡ length past.present
+  pub places : parts.book.room ≡ room
   pub roomy : AreFor rows parts.declaration
-  pub reserved : room ≤ places
 
 -- a gate, a ledger and marks before any attempt
 pub record AreFresh (standing : Standing) (book : Book) (asked : List Bool) (d : Declaration) (room : ℕ) : Type 0 where

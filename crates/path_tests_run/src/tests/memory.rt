@@ -4,9 +4,8 @@ use crate::tests::own::{ROOM, SLOT, end_so, system_of};
 use path_model::OutOfMemory;
 use path_run::{AlwaysOpen, End, Outcome, RunFault, run};
 use path_script::{Script, ScriptFault, read_script};
-use path_shelf::Cell;
+use path_shelf::{Cell, Device};
 use path_system::System;
-use path_workers::Steps;
 use std::alloc::{Allocator, Global};
 use std::process::Abort;
 use std::sync::Wait;
@@ -45,12 +44,17 @@ fn none_began(system: System<Cell>) -> Result<bool, OutOfMemory> {
 }
 
 /// Runs a script over this system, with memory from `alloc`.
-fn run_from<S: Steps + Send, A: Allocator + Copy + Send + Sync, R: Threads + Wait + Sync>(
+fn run_from<
+    D: Device + Send,
+    B: Allocator + Copy + Send + Sync,
+    A: Allocator + Copy + Send + Sync,
+    R: Threads + Wait + Sync,
+>(
     rt: &R,
     alloc: A,
-    system: S,
+    system: System<D, B>,
     script: &Script<A>,
-) -> Result<Outcome<S, A>, RunFault<S>> {
+) -> Result<Outcome<System<D, B>, A>, RunFault<System<D, B>>> {
     run(rt, alloc, system, script, &AlwaysOpen)
 }
 
@@ -66,7 +70,7 @@ fn ran_with<R: Threads + Wait + Abort + Sync>(
         Err(ScriptFault::OutOfMemory) => return Err(OutOfMemory),
         Err(_fault) => return Ok(false),
     };
-    match run_from::<System<Cell>, &Refusing<Global>, R>(rt, refusing, system, &script) {
+    match run_from::<Cell, Global, &Refusing<Global>, R>(rt, refusing, system, &script) {
         Ok(outcome) => both_done(outcome),
         Err(RunFault::OutOfMemory(system)) => none_began(system),
         Err(RunFault::Unsettled(_fault, _system)) => Ok(false),

@@ -7,7 +7,7 @@ use path_script::{Script, read_script};
 use path_shelf::{Cell, Device};
 use path_system::System;
 use path_workers::Steps;
-use std::alloc::Global;
+use std::alloc::{Allocator, Global};
 use std::process::Abort;
 use std::sync::Wait;
 use std::thread::Threads;
@@ -79,10 +79,7 @@ pub(crate) fn ran<D: Device + Send, R: Threads + Wait + Abort + Sync>(
     case: Case<'_>,
     device: D,
 ) -> Outcome<System<D>> {
-    let system = system_of(rt, alloc, case.declaration, device, case.room);
-    let script = script_of(rt, alloc, &system, case.script);
-    let answer = run::<System<D>, AlwaysOpen, Global, R>(rt, alloc, system, &script, &AlwaysOpen);
-    outcome_of(rt, answer)
+    ran_over(rt, alloc, case, device, &AlwaysOpen)
 }
 
 /// The outcome of a run over a cell, through a turnstile.
@@ -92,10 +89,39 @@ pub(crate) fn ran_through<T: Turnstile, R: Threads + Wait + Abort + Sync>(
     case: Case<'_>,
     turnstile: &T,
 ) -> Outcome<System<Cell>> {
-    let system = system_of(rt, alloc, case.declaration, Cell::new(0), case.room);
+    ran_over(rt, alloc, case, Cell::new(0), turnstile)
+}
+
+/// The outcome of a run over this device, through a turnstile.
+fn ran_over<D: Device + Send, T: Turnstile, R: Threads + Wait + Abort + Sync>(
+    rt: &R,
+    alloc: Global,
+    case: Case<'_>,
+    device: D,
+    turnstile: &T,
+) -> Outcome<System<D>> {
+    let system = system_of(rt, alloc, case.declaration, device, case.room);
     let script = script_of(rt, alloc, &system, case.script);
-    let answer = run::<System<Cell>, T, Global, R>(rt, alloc, system, &script, turnstile);
-    outcome_of(rt, answer)
+    outcome_of(
+        rt,
+        run_of::<D, Global, T, R>(rt, alloc, system, &script, turnstile),
+    )
+}
+
+/// Runs a script over this system, through a turnstile.
+fn run_of<
+    D: Device + Send,
+    A: Allocator + Copy + Send + Sync,
+    T: Turnstile,
+    R: Threads + Wait + Sync,
+>(
+    rt: &R,
+    alloc: Global,
+    system: System<D, A>,
+    script: &Script<Global>,
+    turnstile: &T,
+) -> Result<Outcome<System<D, A>>, RunFault<System<D, A>>> {
+    run(rt, alloc, system, script, turnstile)
 }
 
 /// How many lines aren't blocked starts.

@@ -7,7 +7,7 @@ use path_model::{Attempt, OpId, OutOfMemory, Reply, Verb};
 use path_shelf::{Cell, Device, Queue};
 use path_system::System;
 use path_workers::{Desk, Opening, Pass, Steps};
-use std::alloc::Global;
+use std::alloc::{Allocator, Global};
 use std::marker::Brand;
 use std::process::Abort;
 use std::sync::Wait;
@@ -109,6 +109,16 @@ fn settled<L: Opening + Send + Sync, S: Steps + Send, R: Threads + Wait + Abort 
     }
 }
 
+// The system, once all have worked at a new desk over it.
+fn worked<D: Device + Send, A: Allocator + Copy + Send + Sync, R: Threads + Wait + Abort + Sync>(
+    rt: &R,
+    alloc: Global,
+    system: System<D, A>,
+    plan: Plan<'_>,
+) -> Result<System<D, A>, OutOfMemory> {
+    settled::<Brand, System<D, A>, R>(rt, alloc, system, Blank::new(u64::MAX), plan)
+}
+
 // How many lines there are once all have worked over this device, and nothing is live.
 fn lines_of<D: Device + Send, R: Threads + Wait + Abort + Sync>(
     rt: &R,
@@ -118,7 +128,7 @@ fn lines_of<D: Device + Send, R: Threads + Wait + Abort + Sync>(
     plan: Plan<'_>,
 ) -> Result<usize, OutOfMemory> {
     let system = open_system(rt, alloc, text, ROOM, device);
-    let system = settled::<Brand, System<D>, R>(rt, alloc, system, Blank::new(u64::MAX), plan)?;
+    let system = worked::<D, Global, R>(rt, alloc, system, plan)?;
     match system.close() {
         Ok(journal) => Ok(journal.len()),
         Err(_) => panic!(rt; "something is live"),

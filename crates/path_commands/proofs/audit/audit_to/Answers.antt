@@ -1,6 +1,6 @@
 -- The text is refused, or its verdict is written.
 use Rattle.path_streams.specs.declared.status.Status.TheVariants.{Done, DeclarationRefused, CommandRefused, TextRefused, Unsound}
-use Rattle.path_audit.specs.declared.auditor.Verdict.TheVariants.{Sound, WrongLine}
+use Rattle.path_audit.specs.declared.journals.Verdict.TheVariants.{Sound, WrongLine}
 use Rattle.path_streams.specs.Statuses.{status_of}
 use Rattle.path_commands.specs.Audits.{IsUnaudited}
 use Rattle.path_streams.proofs.CallerLemmas.{keeps_same, told}

@@ -10,7 +10,7 @@ returns-in-Ok-run-clause-run g c =
     let o = c.in-Ok-run.outcome in
     let e = c.in-Ok-run.ensures in
     ran_so c.args.decl.declaration (map g.D.Device.state c.args.devices.items) c.args.room c.in-Ok.system o.system c.in-Ok.ensures.ok e.later c.args.script.now.processes o.passes.items o.ends.items
-    (search rules) (search rules) e.honest e.settled e.runs e.orderly e.blocked
+    (search rules) (search rules) e.system e.settled e.runs e.orderly e.blocked
 
 pub run-requires-send-S : goal.run-requires-send-S
 run-requires-send-S g c κs within = search (sendable, system_send) depth 20

@@ -7,9 +7,9 @@ use Rattle.path_model.specs.Declarations.{Declaration}
 use Rattle.path_journal.specs.JournalTexts.{journal_text}
 use Rattle.path_streams.specs.declared.status.Status.TheVariants.{Unsound}
 use Rattle.path_streams.specs.Writes.{AppendsSome, IsFrontOf}
-use Rattle.path_processes.specs.Ends.{NotAllDone}
+use Rattle.path_processes.specs.Ends.{AllDone, NotAllDone}
 use Rattle.path_processes.proofs.Endings.{ends_put}
-use Rattle.path_processes.proofs.TextLemmas.{unsound_so, whole_front}
+use Rattle.path_processes.proofs.TextLemmas.{done_so, unsound_so, whole_front}
 use Rattle.path_processes.proofs.run.tell_outcome.Given.{Over}
 use Rattle.path_processes.proofs.run.tell_outcome.Goals as goal
 
@@ -21,6 +21,10 @@ wrote g c =
     let text = c.as_bytes.ensures.value ∙ c.in-Ok.ensures ∙ ap (λ (ls : List Line). journal_text d (Some c.args.room) ls) c.journal.ensures.value
     ∙ ap (λ (x : Declaration). journal_text x (Some c.args.room) lines) c.decl-decl.ensures in
     subst (λ (bytes : List ℕ). Appends (g.O.Write.contents c.args.out.now) (g.O.Write.contents c.put_text.new.out) bytes) text (c.put_text.ensures.done c.in-Done.is)
+
+pub returns-in-Done-clause-done : goal.returns-in-Done-clause-done
+returns-in-Done-clause-done g c = λ e.
+    (subst AllDone c.deref-in-Done.ensures.value (done_so c.deref-in-Done.result.now c.tell_ends.result c.tell_ends.ensures.status e), wrote g c)
 
 pub returns-in-Done-clause-unsound : goal.returns-in-Done-clause-unsound
 returns-in-Done-clause-unsound g c = λ e.

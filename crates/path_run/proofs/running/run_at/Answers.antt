@@ -8,7 +8,7 @@ use Rattle.path_run.specs.declared.begun.Worked.{Worked}
 use Rattle.path_run.specs.declared.outcome.End.{End}
 use Rattle.path_run.specs.Runs.{EachRuns}
 use Rattle.path_run.specs.Unsettled.{IsUnsettled}
-use Rattle.path_run.proofs.Stalls.{stays_blocked}
+use Rattle.path_run.proofs.Stalls.{blocked_behind}
 use Rattle.path_run.proofs.Hands.{Out}
 use Rattle.path_run.proofs.running.run_at.Goals as goal
 
@@ -28,7 +28,7 @@ returns-in-Ok-outcome-clause-blocked g c =
     let o = c.in-Ok-outcome.outcome in
     let e = c.in-Ok-outcome.ensures in
     let a = g.S.Steps.account o.system in
-    stays_blocked a.declaration a.room a.openings e.well_formed a.journal e.honest c.args.processes.now _ o.passes.items o.ends.items (search rules) (search rules) e.settled e.orderly (returns-in-Ok-outcome-clause-runs g c)
+    blocked_behind a e.system c.args.processes.now _ o.passes.items o.ends.items (search rules) (search rules) e.settled e.orderly (returns-in-Ok-outcome-clause-runs g c)
 
 pub returns-in-Err-clause-unsettled : goal.returns-in-Err-clause-unsettled
 returns-in-Err-clause-unsettled g c = λ fault left is.

@@ -9,7 +9,7 @@ use Rattle.path_trim.proofs.equal.first_equal.Goals as goal
 pub loop-place-preserved : goal.loop-place-preserved
 loop-place-preserved g c =
     let s = shape c.args.tree.now in
-    let other : HasOther s c.index-paths-place.result = sym c.is_same.ensures ∙ c.if-is_same.false in
+    let other : HasOther s c.index-paths-place.result = sym c.is_same_tree.ensures.tested ∙ c.if-is_same_tree.false in
     All-more (HasOther s) c.args.paths.now c.loop-place.place c.index-paths-place.result c.loop-place-test.true c.loop-place.invariant (subst (HasOther s) c.index-paths-place.is other)
 
 pub returns : goal.returns

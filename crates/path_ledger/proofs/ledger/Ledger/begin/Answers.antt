@@ -5,7 +5,7 @@ use Rattle.path_ledger.proofs.ledger.Ledger.begin.Goals as goal
 
 pub invariant_of-self : goal.invariant_of-self
 invariant_of-self g c = record {
-  numbered = rw c.push_reserved.ensures.items (numbered_push 0 c.self.inside.live.items c.self.inside.begun _ c.from.ensures c.self.invariant.numbered);
+  numbered = rw c.push.ensures.items (numbered_push 0 c.self.inside.live.items c.self.inside.begun _ c.from.ensures c.self.invariant.numbered);
   within = search rules;
   reserved = search rules;
 }

@@ -1,0 +1,8 @@
+-- The desk is a new one, over this system.
+use Rattle.example_desk.proofs.served.Given as goal
+
+abbrev pub ghosts-served_by_two-L-Ledger : goal.ghosts-served_by_two-L-Ledger
+ghosts-served_by_two-L-Ledger g a = record { name = a.blank.name; parts = a.blank.parts }
+
+abbrev pub ghosts-served_by_two-L-Opening : goal.ghosts-served_by_two-L-Opening
+ghosts-served_by_two-L-Opening g a = record { opened = a.system }

@@ -1,0 +1,52 @@
+-- What the status and the output of an answer say.
+use Rattle.std.specs.Prelude.{◌≡◌, ℕ, Bool, List, []}
+use Rattle.path_streams.specs.declared.status.Status.{Status}
+use Rattle.path_streams.specs.declared.status.Status.TheVariants.{Done, DeclarationRefused, CommandRefused, StreamFailed, TextRefused, Unsound, NoMemory}
+use Rattle.path_streams.specs.Refusals.{IsNoDeclaration}
+use Rattle.path_streams.specs.Writes.{IsFrontOf}
+use Rattle.path_trace.specs.Traces.{IsTraceOfTexts, IsBadTextUnder, LacksRoomUnder}
+use Rattle.path_commands.specs.Prints.{IsPrintOf}
+use Rattle.path_commands.specs.Compiles.{IsCompiledOf}
+use Rattle.path_commands.specs.Audits.{IsBadJournal, LacksRoom, TellsSound, TellsVerdict, TellsWrong, Under}
+
+-- nothing was written, for this cause
+abbrev pub Refused : Type 0 → List ℕ → Type 0
+Refused cause out = cause × (out ≡ [])
+
+-- how a trace ends, and what it writes
+abbrev pub IsTraceAnswer : List ℕ → ℕ → Bool → List ℕ → Status → List ℕ → Type 0
+IsTraceAnswer declaration room report attempts Done out = IsTraceOfTexts declaration room report attempts out
+IsTraceAnswer declaration room report attempts DeclarationRefused out = Refused (IsNoDeclaration declaration) out
+IsTraceAnswer declaration room report attempts CommandRefused out = Refused (LacksRoomUnder declaration room attempts) out
+IsTraceAnswer declaration room report attempts StreamFailed out = ⊥
+IsTraceAnswer declaration room report attempts TextRefused out = Refused (IsBadTextUnder declaration attempts) out
+IsTraceAnswer declaration room report attempts Unsound out = ⊥
+IsTraceAnswer declaration room report attempts NoMemory out = IsFrontOf (IsTraceOfTexts declaration room report attempts) out
+
+-- how a command ends that writes bytes of which P holds if the text is a declaration
+abbrev pub IsWrittenOf : List ℕ → (List ℕ → Type 0) → Status → List ℕ → Type 0
+IsWrittenOf declaration P Done out = P out
+IsWrittenOf declaration P DeclarationRefused out = Refused (IsNoDeclaration declaration) out
+IsWrittenOf declaration P CommandRefused out = ⊥
+IsWrittenOf declaration P StreamFailed out = ⊥
+IsWrittenOf declaration P TextRefused out = ⊥
+IsWrittenOf declaration P Unsound out = ⊥
+IsWrittenOf declaration P NoMemory out = IsFrontOf P out
+
+-- how a check ends, and what it writes: the print
+abbrev pub IsCheckAnswer : List ℕ → Status → List ℕ → Type 0
+IsCheckAnswer declaration = IsWrittenOf declaration (IsPrintOf declaration)
+
+-- how compiling ends, and what it writes: the listings
+abbrev pub IsCompileAnswer : List ℕ → Status → List ℕ → Type 0
+IsCompileAnswer declaration = IsWrittenOf declaration (IsCompiledOf declaration)
+
+-- how an audit ends, and what it writes
+abbrev pub IsAuditAnswer : List ℕ → ℕ → List ℕ → Status → List ℕ → Type 0
+IsAuditAnswer declaration room journal Done out = Under declaration (λ d. TellsSound d room journal out)
+IsAuditAnswer declaration room journal DeclarationRefused out = Refused (IsNoDeclaration declaration) out
+IsAuditAnswer declaration room journal CommandRefused out = Refused (Under declaration (λ d. LacksRoom d room journal)) out
+IsAuditAnswer declaration room journal StreamFailed out = ⊥
+IsAuditAnswer declaration room journal TextRefused out = Refused (Under declaration (λ d. IsBadJournal d journal)) out
+IsAuditAnswer declaration room journal Unsound out = Under declaration (λ d. TellsWrong d room journal out)
+IsAuditAnswer declaration room journal NoMemory out = IsFrontOf (λ all. Under declaration (λ d. TellsVerdict d room journal all)) out

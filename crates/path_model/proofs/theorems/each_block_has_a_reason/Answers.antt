@@ -1,0 +1,5 @@
+use Rattle.path_model.proofs.theorems.each_block_has_a_reason.Goals as goal
+use Rattle.path_model.proofs.JournalGuarantees.{each_block_has_a_reason}
+
+pub returns : goal.returns
+returns c = each_block_has_a_reason

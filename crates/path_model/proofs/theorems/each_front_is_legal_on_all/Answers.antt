@@ -1,0 +1,5 @@
+use Rattle.path_model.proofs.theorems.each_front_is_legal_on_all.Goals as goal
+use Rattle.path_model.proofs.Guarantees.{each_front_is_legal_on_all}
+
+pub returns : goal.returns
+returns c = each_front_is_legal_on_all

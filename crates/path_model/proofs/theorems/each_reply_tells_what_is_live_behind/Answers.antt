@@ -1,0 +1,5 @@
+use Rattle.path_model.proofs.theorems.each_reply_tells_what_is_live_behind.Goals as goal
+use Rattle.path_model.proofs.JournalGuarantees.{each_reply_tells_what_is_live_behind}
+
+pub returns : goal.returns
+returns c = each_reply_tells_what_is_live_behind

@@ -1,0 +1,5 @@
+use Rattle.path_model.proofs.theorems.unopposed_starts_are_admitted.Goals as goal
+use Rattle.path_model.proofs.JournalGuarantees.{unopposed_starts_are_admitted}
+
+pub returns : goal.returns
+returns c = unopposed_starts_are_admitted

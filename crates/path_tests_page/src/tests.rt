@@ -1,0 +1,4 @@
+//! The tests of answers.
+
+mod answers;
+mod buffers;

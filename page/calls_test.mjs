@@ -1,0 +1,103 @@
+// Tests the module of the page under Node, without a browser: node calls_test.mjs PAGE EXAMPLES
+//  - the module has no imports, and exports what the page calls;
+//  - each example through the page's own code answers what its files say, byte for byte;
+//  - faults, buffers that are too short, and memory that is too small, down to none.
+import { existsSync, readdirSync, readFileSync } from "node:fs";
+
+const [file, examples] = process.argv.slice(2);
+const page = readFileSync(file, "utf8");
+const element = id => new RegExp(`<script id="${id}"[^>]*>([^]*?)</script>`).exec(page)[1];
+const names = "{ callsOf, callOnce, answersTo, verdictOn, declaredIn, reportIn, pathPlaces, lanesOf, pictureFile, linesOf }";
+const code = ["calls-code", "texts-code", "lanes-code"].map(element).join("\n");
+const its = new Function(`${code}\nreturn ${names};`)();
+const module = await WebAssembly.compile(Buffer.from(element("module"), "base64"));
+const calls = its.callsOf(module);
+
+let passed = 0;
+let failed = 0;
+
+function same(what, is, wanted) {
+  const [one, other] = [is, wanted].map(it => JSON.stringify(it));
+  if (one === other) {
+    passed++;
+  } else {
+    failed++;
+    console.log(`${what}: ${one?.slice(0, 300)}, and not ${other?.slice(0, 300)}`);
+  }
+}
+
+// ---- the interface
+
+same("imports", WebAssembly.Module.imports(module), []);
+const exported = WebAssembly.Module.exports(module).map(it => it.name).sort();
+same("exports", exported, ["__heap_base", "memory", "path_page_audit", "path_page_check", "path_page_compile", "path_page_trace"]);
+
+// ---- the examples
+
+for (const name of readdirSync(examples)) {
+  const read = part => existsSync(`${examples}/${name}/${part}`) ? readFileSync(`${examples}/${name}/${part}`, "utf8") : null;
+  const [declaration, attempts, trace, report] = ["declaration", "attempts", "trace", "report"].map(read);
+  if (declaration === null) continue;
+  const done = out => ({ status: 0, out, err: "" });
+  if (read("printed") !== null) same(`${name}: check`, calls.check(declaration), done(read("printed")));
+  if (read("listing") !== null) same(`${name}: compile`, calls.compile(declaration), done(read("listing")));
+  if (trace !== null) {
+    same(`${name}: trace`, calls.trace(declaration, attempts, false), done(trace));
+    same(`${name}: trace in the program's room`, calls.trace(declaration, attempts, false, 4096), done(trace));
+    same(`${name}: audit of its trace`, calls.audit(declaration, trace), done("sound\n"));
+    const answered = its.answersTo(calls, declaration, attempts);
+    same(`${name}: entries`, answered.entries.map(it => `${it.line}: ${it.reply}\n`).join(""), trace);
+    same(`${name}: lanes`, its.pictureFile(its.lanesOf(answered.entries)).startsWith("<svg "), true);
+    same(`${name}: paths`, its.pathPlaces(declaration).length, its.declaredIn(read("printed")).paths.length);
+  }
+  if (report !== null) same(`${name}: report`, calls.trace(declaration, attempts, true), done(trace + report));
+  if (read("verdict") !== null) {
+    const verdict = read("verdict");
+    same(`${name}: verdict`, calls.audit(declaration, read("journal"), 4096), { status: verdict === "sound\n" ? 0 : 5, out: verdict, err: "" });
+  }
+}
+
+// ---- faults, and where they are shown
+
+const SLOT = "resource slot cell operation deposit, remove path deposit ; remove end end";
+const PRINT = "resource slot cell operation deposit, remove path deposit; remove end end\n";
+const refused = (status, err) => ({ status, out: "", err: err + "\n" });
+same("a refused declaration", calls.check("resource r cell operation a path b end end"), refused(1, "declaration: undeclared at 33"));
+same("an empty text", calls.check(""), refused(1, "declaration: unexpected at 0"));
+same("a text past ASCII", calls.check("resource é"), refused(1, "declaration: bad byte at 9"));
+same("no room", calls.trace(SLOT, "", false, 0), refused(2, "open: bad room"));
+same("a bad line", calls.trace(SLOT, "1 start deposit\n1 strat", false), refused(4, "text: bad line 1"));
+same("a wrong line", calls.audit(SLOT, "1 start remove: started 0\n"), { status: 5, out: "wrong line 0\n", err: "" });
+const half = its.answersTo(calls, SLOT, "1 start deposit\n1 start insert\n");
+same("lines before a fault are answered", [half.entries.map(it => it.reply), half.fault],
+  [["started 0"], { says: "text: undeclared in line 1", line: 1, name: "insert" }]);
+same("a wrong line behind a head", its.verdictOn(calls, SLOT, "journal 2 room 9\n1 start remove: started 0\n").line, 1);
+
+// ---- buffers and memory
+
+const bytes = text => new TextEncoder().encode(text);
+const once = (work, out, err) => its.callOnce(module, "path_page_check", [bytes(SLOT)], out, err, work);
+same("a buffer that just fits", once(1 << 20, PRINT.length, 1).status, 0);
+const short = once(1 << 20, PRINT.length - 1, 1);
+same("a buffer that is too short", [short.status, short.outLength, short.errLength], [7, PRINT.length, 0]);
+const statuses = new Set();
+for (let work = 0; work < 65536; work += work < 2048 ? 16 : 512) {
+  const told = once(work, 256, 256);
+  statuses.add(told.status);
+  if (told.status === 6 && work >= 64) same(`a fault in ${work} bytes`, told.err, "out of memory\n");
+}
+same("statuses in memory from none to enough", [...statuses], [6, 0]);
+same("memory that is too small at first", calls.call("check", [SLOT], 256, 16).out, PRINT);
+
+// ---- 10,000 attempts
+
+const many = Array.from({ length: 10000 }, (_, i) => i % 2 ? `${i % 7} finish ${(i - 1) / 2}` : `${(i + 1) % 7} start ${i % 4 ? "remove" : "deposit"}`).join("\n") + "\n";
+const times = Array.from({ length: 21 }, () => {
+  const began = performance.now();
+  same("a long trace", calls.trace(SLOT, many, true).status, 0);
+  return performance.now() - began;
+}).sort((a, b) => a - b);
+console.log(`a trace of 10,000 attempts with its report: ${times[0].toFixed(1)} ms at least, ${times[10].toFixed(1)} by the median`);
+
+console.log(`${passed} passed, ${failed} failed`);
+process.exitCode = failed ? 1 : 0;

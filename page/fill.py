@@ -1,0 +1,98 @@
+#!/usr/bin/env python3
+"""Fills in the page.
+
+fill.py MODULE FILE   with a module that was linked just now, the style, the code and the examples
+fill.py --same FILE   with the module that page/wanzoche.html has, and all else as it is now
+fill.py --check       says whether the module of page/wanzoche.html was linked from the sources as they are now
+fill.py --crates      lists the crates of these sources
+"""
+import base64
+import hashlib
+import json
+import os
+import re
+import sys
+
+HERE = os.path.dirname(os.path.realpath(__file__))
+TOP = os.path.dirname(HERE)
+PAGE = os.path.join(HERE, "wanzoche.html")
+CODE = ["calls.js", "texts.js", "lanes.js", "page.js"]
+STYLE = "page.css"
+MODULE = re.compile(r'<script id="module" type="text/plain" data-sources="(\w+)">([^<]*)</script>')
+
+
+def read(*path):
+    with open(os.path.join(*path), encoding="utf-8") as file:
+        return file.read()
+
+
+def crates():
+    """The crates of this repository that the module is made of: path_page, and all below it."""
+    listed = {line.split()[0].rstrip(":"): line.partition(":")[2].split() for line in read(TOP, "crates.txt").splitlines() if line}
+    found = ["path_page"]
+    for name in found:
+        found += [below for below in listed[name] if below in listed and below not in found]
+    return sorted(found)
+
+
+def sum_of_sources():
+    """The checksum of the sources that the module is made of."""
+    digest = hashlib.sha256()
+    for crate in crates():
+        for folder, _, names in sorted(os.walk(os.path.join(TOP, "crates", crate, "src"))):
+            for name in sorted(names):
+                digest.update(repr((os.path.relpath(folder, TOP), name, read(folder, name))).encode())
+    return digest.hexdigest()
+
+
+def text_of(example, name):
+    """A file of an example, or nothing."""
+    path = os.path.join(TOP, "examples", example, name)
+    return read(path) if os.path.isfile(path) else ""
+
+
+def examples():
+    """The examples with a declaration, in the order of the table of examples/README.md, each with what the table says that it shows."""
+    rows = re.findall(r"^\| `(\w+)` \| (.+) \|$", read(TOP, "examples", "README.md"), re.MULTILINE)
+    texts = ("declaration", "attempts", "journal")
+    found = [{"name": name, "shows": shows.replace("`", ""), **{it: text_of(name, it) for it in texts}} for name, shows in rows]
+    return [example for example in found if example["declaration"]]
+
+
+def allowed(texts):
+    """The sources of a Content-Security-Policy that allow these elements, and no others."""
+    digests = [hashlib.sha256(text.encode()).digest() for text in texts]
+    return " ".join(f"'sha256-{base64.b64encode(digest).decode()}'" for digest in digests)
+
+
+def fill(sources, module, to):
+    """Writes the page with this module, in base64, which was linked from these sources."""
+    parts = {name: read(HERE, name) for name in [*CODE, STYLE]}
+    values = {
+        **parts,
+        "MODULE": module,
+        "SOURCES": sources,
+        "EXAMPLES": json.dumps(examples(), ensure_ascii=False).replace("</", "<\\/"),
+        "SCRIPT_HASHES": allowed(parts[name] for name in CODE),
+        "STYLE_HASHES": allowed([parts[STYLE]]),
+    }
+    page = re.sub(r"@([A-Za-z_.]+)@", lambda found: values[found[1]], read(HERE, "page.html"))
+    with open(to, "w", encoding="utf-8") as file:
+        file.write(page)
+    print(f"{to}: {len(page.encode()):,} bytes, {len(base64.b64decode(module)):,} of them the module before it was encoded")
+
+
+def main(first, to=None):
+    if first == "--crates":
+        print("\n".join(crates()))
+    elif first == "--same":
+        fill(*MODULE.search(read(PAGE)).groups(), to)
+    elif first == "--check":
+        if MODULE.search(read(PAGE))[1] != sum_of_sources():
+            sys.exit("page/wanzoche.html has a module of other sources: run page/build")
+    else:
+        with open(first, "rb") as file:
+            fill(sum_of_sources(), base64.b64encode(file.read()).decode(), to)
+
+
+main(*sys.argv[1:])

@@ -1,0 +1,160 @@
+"use strict";
+// What the program's texts say: places of faults, declarations as they are printed, replies, reports. Nothing here knows of the page.
+
+// The lines of a text, as the program counts them, from 0.
+function linesOf(text) {
+  const lines = text.split("\n");
+  if (lines.at(-1) === "") lines.pop();
+  return lines;
+}
+
+// The place in a text of a number of its bytes, with line and column from 1.
+function placeOf(text, offset) {
+  const before = decoder.decode(encoder.encode(text).subarray(0, offset));
+  const lines = before.split("\n");
+  return { index: before.length, line: lines.length, column: lines.at(-1).length + 1 };
+}
+
+// The token at a place: a word, a number or one sign; nothing at the end.
+function tokenAt(text, index) {
+  return /^(?:[A-Za-z][A-Za-z0-9_]*|[0-9]+|[^]?)/.exec(text.slice(index))[0];
+}
+
+// Where a declaration is refused: { says, from, to }, or with no place, { says }.
+function declarationFault(text, err) {
+  const says = err.trim();
+  const offset = / at (\d+)$/.exec(says);
+  if (!offset) return { says };
+  const { index, line, column } = placeOf(text, Number(offset[1]));
+  return { says: `${says} (line ${line}, column ${column})`, from: index, to: index + Math.max(1, tokenAt(text, index).length) };
+}
+
+// Which line of attempts or of a journal is refused, from 0: { says, line, name }; name is the undeclared one, if there is one.
+function lineFault(lines, err) {
+  const says = err.trim();
+  const found = /^text: (bad line|undeclared in line) (\d+)$/.exec(says);
+  if (!found) return { says };
+  const line = Number(found[2]);
+  const name = found[1] === "bad line" ? null : (/^\d+ start ([^ :]+)/.exec(lines[line] ?? "")?.[1] ?? null);
+  return { says, line, name };
+}
+
+// A printed declaration: its operations and paths, in order, each with its resource.
+function declaredIn(printed) {
+  const operations = [];
+  const paths = [];
+  const words = printed.trim().split(" ");
+  let resource = null;
+  for (let at = 0; at < words.length; at++) {
+    if (words[at] === "resource") {
+      resource = { name: words[at + 1], law: words[at + 2] };
+    } else if (words[at] === "operation") {
+      for (let more = true; more; at++) {
+        more = words[at + 1].endsWith(",");
+        operations.push({ name: words[at + 1].replace(",", ""), resource });
+      }
+    } else if (words[at] === "path") {
+      const end = words.indexOf("end", at);
+      paths.push({ resource, text: words.slice(at + 1, end).join(" ") });
+      at = end;
+    }
+  }
+  return { operations, paths };
+}
+
+// Where each path stands in the text of a declaration: [from, to), from the word `path` to its `end`.
+function pathPlaces(text) {
+  return [...text.matchAll(/\bpath\b[^]*?\bend\b/g)].map(it => [it.index, it.index + it[0].length]);
+}
+
+// An attempt with its reply. `kind` is the reply without its number.
+function entryOf(line, reply) {
+  const worker = line.indexOf(" ");
+  const act = line.indexOf(" ", worker + 1);
+  const what = line.indexOf(" ", act + 1);
+  const isNumbered = /[0-9]$/.test(reply);
+  const space = reply.lastIndexOf(" ");
+  return {
+    line,
+    reply,
+    worker: line.slice(0, worker),
+    what: what < 0 ? line.slice(act + 1) : line.slice(act + 1, what),
+    kind: isNumbered ? reply.slice(0, space) : reply,
+    number: isNumbered ? reply.slice(space + 1) : null,
+  };
+}
+
+// The attempts of a trace with their replies, and the report behind them.
+function traceIn(lines, out) {
+  const entries = [];
+  let at = 0;
+  for (const line of lines) {
+    const end = out.indexOf("\n", at);
+    entries.push(entryOf(line, out.slice(at + line.length + 2, end)));
+    at = end + 1;
+  }
+  return { entries, report: out.slice(at) };
+}
+
+// What a report says.
+function reportIn(text) {
+  const report = { startable: [], blocked: new Map(), live: [], frozen: false };
+  for (const line of linesOf(text)) {
+    const [what, ...fields] = line.split(" ");
+    if (what === "startable") report.startable = fields;
+    if (what === "blocked") report.blocked.set(fields[0], Number(fields[1]));
+    if (what === "live") report.live.push({ activation: fields[0], worker: fields[1], operation: fields[2] });
+    if (what === "frozen") report.frozen = fields[0] === "yes";
+  }
+  return report;
+}
+
+// The replies to attempts: { entries, report, fault }. If a line is at fault, the lines before it are answered.
+function answersTo(calls, declaration, attempts) {
+  const lines = linesOf(attempts);
+  const whole = calls.trace(declaration, attempts, true);
+  if (whole.status === 0) return { ...traceIn(lines, whole.out), fault: null };
+  const fault = whole.status === TEXT_REFUSED ? lineFault(lines, whole.err) : { says: whole.err.trim() || STATUSES[whole.status] };
+  if (fault.line === undefined) return { entries: [], report: "", fault };
+  const sound = lines.slice(0, fault.line);
+  const front = calls.trace(declaration, sound.map(line => line + "\n").join(""), true);
+  return { ...(front.status === 0 ? traceIn(sound, front.out) : { entries: [], report: "" }), fault };
+}
+
+// The verdict on a journal: { says, isSound, line }; `line` is the line of the text that is wrong or at fault.
+function verdictOn(calls, declaration, journal) {
+  const lines = linesOf(journal);
+  const told = calls.audit(declaration, journal);
+  if (told.status === TEXT_REFUSED) return { ...lineFault(lines, told.err), isSound: false };
+  const says = (told.out || told.err).trim() || STATUSES[told.status];
+  const wrong = /^wrong line (\d+)$/.exec(says);
+  // The head of a journal is no line of it.
+  const head = lines[0]?.startsWith("journal ") ? 1 : 0;
+  return { says, isSound: told.status === 0, line: wrong ? Number(wrong[1]) + head : undefined };
+}
+
+// The attempts so far as one more line makes them.
+function withLine(attempts, line) {
+  return attempts + (attempts === "" || attempts.endsWith("\n") ? "" : "\n") + line + "\n";
+}
+
+// Why an attempt got its reply, in one sentence.
+function reasonFor(entry, paths) {
+  const { worker, what, kind, number } = entry;
+  const path = paths[number];
+  switch (kind) {
+    case "started": return `Worker ${worker} has started ${what}: activation ${number}.`;
+    case "blocked": return `Path ${number} of ${path?.resource.name} forbids that ${what} starts now: ${path?.text}.`;
+    case "used": return `The device of activation ${what} answers ${number}.`;
+    case "finished": return `Activation ${what} has ended.`;
+    case "stale": return `No live activation has the number ${what}.`;
+    case "not yours": return `Activation ${what} is another worker's.`;
+    case "unknown operation": return `No operation has the number ${what.slice(1)}.`;
+    case "not offered": return "A resource of this law doesn't offer that.";
+    case "empty": return "The queue is empty.";
+    case "full": return "The queue is full.";
+    case "overflow": return "The total would pass 64 bits.";
+    case "no room": return "The journal has no room for this line.";
+    default: return "";
+  }
+}
