@@ -41,14 +41,24 @@ lacks_room d room text None lines told bad = record { lines = lines; told = told
 lacks_room d room text (Some m) lines told (inl none) = absurd (let fits = told.room_fits in omega (arith, fits.0, none))
 lacks_room d room text (Some m) lines told (inr much) = absurd (let fits = told.room_fits in omega (arith, fits.1, much))
 
+-- the fault is one of the openings
+abbrev pub IsAboutOpenings : AuditFault → Type 0
+IsAboutOpenings audits.WrongCount = Unit {0}
+IsAboutOpenings (audits.BadOpening q) = Unit {0}
+IsAboutOpenings f = ⊥
+
+pub own_refused : (d : Declaration) (room : ℕ) (openings : List (List ℕ)) (f : AuditFault) → IsAboutOpenings f → openings ≡ own_openings d → IsAuditFault d room openings f → ⊥
+own_refused d room openings audits.BadRoom about own bad = about
+own_refused d room openings audits.WrongCount about own bad = bad.1 (ap length own ∙ length-map d.resources (λ (x : Resource). opening_numbers x.law))
+own_refused d room openings (audits.BadOpening q) about own bad = bad.2.misfit (subst (λ xs. FitsAt d xs q.0) (sym own) (openings_fit d q.0 bad.2.declared))
+own_refused d room openings audits.OutOfMemory about own bad = about
+
 -- the own devices' openings are refused for nothing but the room
 pub refuses_audit : (d : Declaration) (room r : ℕ) (text : List ℕ) (named : Option ℕ) (lines : List Line) (openings : List (List ℕ)) (f : AuditFault) → IsJournalText d text named lines
     → r ≡ unwrap_or named room → openings ≡ own_openings d → IsAuditFault d r openings f → IsUnaudited d room text (audit_status f)
 refuses_audit d room r text named lines openings audits.BadRoom told is own bad = lacks_room d room text named lines told (subst (λ x. IsBadRoom x) is bad)
-refuses_audit d room r text named lines openings audits.WrongCount told is own bad =
-    absurd (bad.1 (ap length own ∙ length-map d.resources (λ (x : Resource). opening_numbers x.law)))
-refuses_audit d room r text named lines openings (audits.BadOpening q) told is own bad =
-    absurd (bad.2.misfit (subst (λ xs. FitsAt d xs q.0) (sym own) (openings_fit d q.0 bad.2.declared)))
+refuses_audit d room r text named lines openings audits.WrongCount told is own bad = absurd (own_refused d r openings audits.WrongCount tt own bad)
+refuses_audit d room r text named lines openings (audits.BadOpening q) told is own bad = absurd (own_refused d r openings (audits.BadOpening q) tt own bad)
 refuses_audit d room r text named lines openings audits.OutOfMemory told is own bad = tt
 
 -- how a verdict is written

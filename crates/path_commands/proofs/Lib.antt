@@ -1,2 +1,3 @@
 mod OpeningLemmas
 mod AuditLemmas
+mod SegmentLemmas

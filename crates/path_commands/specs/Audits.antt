@@ -6,10 +6,13 @@ use Rattle.path_model.specs.Declarations.{Declaration}
 use Rattle.path_model.specs.Rooms.{IsRoom, IsBadRoom}
 use Rattle.path_decl.specs.Text.{IsDeclarationText}
 use Rattle.path_journal.specs.JournalTexts.{IsJournalText, IsNoJournalText}
+use Rattle.path_journal.specs.JournalFaults.{IsJournalFault}
 use Rattle.path_shelf.specs.Openings.{opening_numbers}
 use Rattle.path_audit.specs.declared.journals.Verdict.{Verdict}
 use Rattle.path_audit.specs.declared.journals.Verdict.TheVariants.{Sound, WrongLine}
 use Rattle.path_audit.specs.Verdicts.{IsVerdict}
+use Rattle.path_streams.specs.declared.fault.Fault.{Fault}
+use Rattle.path_streams.specs.declared.fault.Fault.TheVariants as streams
 use Rattle.path_streams.specs.declared.status.Status.{Status}
 use Rattle.path_streams.specs.declared.status.Status.TheVariants as statuses
 
@@ -67,6 +70,11 @@ IsUnaudited d room text statuses.CommandRefused = LacksRoom d room text
 IsUnaudited d room text statuses.TextRefused = IsBadJournal d text
 IsUnaudited d room text statuses.NoMemory = Unit {0}
 IsUnaudited d room text status = ⊥
+
+-- a fault of the text is that of the journal that it isn't
+abbrev pub IsTextFaultOf : Declaration → List ℕ → Fault → Type 0
+IsTextFaultOf d text (streams.Text fault) = IsJournalFault d text fault
+IsTextFaultOf d text fault = Unit {0}
 
 -- the status of a verdict that was written
 abbrev pub verdict_status : Verdict → Status

@@ -8,7 +8,7 @@ ghost use Rattle.path_audit.specs.declared.journals.Verdict.TheVariants as verdi
 ghost use Rattle.path_streams.specs.Refusals.{IsNoDeclaration};
 ghost use Rattle.path_streams.specs.Statuses.{status_of};
 ghost use Rattle.path_streams.specs.Writes.{AppendsSome, IsFrontOf};
-ghost use Rattle.path_commands.specs.Audits.{IsAuditOf, IsBadJournal, IsSoundText, IsUnaudited, IsWrongText, LacksRoom};
+ghost use Rattle.path_commands.specs.Audits.{IsAuditOf, IsBadJournal, IsSoundText, IsTextFaultOf, IsUnaudited, IsWrongText, LacksRoom};
 ghost use Rattle.path_commands.specs.Audits.{TellsSound, TellsVerdict, TellsWrong, Under, verdict_line, verdict_status};
 
 use crate::openings::own_openings;
@@ -21,8 +21,11 @@ use path_streams::{Fault, Status, put_text, tell};
 use std::alloc::Allocator;
 use std::io::Write;
 
-/// The verdict on the journal in a text. The room is the one that the text names, else `room`.
-fn verdict_on<A: Allocator + Copy>(
+/// The verdict on the journal in a text, over the program's own devices. The room is the one that the text names, else `room`.
+///
+/// Fails with `Fault::Text` and the fault of [`read_journal`] if the text isn't a journal, with `AuditFault::BadRoom` if it names no
+/// room and `room` is out of range, or else for want of memory. The cost is that of [`audit_to`].
+pub fn verdict_on<A: Allocator + Copy>(
     alloc: A,
     decl: &Decl<A>,
     room: u32,
@@ -32,6 +35,7 @@ fn verdict_on<A: Allocator + Copy>(
     // There is only one verdict.
     ensures one { IfOk result (λ verdict. (other : Verdict) → IsAuditOf decl.now.declaration room text.now other → other ≡ verdict) }
     ensures err { IfErr result (λ fault. IsUnaudited decl.now.declaration room text.now (status_of fault)) }
+    ensures text { IfErr result (IsTextFaultOf decl.now.declaration text.now) }
 {
     let journal = match read_journal(alloc, decl, text) {
         Ok(journal) => journal,

@@ -7,7 +7,9 @@ mod compile;
 mod listings;
 mod openings;
 mod output;
+mod segments;
 
-pub use audit::{audit_bytes, audit_to};
+pub use audit::{audit_bytes, audit_to, verdict_on};
 pub use check::check_to;
 pub use compile::compile_to;
+pub use segments::{JournalFile, audit_files};

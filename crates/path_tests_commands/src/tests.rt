@@ -5,3 +5,4 @@ mod check;
 mod commands;
 mod compile;
 mod refusals;
+mod segments;

@@ -23,7 +23,8 @@ resource slot cell operation deposit, remove path deposit ; remove end end
 END
 
 See docs/language.md for declarations, docs/attempts.md for attempts, replies and reports,
-docs/journals.md for journals and audits, and docs/scripts.md for scripts of processes.
+docs/journals.md for journals and audits, docs/scripts.md for scripts of processes, and
+docs/explaining.md for what to do when something isn't as you want it.
 
 Exit statuses:
   0  done
@@ -91,6 +92,40 @@ fn trace<'a>(alloc: Global) -> Result<Command<'a>, AllocError> {
         .arg(report(alloc))
 }
 
+/// The command that answers attempts as they come.
+fn follow<'a>(alloc: Global) -> Result<Command<'a>, AllocError> {
+    Command::new(alloc, "follow")
+        .about("Answers each attempt from standard input before it reads the next")
+        .after_help(
+            "The line ? writes the report. A line that isn't an attempt is told on standard error and skipped; the exit \
+             status is then 4.\nSee docs/explaining.md.",
+        )
+        .arg(file(alloc, "DECL", "the file of the declaration"))?
+        .arg(room(
+            alloc,
+            "how many lines the journal has room for, 1 to 1048576",
+        ))
+}
+
+/// The command that draws a picture.
+fn picture<'a>(alloc: Global) -> Result<Command<'a>, AllocError> {
+    let attempts = Arg::new(alloc, "ATTEMPTS").help("the file of the attempts");
+    let journal = Arg::new(alloc, "journal")
+        .long("journal")
+        .value_name("JOURNAL")
+        .help("the file of a journal, in place of attempts");
+    Command::new(alloc, "picture")
+        .about("Draws attempts with their replies, or a journal, as an SVG: who ran when")
+        .after_help("See docs/picture.md for what is drawn.")
+        .arg(file(alloc, "DECL", "the file of the declaration"))?
+        .arg(attempts.required_unless_present("journal")?)?
+        .arg(journal.conflicts_with("ATTEMPTS")?)?
+        .arg(room(
+            alloc,
+            "how many lines the journal of the attempts has room for, 1 to 1048576",
+        ))
+}
+
 /// The command that audits a journal.
 fn audit<'a>(alloc: Global) -> Result<Command<'a>, AllocError> {
     Command::new(alloc, "audit")
@@ -99,7 +134,12 @@ fn audit<'a>(alloc: Global) -> Result<Command<'a>, AllocError> {
             "See docs/language.md for declarations, docs/journals.md for journals and audits.",
         )
         .arg(file(alloc, "DECL", "the file of the declaration"))?
-        .arg(file(alloc, "JOURNAL", "the file of the journal"))?
+        .arg(file(
+            alloc,
+            "JOURNAL",
+            "the file of the journal, or those of its segments, in order",
+        )
+        .num_args(1..))?
         .arg(room(
             alloc,
             "how many lines the journal had room for, 1 to 1048576, unless its text says so",
@@ -141,6 +181,8 @@ pub fn command<'a>(alloc: Global) -> Result<Command<'a>, AllocError> {
     let program = with(program, check(alloc))?;
     let program = with(program, compile(alloc))?;
     let program = with(program, trace(alloc))?;
+    let program = with(program, follow(alloc))?;
+    let program = with(program, picture(alloc))?;
     let program = with(program, audit(alloc))?;
     with(program, run(alloc))
 }

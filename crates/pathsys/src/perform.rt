@@ -7,7 +7,9 @@ use crate::command::command;
 use crate::files::{read_file, read_stdin};
 use clap::error::ErrorKind;
 use clap::{ArgMatches, Error};
-use path_commands::{audit_bytes, check_to, compile_to};
+use path_commands::{JournalFile, audit_bytes, audit_files, check_to, compile_to};
+use path_follow::follow_bytes;
+use path_picture::{picture_bytes, picture_journal_bytes};
 use path_processes::run_bytes;
 use path_streams::{Fault, Status, tell, whole};
 use path_trace::{ROOM, trace_bytes};
@@ -85,7 +87,60 @@ fn trace<'a, R: Files + AllocGlobal, O: Write, E: Write>(
     Ok(trace_bytes(rt.alloc(), &declaration, room, report, &attempts, out, err))
 }
 
-/// Audits the journal of one file under the declaration of another.
+/// Answers attempts from standard input under the declaration of a file.
+fn follow<'a, R: Files + Input + AllocGlobal, O: Write, E: Write>(
+    rt: &R,
+    words: &ArgMatches<'a>,
+    out: &mut O,
+    err: &mut E,
+) -> Result<Status, Fault<'a>> {
+    let declaration = file(rt, words, "DECL")?;
+    let mut input = rt.reader();
+    Ok(follow_bytes(
+        rt.alloc(),
+        &declaration,
+        room_in(words),
+        &mut input,
+        out,
+        err,
+    ))
+}
+
+/// Draws the attempts or the journal of one file under the declaration of another.
+fn picture<'a, R: Files + AllocGlobal, O: Write, E: Write>(
+    rt: &R,
+    words: &ArgMatches<'a>,
+    out: &mut O,
+    err: &mut E,
+) -> Result<Status, Fault<'a>> {
+    let declaration = file(rt, words, "DECL")?;
+    let (alloc, room) = (rt.alloc(), room_in(words));
+    if let Some(name) = words.get_str("journal") {
+        let journal = read_file(rt, name)?;
+        return Ok(picture_journal_bytes(alloc, &declaration, &journal, out, err));
+    }
+    let attempts = file(rt, words, "ATTEMPTS")?;
+    Ok(picture_bytes(alloc, &declaration, room, &attempts, out, err))
+}
+
+/// The files of a journal's segments, in order.
+fn journal_files<'a, R: Files + AllocGlobal>(
+    rt: &R,
+    words: &ArgMatches<'a>,
+) -> Result<Vec<JournalFile>, Fault<'a>> {
+    let alloc = rt.alloc();
+    let mut files = Vec::new(alloc);
+    if let Some(names) = words.get_strs("JOURNAL") {
+        for name in names {
+            let text = read_file(rt, name)?;
+            let name = format!(in alloc; "{name}")?;
+            files.push(JournalFile { name, text })?;
+        }
+    }
+    Ok(files)
+}
+
+/// Audits the journal of one file, or its segments in several, under the declaration of another.
 fn audit<'a, R: Files + AllocGlobal, O: Write, E: Write>(
     rt: &R,
     words: &ArgMatches<'a>,
@@ -93,8 +148,12 @@ fn audit<'a, R: Files + AllocGlobal, O: Write, E: Write>(
     err: &mut E,
 ) -> Result<Status, Fault<'a>> {
     let declaration = file(rt, words, "DECL")?;
-    let journal = file(rt, words, "JOURNAL")?;
-    Ok(audit_bytes(rt.alloc(), &declaration, room_in(words), &journal, out, err))
+    let files = journal_files(rt, words)?;
+    let (alloc, room) = (rt.alloc(), room_in(words));
+    Ok(match files.as_slice() {
+        [file] => audit_bytes(alloc, &declaration, room, &file.text, out, err),
+        files => audit_files(alloc, &declaration, room, files, out, err),
+    })
 }
 
 /// Runs the script of one file under the declaration of another.
@@ -138,6 +197,8 @@ fn matched<R: Files + Input + AllocGlobal + Threads + Wait + Sync, O: Write, E: 
     let ended = match matches.subcommand() {
         Some(("check", words)) => check(rt, words, out, err),
         Some(("compile", words)) => compile(rt, words, out, err),
+        Some(("follow", words)) => follow(rt, words, out, err),
+        Some(("picture", words)) => picture(rt, words, out, err),
         Some(("audit", words)) => audit(rt, words, out, err),
         Some(("run", words)) => run(rt, words, out, err),
         Some((_, words)) => trace(rt, words, out, err),

@@ -1,0 +1,280 @@
+/* Each answer of wanzoche.h, and what each call leaves. */
+#include "wanzoche.h"
+
+#include <stdio.h>
+#include <stdlib.h>
+#include <string.h>
+#include <sys/wait.h>
+#include <unistd.h>
+
+static int failures;
+
+#define CHECK(that)                                                        \
+    do {                                                                   \
+        if (!(that)) {                                                     \
+            printf("%s:%d: not so: %s\n", __FILE__, __LINE__, #that);      \
+            failures++;                                                    \
+        }                                                                  \
+    } while (0)
+
+static const char SLOT[] = "resource slot cell operation deposit, remove path deposit ; remove end end";
+static const char THREE[] = "resource a cell operation put1, look1 end"
+                            " resource b tally operation add1 end"
+                            " resource c queue 1 operation push, pop path { push } , pop end end";
+
+static bool is(wanzoche_answer a, uint32_t code, uint64_t number) {
+    if (a.code != code || a.number != number)
+        printf("answered %s (%u) %llu\n", wanzoche_words(a.code), a.code, (unsigned long long)a.number);
+    return a.code == code && a.number == number;
+}
+
+static wanzoche_answer open_with(wanzoche *w, const char *text, uint32_t room, char *message) {
+    return wanzoche_open(w, text, strlen(text), room, message, WANZOCHE_MESSAGE);
+}
+
+/* The README's slot, line by line. */
+static void a_slot(void) {
+    wanzoche w = WANZOCHE_CLOSED_HANDLE;
+    char why[WANZOCHE_MESSAGE] = "?", text[512];
+    CHECK(is(open_with(&w, SLOT, 4096, why), WANZOCHE_OPENED, 0));
+    CHECK(why[0] == 0);
+    CHECK(wanzoche_operation(&w, "deposit", 7) == 0 && wanzoche_operation(&w, "remove", 6) == 1);
+    CHECK(wanzoche_operation(&w, "slot", 4) == -1 && wanzoche_operation(&w, "\xff\xfe", 2) == -1);
+    CHECK(wanzoche_operation(&w, "", 0) == -1 && wanzoche_operation(&w, NULL, 5) == -1);
+    CHECK(is(wanzoche_start(&w, 1, 0), WANZOCHE_STARTED, 0));
+    CHECK(is(wanzoche_start(&w, 2, 1), WANZOCHE_BLOCKED, 0));
+    CHECK(is(wanzoche_can_start(&w, 1), WANZOCHE_BLOCKED, 0));
+    CHECK(is(wanzoche_can_start(&w, 2), WANZOCHE_UNKNOWN_OPERATION, 0));
+    CHECK(is(wanzoche_use(&w, 1, 0, WANZOCHE_PUT, 7), WANZOCHE_USED, 0));
+    CHECK(is(wanzoche_finish(&w, 2, 0), WANZOCHE_NOT_YOURS, 0));
+    CHECK(is(wanzoche_finish(&w, 1, 0), WANZOCHE_FINISHED, 0));
+    CHECK(is(wanzoche_finish(&w, 1, 0), WANZOCHE_STALE, 0));
+    CHECK(is(wanzoche_can_start(&w, 1), WANZOCHE_CAN_START, 0));
+    CHECK(is(wanzoche_start(&w, 2, 1), WANZOCHE_STARTED, 1));
+    CHECK(is(wanzoche_use(&w, 2, 1, WANZOCHE_LOOK, 99), WANZOCHE_USED, 7));
+    CHECK(is(wanzoche_use(&w, 2, 1, WANZOCHE_TAKE, 0), WANZOCHE_NOT_OFFERED, 0));
+    CHECK(is(wanzoche_use(&w, 2, 1, 4, 0), WANZOCHE_NO_VERB, 0));
+    CHECK(is(wanzoche_start(&w, 3, 9), WANZOCHE_UNKNOWN_OPERATION, 0));
+    CHECK(wanzoche_lines(&w) == 10 && wanzoche_live(&w) == 1 && wanzoche_room_left(&w) == 4085);
+    CHECK(is(wanzoche_report(&w, text, sizeof text), WANZOCHE_WRITTEN, 71) && strlen(text) == 71);
+    CHECK(!strcmp(text, "startable\nblocked deposit 0\nblocked remove 0\nlive 1 2 remove\nfrozen no\n"));
+    CHECK(is(wanzoche_journal(&w, text, sizeof text), WANZOCHE_WRITTEN, 239) && strlen(text) == 239);
+    CHECK(strstr(text, "1 start deposit: started 0\n2 start remove: blocked 0\n1 use 0 put 7: used 0\n") == text);
+    CHECK(is(wanzoche_audit(SLOT, strlen(SLOT), 4096, text, strlen(text), NULL, 0), WANZOCHE_SOUND, 0));
+    CHECK(is(wanzoche_audit(SLOT, strlen(SLOT), 10, text, strlen(text), NULL, 0), WANZOCHE_WRONG_LINE, 9));
+    CHECK(is(wanzoche_declaration(&w, text, sizeof text), WANZOCHE_WRITTEN, 74) && strlen(text) == 74);
+    CHECK(!strcmp(text, "resource slot cell operation deposit, remove path deposit; remove end end\n"));
+    wanzoche_close(&w);
+    CHECK(is(wanzoche_finish(&w, 2, 1), WANZOCHE_CLOSED, 0));
+}
+
+/* A text that comes in needs no zero byte at its end, and isn't kept. */
+static void texts(void) {
+    static const char text[] = "resource a cell operation b path ( b ) end end";
+    wanzoche w = WANZOCHE_CLOSED_HANDLE;
+    char *copy = malloc(sizeof text - 1), shown[64];
+    memcpy(copy, text, sizeof text - 1);
+    CHECK(is(wanzoche_open(&w, copy, sizeof text - 1, 4, NULL, 0), WANZOCHE_OPENED, 0));
+    memset(copy, 'x', sizeof text - 1);
+    free(copy);
+    CHECK(is(wanzoche_declaration(&w, shown, sizeof shown), WANZOCHE_WRITTEN, 43));
+    CHECK(!strcmp(shown, "resource a cell operation b path b end end\n"));
+    CHECK(wanzoche_operation(&w, "bc", 1) == 0);
+    wanzoche_close(&w);
+}
+
+/* Each device, with each of its answers. */
+static void devices(void) {
+    wanzoche w = WANZOCHE_CLOSED_HANDLE;
+    uint64_t most = UINT64_MAX;
+    CHECK(is(open_with(&w, THREE, 64, NULL), WANZOCHE_OPENED, 0));
+    CHECK(is(wanzoche_start(&w, 1, 2), WANZOCHE_STARTED, 0));
+    CHECK(is(wanzoche_use(&w, 1, 0, WANZOCHE_ADD, most), WANZOCHE_USED, most));
+    CHECK(is(wanzoche_use(&w, 1, 0, WANZOCHE_ADD, 1), WANZOCHE_OVERFLOW, 0));
+    CHECK(is(wanzoche_use(&w, 1, 0, WANZOCHE_PUT, 1), WANZOCHE_NOT_OFFERED, 0));
+    CHECK(is(wanzoche_start(&w, 1, 3), WANZOCHE_STARTED, 1));
+    CHECK(is(wanzoche_use(&w, 1, 1, WANZOCHE_TAKE, 0), WANZOCHE_EMPTY, 0));
+    CHECK(is(wanzoche_use(&w, 1, 1, WANZOCHE_PUT, 5), WANZOCHE_USED, 1));
+    CHECK(is(wanzoche_use(&w, 1, 1, WANZOCHE_PUT, 6), WANZOCHE_FULL, 0));
+    CHECK(is(wanzoche_use(&w, 1, 1, WANZOCHE_TAKE, 0), WANZOCHE_USED, 5));
+    CHECK(is(wanzoche_use(&w, 2, 1, WANZOCHE_LOOK, 0), WANZOCHE_NOT_YOURS, 0));
+    CHECK(is(wanzoche_use(&w, 1, 9, WANZOCHE_LOOK, 0), WANZOCHE_STALE, 0));
+    wanzoche_close(&w);
+}
+
+/* A null pointer, a closed handle and a second close are answers; a second open changes nothing. */
+static void closed_ones(void) {
+    wanzoche w = WANZOCHE_CLOSED_HANDLE, *handles[] = {NULL, &w};
+    char why[WANZOCHE_MESSAGE], text[8];
+    for (int n = 0; n < 2; n++) {
+        wanzoche *h = handles[n];
+        memset(text, 'x', sizeof text);
+        wanzoche_close(h);
+        wanzoche_close(h);
+        CHECK(is(wanzoche_start(h, 1, 0), WANZOCHE_CLOSED, 0));
+        CHECK(is(wanzoche_use(h, 1, 0, WANZOCHE_PUT, 1), WANZOCHE_CLOSED, 0));
+        CHECK(is(wanzoche_use(h, 1, 0, 4, 1), WANZOCHE_NO_VERB, 0));
+        CHECK(is(wanzoche_finish(h, 1, 0), WANZOCHE_CLOSED, 0));
+        CHECK(is(wanzoche_can_start(h, 0), WANZOCHE_CLOSED, 0));
+        CHECK(is(wanzoche_rotate(h), WANZOCHE_CLOSED, 0));
+        CHECK(is(wanzoche_journal(h, text, sizeof text), WANZOCHE_CLOSED, 0));
+        CHECK(is(wanzoche_report(h, text, sizeof text), WANZOCHE_CLOSED, 0));
+        CHECK(is(wanzoche_declaration(h, text, sizeof text), WANZOCHE_CLOSED, 0));
+        CHECK(text[0] == 'x' && text[7] == 'x');
+        CHECK(wanzoche_operation(h, "deposit", 7) == -1);
+        CHECK(wanzoche_lines(h) == 0 && wanzoche_live(h) == 0 && wanzoche_room_left(h) == 0);
+    }
+    strcpy(why, "?");
+    CHECK(is(open_with(NULL, SLOT, 64, why), WANZOCHE_CLOSED, 0) && why[0] == 0);
+    CHECK(is(open_with(&w, SLOT, 64, why), WANZOCHE_OPENED, 0));
+    CHECK(is(wanzoche_start(&w, 1, 0), WANZOCHE_STARTED, 0));
+    CHECK(is(open_with(&w, THREE, 64, why), WANZOCHE_ALREADY_OPEN, 0) && !strcmp(why, "already open"));
+    CHECK(is(wanzoche_finish(&w, 1, 0), WANZOCHE_FINISHED, 0));
+    wanzoche moved = w;
+    CHECK(is(wanzoche_start(&moved, 1, 1), WANZOCHE_STARTED, 1));
+    wanzoche_close(&moved);
+    CHECK(is(open_with(&moved, THREE, 64, why), WANZOCHE_OPENED, 0));
+    wanzoche_close(&moved);
+}
+
+/* Each fault of a text comes with its place and its words, and leaves the handle closed. */
+static void faults(void) {
+    static const struct { const char *text; uint32_t code; uint64_t at; const char *why; } table[] = {
+        {"", WANZOCHE_UNEXPECTED, 0, "unexpected at 0"},
+        {"resource", WANZOCHE_UNEXPECTED, 8, "unexpected at 8"},
+        {"resource ?", WANZOCHE_BAD_BYTE, 9, "bad byte at 9"},
+        {"resource abcdefghabcdefghabcdefghabcdefghi", WANZOCHE_WORD_TOO_LONG, 9, "word too long at 9"},
+        {"resource a queue 1234567890", WANZOCHE_NUMBER_TOO_LONG, 17, "number too long at 17"},
+        {"resource a cell operation b end resource a cell operation c end", WANZOCHE_DUPLICATE_RESOURCE, 41, "duplicate resource at 41"},
+        {"resource a cell operation b, b end", WANZOCHE_DUPLICATE_OPERATION, 29, "duplicate operation at 29"},
+        {"resource a cell operation b path c end end", WANZOCHE_UNDECLARED, 33, "undeclared at 33"},
+        {"resource a cell operation b path b ; b end end", WANZOCHE_REPEATED_NAME, 37, "repeated name at 37"},
+        {"resource a cell operation b path { { b } } end end", WANZOCHE_NESTED_BRACES, 35, "nested braces at 35"},
+        {"resource a queue 0 operation b end", WANZOCHE_BAD_CAPACITY, 17, "bad capacity at 17"},
+        {"resource a cell operation b path { b : 0 } end end", WANZOCHE_BAD_COUNT, 39, "bad count at 39"},
+    };
+    wanzoche w = WANZOCHE_CLOSED_HANDLE;
+    char why[WANZOCHE_MESSAGE], few[6];
+    for (size_t n = 0; n < sizeof table / sizeof *table; n++) {
+        CHECK(is(open_with(&w, table[n].text, 0, why), table[n].code, table[n].at));
+        CHECK(!strcmp(why, table[n].why));
+        CHECK(!strncmp(why, wanzoche_words(table[n].code), strlen(wanzoche_words(table[n].code))));
+        CHECK(!w.live);
+    }
+    char *parentheses = malloc(256), *spaces = malloc(65537);
+    strcpy(parentheses, "resource a cell operation b path ");
+    memset(parentheses + 33, '(', 33);
+    CHECK(is(wanzoche_open(&w, parentheses, 66, 1, why, sizeof why), WANZOCHE_TOO_DEEP, 65) && !strcmp(why, "too deep at 65"));
+    memset(spaces, ' ', 65537);
+    CHECK(is(wanzoche_open(&w, spaces, 65537, 1, why, sizeof why), WANZOCHE_TOO_LONG, 0) && !strcmp(why, "text too long"));
+    free(parentheses);
+    free(spaces);
+    CHECK(is(wanzoche_open(&w, "resource", 8, 1, few, sizeof few), WANZOCHE_UNEXPECTED, 8) && !strcmp(few, "unexp"));
+    CHECK(is(wanzoche_open(&w, "resource", 8, 1, few, 1), WANZOCHE_UNEXPECTED, 8) && few[0] == 0);
+    CHECK(is(wanzoche_open(&w, "resource", 8, 1, NULL, 5), WANZOCHE_UNEXPECTED, 8));
+    CHECK(is(wanzoche_open(&w, NULL, 8, 1, why, sizeof why), WANZOCHE_UNEXPECTED, 0));
+    CHECK(is(open_with(&w, SLOT, 0, why), WANZOCHE_BAD_ROOM, 0) && !strcmp(why, "bad room"));
+    CHECK(is(open_with(&w, SLOT, WANZOCHE_MOST_LINES + 1, why), WANZOCHE_BAD_ROOM, 0));
+}
+
+/* A buffer that is too small stays, and the answer says how long the text is. */
+static void buffers(void) {
+    wanzoche w = WANZOCHE_CLOSED_HANDLE;
+    char text[64];
+    CHECK(is(open_with(&w, SLOT, 4, NULL), WANZOCHE_OPENED, 0));
+    CHECK(is(wanzoche_journal(&w, text, 1), WANZOCHE_WRITTEN, 0) && text[0] == 0);
+    CHECK(is(wanzoche_journal(&w, NULL, 64), WANZOCHE_TOO_SMALL, 0));
+    CHECK(is(wanzoche_start(&w, 4294967295u, 1), WANZOCHE_BLOCKED, 0));
+    memset(text, 'x', sizeof text);
+    CHECK(is(wanzoche_journal(&w, text, 35), WANZOCHE_TOO_SMALL, 35) && text[0] == 'x' && text[34] == 'x');
+    CHECK(is(wanzoche_journal(&w, text, 36), WANZOCHE_WRITTEN, 35) && text[36] == 'x');
+    CHECK(!strcmp(text, "4294967295 start remove: blocked 0\n"));
+    wanzoche_close(&w);
+}
+
+/* A rotation keeps what is live, and gives the room back. */
+static void rotations(void) {
+    wanzoche w = WANZOCHE_CLOSED_HANDLE;
+    char first[128], second[128], all[512];
+    CHECK(is(open_with(&w, SLOT, 4, NULL), WANZOCHE_OPENED, 0));
+    CHECK(is(wanzoche_start(&w, 1, 0), WANZOCHE_STARTED, 0));
+    CHECK(is(wanzoche_start(&w, 2, 1), WANZOCHE_BLOCKED, 0));
+    CHECK(is(wanzoche_start(&w, 2, 1), WANZOCHE_NO_ROOM, 0));
+    CHECK(is(wanzoche_use(&w, 1, 0, WANZOCHE_LOOK, 0), WANZOCHE_USED, 0));
+    CHECK(is(wanzoche_use(&w, 1, 0, WANZOCHE_PUT, 1), WANZOCHE_NO_ROOM, 0));
+    CHECK(is(wanzoche_finish(&w, 2, 0), WANZOCHE_NO_ROOM, 0));
+    CHECK(wanzoche_room_left(&w) == 0 && wanzoche_lines(&w) == 3);
+    CHECK(wanzoche_journal(&w, first, sizeof first).code == WANZOCHE_WRITTEN);
+    CHECK(is(wanzoche_rotate(&w), WANZOCHE_ROTATED, 0));
+    CHECK(wanzoche_lines(&w) == 0 && wanzoche_live(&w) == 1 && wanzoche_room_left(&w) == 3);
+    CHECK(is(wanzoche_finish(&w, 1, 0), WANZOCHE_FINISHED, 0));
+    CHECK(is(wanzoche_start(&w, 2, 1), WANZOCHE_STARTED, 1));
+    CHECK(wanzoche_journal(&w, second, sizeof second).code == WANZOCHE_WRITTEN);
+    for (int n = 0; n < 1000; n++) CHECK(is(wanzoche_rotate(&w), WANZOCHE_ROTATED, 0));
+    snprintf(all, sizeof all, "journal 2 room 7\n%s%s", first, second);
+    CHECK(is(wanzoche_audit(SLOT, strlen(SLOT), 0, all, strlen(all), NULL, 0), WANZOCHE_SOUND, 0));
+    wanzoche_close(&w);
+}
+
+static wanzoche_answer audited(const char *text, char *why) {
+    return wanzoche_audit(SLOT, strlen(SLOT), 4096, text, strlen(text), why, WANZOCHE_MESSAGE);
+}
+
+static void audits(void) {
+    char why[WANZOCHE_MESSAGE] = "?";
+    CHECK(is(audited("", why), WANZOCHE_SOUND, 0) && why[0] == 0);
+    CHECK(is(audited("1 start deposit: started 0\n1 start remove: started 1\n", why), WANZOCHE_WRONG_LINE, 1) && why[0] == 0);
+    CHECK(is(audited("journal 2 room 9\n1 start remove: started 0\n", why), WANZOCHE_WRONG_LINE, 0));
+    CHECK(is(audited("1 start deposit: started 0\nhello\n", why), WANZOCHE_BAD_LINE, 1) && !strcmp(why, "journal: bad line 1"));
+    CHECK(is(audited("journal 2 room 9\nhello\n", why), WANZOCHE_BAD_LINE, 1));
+    CHECK(is(audited("1 start steal: blocked 0\n", why), WANZOCHE_UNDECLARED_LINE, 0) && !strcmp(why, "journal: undeclared in line 0"));
+    CHECK(is(wanzoche_audit(SLOT, strlen(SLOT), 0, "", 0, why, sizeof why), WANZOCHE_BAD_ROOM, 0) && !strcmp(why, "bad room"));
+    CHECK(is(wanzoche_audit("resource", 8, 1, "", 0, why, sizeof why), WANZOCHE_UNEXPECTED, 8));
+    CHECK(!strcmp(why, "declaration: unexpected at 8"));
+    CHECK(is(wanzoche_audit(NULL, 8, 1, NULL, 9, why, sizeof why), WANZOCHE_UNEXPECTED, 0));
+    CHECK(is(wanzoche_audit(SLOT, strlen(SLOT), 1, NULL, 9, NULL, 9), WANZOCHE_SOUND, 0));
+    char *much = malloc(134217729);
+    memset(much, '\n', 134217729);
+    CHECK(is(wanzoche_audit(SLOT, strlen(SLOT), 1, much, 134217729, why, sizeof why), WANZOCHE_JOURNAL_TOO_LONG, 0));
+    CHECK(!strcmp(why, "journal: too long"));
+    free(much);
+}
+
+/* The child of a process with one thread has a copy of the handle, which is its own. */
+static void forks(void) {
+    wanzoche w = WANZOCHE_CLOSED_HANDLE;
+    int status = 0;
+    CHECK(is(open_with(&w, SLOT, 8, NULL), WANZOCHE_OPENED, 0));
+    fflush(stdout);
+    pid_t child = fork();
+    if (child == 0) {
+        int before = failures;
+        CHECK(is(wanzoche_start(&w, 1, 0), WANZOCHE_STARTED, 0));
+        wanzoche_close(&w);
+        _exit(failures != before);
+    }
+    CHECK(waitpid(child, &status, 0) == child && status == 0);
+    CHECK(wanzoche_lines(&w) == 0 && is(wanzoche_start(&w, 1, 0), WANZOCHE_STARTED, 0));
+    wanzoche_close(&w);
+}
+
+static void words(void) {
+    CHECK(!strcmp(wanzoche_words(WANZOCHE_BLOCKED), "blocked") && !strcmp(wanzoche_words(46), "no such code"));
+    for (uint32_t code = 0; code <= WANZOCHE_TOO_MANY; code++)
+        CHECK((code > WANZOCHE_UNDECLARED_LINE && code < WANZOCHE_TOO_LONG) == !strcmp(wanzoche_words(code), "no such code"));
+}
+
+int main(void) {
+    a_slot();
+    texts();
+    devices();
+    closed_ones();
+    faults();
+    buffers();
+    rotations();
+    audits();
+    forks();
+    words();
+    printf("calls: %d failures\n", failures);
+    return failures != 0;
+}

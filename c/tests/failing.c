@@ -1,0 +1,148 @@
+/* Each allocation refused in turn: the answer is WANZOCHE_OUT_OF_MEMORY, nothing leaks, and the handle is as it was. */
+#include "wanzoche.h"
+
+#include <stdio.h>
+#include <stdlib.h>
+#include <string.h>
+
+/* The library's allocator, with refusals. */
+struct block {
+    size_t there;
+    void *at;
+};
+static long left = -1, blocks, asked, bytes;
+static char nothing;
+
+static struct block given(void *at) {
+    struct block none = {0, &nothing}, one = {1, at};
+    return at == NULL ? none : one;
+}
+
+static int refused(void) {
+    asked++;
+    return left >= 0 && left-- == 0;
+}
+
+struct block rattle_alloc(size_t size, size_t align);
+struct block rattle_realloc(void *at, size_t old, size_t size, size_t align);
+void rattle_dealloc(void *at, size_t size, size_t align);
+
+struct block rattle_alloc(size_t size, size_t align) {
+    struct block b = given(refused() ? NULL : malloc(size ? size : align));
+    blocks += (long)b.there;
+    bytes += (long)size;
+    return b;
+}
+
+struct block rattle_realloc(void *at, size_t old, size_t size, size_t align) {
+    (void)old;
+    return given(refused() ? NULL : realloc(at, size ? size : align));
+}
+
+void rattle_dealloc(void *at, size_t size, size_t align) {
+    (void)size;
+    (void)align;
+    blocks--;
+    free(at);
+}
+
+static const char SLOT[] = "resource slot cell operation deposit, remove path deposit ; remove end end"
+                           " resource line queue 4 operation put, get path { put ; get : 4 } end end";
+static wanzoche w;
+static char text[4096];
+static long text_length;
+
+static wanzoche_answer opens(void) {
+    return wanzoche_open(&w, SLOT, strlen(SLOT), 64, NULL, 0);
+}
+
+/* If there is no memory for the message it says so, and the answer is that of the text. */
+static int messages(void) {
+    char why[WANZOCHE_MESSAGE];
+    int lacked = 0;
+    for (long n = 0;; n++) {
+        left = n;
+        wanzoche_answer a = wanzoche_open(&w, "resource", 8, 64, why, sizeof why);
+        left = -1;
+        int wants = !strcmp(why, "out of memory");
+        if (a.code == WANZOCHE_UNEXPECTED && !wants) return blocks != 0 || lacked == 0 || strcmp(why, "unexpected at 8");
+        if (!wants || (a.code != WANZOCHE_OUT_OF_MEMORY && a.code != WANZOCHE_UNEXPECTED)) return 1;
+        lacked += a.code == WANZOCHE_UNEXPECTED;
+    }
+}
+
+/* How many bytes an opening asks for, in this room. */
+static long asks_for(uint32_t room) {
+    bytes = 0;
+    wanzoche_open(&w, SLOT, strlen(SLOT), room, NULL, 0);
+    wanzoche_close(&w);
+    return bytes;
+}
+
+static wanzoche_answer journals(void) {
+    return wanzoche_journal(&w, text, sizeof text);
+}
+
+static wanzoche_answer reports(void) {
+    return wanzoche_report(&w, text, sizeof text);
+}
+
+static wanzoche_answer declares(void) {
+    return wanzoche_declaration(&w, text, sizeof text);
+}
+
+static wanzoche_answer audits(void) {
+    return wanzoche_audit(SLOT, strlen(SLOT), 64, text, (size_t)text_length, NULL, 0);
+}
+
+static int each_in_turn(const char *name, wanzoche_answer (*call)(void), uint32_t wanted) {
+    long before = blocks;
+    bool live = w.live;
+    for (long n = 0;; n++) {
+        left = n;
+        wanzoche_answer a = call();
+        left = -1;
+        if (a.code == wanted) {
+            printf("%s: %ld allocations refused in turn\n", name, n);
+            return n == 0;
+        }
+        if (a.code != WANZOCHE_OUT_OF_MEMORY || a.number != 0 || blocks != before || w.live != live) {
+            printf("%s, allocation %ld: answered %s, %ld blocks more\n", name, n, wanzoche_words(a.code), blocks - before);
+            return 1;
+        }
+    }
+}
+
+int main(void) {
+    int bad = messages();
+    if (bad) printf("a message isn't as it should be\n");
+    long of_a_line = (asks_for(1048576) - asks_for(524288)) / 524288;
+    if (of_a_line != 144) printf("%ld bytes for a line of the room\n", of_a_line), bad = 1;
+    bad |= each_in_turn("open", opens, WANZOCHE_OPENED);
+    long opened = blocks;
+    asked = 0;
+    left = 0;
+    for (int n = 0; n < 100; n++) {
+        wanzoche_answer a = wanzoche_start(&w, 1, 0);
+        bad |= a.code != WANZOCHE_STARTED || wanzoche_use(&w, 1, a.number, WANZOCHE_PUT, 5).code != WANZOCHE_USED ||
+               wanzoche_finish(&w, 1, a.number).code != WANZOCHE_FINISHED;
+        a = wanzoche_start(&w, 1, 1);
+        bad |= wanzoche_can_start(&w, 0).code != WANZOCHE_BLOCKED || wanzoche_operation(&w, "get", 3) != 3;
+        bad |= wanzoche_live(&w) != 1 || wanzoche_lines(&w) == 0 || wanzoche_room_left(&w) == 0;
+        bad |= wanzoche_finish(&w, 1, a.number).code != WANZOCHE_FINISHED;
+        if (n < 99) bad |= wanzoche_rotate(&w).code != WANZOCHE_ROTATED;
+    }
+    left = -1;
+    if (bad || asked != 0 || blocks != opened) printf("steps asked for memory %ld times\n", asked), bad = 1;
+    bad |= each_in_turn("journal", journals, WANZOCHE_WRITTEN);
+    text_length = (long)wanzoche_journal(&w, text, sizeof text).number;
+    bad |= text_length == 0;
+    bad |= each_in_turn("report", reports, WANZOCHE_WRITTEN);
+    bad |= each_in_turn("declaration", declares, WANZOCHE_WRITTEN);
+    text_length = 0;
+    bad |= each_in_turn("audit", audits, WANZOCHE_SOUND);
+    wanzoche_close(&w);
+    if (blocks != 0) printf("%ld blocks are left\n", blocks), bad = 1;
+    printf("failing: %d\n", bad);
+    return bad;
+}

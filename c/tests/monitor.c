@@ -1,0 +1,265 @@
+/* The monitor: time limits, cancelled threads, readers together, the log. */
+#include "wanzoche_monitor.h"
+
+#include <stdio.h>
+#include <string.h>
+#include <unistd.h>
+
+static int failures;
+
+#define CHECK(that)                                                        \
+    do {                                                                   \
+        if (!(that)) {                                                     \
+            printf("%s:%d: not so: %s\n", __FILE__, __LINE__, #that);      \
+            failures++;                                                    \
+        }                                                                  \
+    } while (0)
+
+static const char SLOT[] = "resource slot cell operation deposit, remove path deposit ; remove end end";
+static const char BOOK[] = "resource book cell operation read, write path { read } , write end end";
+enum { DEPOSIT, REMOVE };
+enum { READ, WRITE };
+
+static wanzoche_monitor m;
+
+static void open_with(const char *text, uint32_t room) {
+    CHECK(wanzoche_monitor_open(&m, text, strlen(text), room, NULL, 0).code == WANZOCHE_OPENED);
+}
+
+/* How many threads wait, as they do once they can't go on. */
+static void until_waiting(unsigned n) {
+    for (;;) {
+        pthread_mutex_lock(&m.lock);
+        unsigned waiting = m.waiting;
+        pthread_mutex_unlock(&m.lock);
+        if (waiting == n) return;
+        usleep(200);
+    }
+}
+
+static void *removes(void *me) {
+    wanzoche_answer a = wanzoche_enter(&m, (uint32_t)(size_t)me, REMOVE, -1);
+    CHECK(a.code == WANZOCHE_STARTED);
+    CHECK(wanzoche_leave(&m, (uint32_t)(size_t)me, a.number).code == WANZOCHE_FINISHED);
+    return NULL;
+}
+
+static void deposit(void) {
+    wanzoche_answer a = wanzoche_enter(&m, 1, DEPOSIT, 0);
+    CHECK(a.code == WANZOCHE_STARTED);
+    CHECK(wanzoche_leave(&m, 1, a.number).code == WANZOCHE_FINISHED);
+}
+
+static void time_limits(void) {
+    open_with(SLOT, 4096);
+    CHECK(wanzoche_enter(&m, 1, REMOVE, 0).code == WANZOCHE_BLOCKED);
+    struct timespec before = wanzoche_in(0), after;
+    CHECK(wanzoche_enter(&m, 1, REMOVE, 50).code == WANZOCHE_BLOCKED);
+    after = wanzoche_in(0);
+    CHECK((after.tv_sec - before.tv_sec) * 1000 + (after.tv_nsec - before.tv_nsec) / 1000000 >= 49);
+    CHECK(m.waiting == 0);
+    CHECK(wanzoche_enter(&m, 1, 9, -1).code == WANZOCHE_UNKNOWN_OPERATION);
+    CHECK(wanzoche_leave(&m, 1, 0).code == WANZOCHE_STALE);
+    pthread_t t;
+    pthread_create(&t, NULL, removes, (void *)2);
+    until_waiting(1);
+    deposit();
+    pthread_join(t, NULL);
+    wanzoche_monitor_close(&m);
+}
+
+/* A monitor that is closed or null answers so; one that can't be opened is closed. */
+static void closed_ones(void) {
+    char why[WANZOCHE_MESSAGE], text[8];
+    wanzoche_monitor *monitors[] = {NULL, &m};
+    open_with(SLOT, 4096);
+    wanzoche_monitor_close(&m);
+    for (int n = 0; n < 2; n++) {
+        wanzoche_monitor_close(monitors[n]);
+        CHECK(wanzoche_enter(monitors[n], 1, REMOVE, 0).code == WANZOCHE_CLOSED);
+        CHECK(wanzoche_leave(monitors[n], 1, 0).code == WANZOCHE_CLOSED);
+        CHECK(wanzoche_monitor_use(monitors[n], 1, 0, WANZOCHE_PUT, 1).code == WANZOCHE_CLOSED);
+        CHECK(wanzoche_monitor_report(monitors[n], text, sizeof text).code == WANZOCHE_CLOSED);
+        CHECK(wanzoche_monitor_journal(monitors[n], text, sizeof text).code == WANZOCHE_CLOSED);
+        CHECK(wanzoche_monitor_rotate(monitors[n]).code == WANZOCHE_CLOSED);
+    }
+    CHECK(wanzoche_monitor_open(NULL, SLOT, strlen(SLOT), 1, why, sizeof why).code == WANZOCHE_CLOSED);
+    CHECK(wanzoche_monitor_open(&m, "resource", 8, 1, why, sizeof why).code == WANZOCHE_UNEXPECTED && !strcmp(why, "unexpected at 8"));
+    CHECK(wanzoche_enter(&m, 1, REMOVE, 0).code == WANZOCHE_CLOSED);
+}
+
+/* A thread that is cancelled while it waits has started nothing, and the others go on; also if its turn has just come. */
+static void cancelled_while_waiting(void) {
+    open_with(SLOT, 1048576);
+    for (int n = 0; n < 300; n++) {
+        pthread_t first, second;
+        void *end;
+        pthread_create(&first, NULL, removes, (void *)2);
+        until_waiting(1);
+        pthread_create(&second, NULL, removes, (void *)3);
+        until_waiting(2);
+        if (n % 2) pthread_cancel(first);
+        deposit();
+        if (n % 2 == 0) pthread_cancel(first);
+        pthread_join(first, &end);
+        if (end != PTHREAD_CANCELED) {
+            /* It had its turn, so the second needs another deposit. */
+            wanzoche_answer a = wanzoche_enter(&m, 1, DEPOSIT, 0);
+            if (a.code == WANZOCHE_STARTED) wanzoche_leave(&m, 1, a.number);
+        }
+        pthread_join(second, NULL);
+        wanzoche_answer a = wanzoche_enter(&m, 4, REMOVE, 0);
+        if (a.code == WANZOCHE_STARTED) wanzoche_leave(&m, 4, a.number);
+        CHECK(m.waiting == 0 && wanzoche_live(&m.system) == 0);
+    }
+    wanzoche_monitor_close(&m);
+}
+
+static void *holds(void *me) {
+    wanzoche_entry e = {&m, (uint32_t)(size_t)me, 0};
+    e.activation = wanzoche_enter(&m, e.worker, WRITE, -1).number;
+    pthread_cleanup_push(wanzoche_leave_entry, &e);
+    pause();
+    pthread_cleanup_pop(1);
+    return NULL;
+}
+
+static void cancelled_inside(void) {
+    open_with(BOOK, 4096);
+    pthread_t t;
+    pthread_create(&t, NULL, holds, (void *)2);
+    for (uint32_t live = 0; live == 0; usleep(200)) {
+        pthread_mutex_lock(&m.lock);
+        live = wanzoche_live(&m.system);
+        pthread_mutex_unlock(&m.lock);
+    }
+    CHECK(wanzoche_enter(&m, 1, WRITE, 0).code == WANZOCHE_BLOCKED);
+    pthread_cancel(t);
+    pthread_join(t, NULL);
+    wanzoche_answer a = wanzoche_enter(&m, 1, WRITE, 1000);
+    CHECK(a.code == WANZOCHE_STARTED);
+    wanzoche_monitor_close(&m);
+}
+
+static int reading;
+static pthread_barrier_t together;
+
+static void *reads(void *me) {
+    wanzoche_answer a = wanzoche_enter(&m, (uint32_t)(size_t)me, READ, -1);
+    CHECK(a.code == WANZOCHE_STARTED);
+    pthread_barrier_wait(&together); /* all read at once, or none gets further */
+    __atomic_add_fetch(&reading, 1, __ATOMIC_RELAXED);
+    wanzoche_leave(&m, (uint32_t)(size_t)me, a.number);
+    return NULL;
+}
+
+/* One leave lets all readers in. */
+static void readers_together(void) {
+    open_with(BOOK, 4096);
+    wanzoche_answer a = wanzoche_enter(&m, 1, WRITE, -1);
+    pthread_t t[6];
+    pthread_barrier_init(&together, NULL, 6);
+    for (size_t n = 0; n < 6; n++) pthread_create(&t[n], NULL, reads, (void *)(n + 2));
+    until_waiting(6);
+    wanzoche_leave(&m, 1, a.number);
+    for (size_t n = 0; n < 6; n++) pthread_join(t[n], NULL);
+    CHECK(reading == 6);
+    pthread_barrier_destroy(&together);
+    wanzoche_monitor_close(&m);
+}
+
+static void *has_its_own(void *me) {
+    wanzoche w = WANZOCHE_CLOSED_HANDLE;
+    char text[4096];
+    CHECK(wanzoche_open(&w, SLOT, strlen(SLOT), 64, NULL, 0).code == WANZOCHE_OPENED);
+    for (int n = 0; n < 30; n++) {
+        wanzoche_answer a = wanzoche_start(&w, (uint32_t)(size_t)me, n % 2);
+        CHECK(a.code == WANZOCHE_STARTED && wanzoche_finish(&w, (uint32_t)(size_t)me, a.number).code == WANZOCHE_FINISHED);
+    }
+    wanzoche_answer a = wanzoche_journal(&w, text, sizeof text);
+    CHECK(a.code == WANZOCHE_WRITTEN);
+    CHECK(wanzoche_audit(SLOT, strlen(SLOT), 64, text, (size_t)a.number, NULL, 0).code == WANZOCHE_SOUND);
+    wanzoche_close(&w);
+    return NULL;
+}
+
+/* Threads with handles of their own need no order. */
+static void handles_apart(void) {
+    pthread_t t[4];
+    for (size_t n = 0; n < 4; n++) pthread_create(&t[n], NULL, has_its_own, (void *)n);
+    for (size_t n = 0; n < 4; n++) pthread_join(t[n], NULL);
+}
+
+static void is_cancelled_here(void *count, const char *text, size_t length) {
+    (void)text;
+    (void)length;
+    pthread_cancel(pthread_self());
+    pthread_testcancel();
+    ++*(int *)count;
+}
+
+static void *enters_and_leaves(void *unused) {
+    (void)unused;
+    for (int n = 0; n < 3; n++) wanzoche_leave(&m, 1, wanzoche_enter(&m, 1, READ, -1).number);
+    pthread_testcancel();
+    return NULL;
+}
+
+/* A thread that is cancelled while the log has the lines is cancelled later: the monitor stays whole. */
+static void cancelled_in_the_log(void) {
+    int count = 0;
+    void *end;
+    open_with(BOOK, 4);
+    m.log = is_cancelled_here;
+    m.log_for = &count;
+    pthread_t t;
+    pthread_create(&t, NULL, enters_and_leaves, NULL);
+    pthread_join(t, &end);
+    CHECK(count == 1 && end == PTHREAD_CANCELED);
+    CHECK(wanzoche_enter(&m, 1, WRITE, 1000).code == WANZOCHE_STARTED);
+    wanzoche_monitor_close(&m);
+}
+
+static char lines[1 << 16];
+static size_t filled;
+
+static void keep(void *unused, const char *text, size_t length) {
+    (void)unused;
+    memcpy(lines + filled, text, length);
+    filled += length;
+}
+
+/* Lines that were rotated by a small room are one sound journal. */
+static void the_log(void) {
+    open_with(SLOT, 5);
+    m.log = keep;
+    for (int n = 0; n < 200; n++) {
+        wanzoche_answer a = wanzoche_enter(&m, 1, n % 2, -1);
+        CHECK(a.code == WANZOCHE_STARTED);
+        CHECK(wanzoche_monitor_use(&m, 1, a.number, n % 2 ? WANZOCHE_LOOK : WANZOCHE_PUT, 7).code == WANZOCHE_USED);
+        CHECK(wanzoche_leave(&m, 1, a.number).code == WANZOCHE_FINISHED);
+    }
+    CHECK(wanzoche_monitor_rotate(&m).code == WANZOCHE_ROTATED);
+    wanzoche_monitor_close(&m);
+    CHECK(wanzoche_audit(SLOT, strlen(SLOT), 1000, lines, filled, NULL, 0).code == WANZOCHE_SOUND);
+    open_with(SLOT, 1);
+    CHECK(wanzoche_enter(&m, 1, DEPOSIT, -1).code == WANZOCHE_NO_ROOM);
+    wanzoche_monitor_close(&m);
+}
+
+/* With an argument no thread is cancelled: the thread sanitizer doesn't follow one that is. */
+int main(int arguments, char **argument) {
+    (void)argument;
+    closed_ones();
+    time_limits();
+    if (arguments == 1) {
+        cancelled_while_waiting();
+        cancelled_inside();
+        cancelled_in_the_log();
+    }
+    readers_together();
+    handles_apart();
+    the_log();
+    printf("monitor: %d failures\n", failures);
+    return failures != 0;
+}

@@ -1,0 +1,184 @@
+/*
+** The names of wanzoche.h, over the exports of the crate path_c.
+**
+** The exports answer for every handle and every text, but they take
+** references, which are never null. Here a null handle is a closed one, and a
+** null text or buffer is one without bytes. Nothing else is decided here.
+*/
+#include "wanzoche.h"
+
+#if defined(__STDC_VERSION__) && __STDC_VERSION__ >= 201112L
+_Static_assert(sizeof(wanzoche) == 2 * sizeof(void *), "a pointer and a bool");
+_Static_assert(offsetof(wanzoche, live) == sizeof(void *), "the bool is second");
+_Static_assert(sizeof(wanzoche_answer) == 16, "a code and a number");
+#endif
+
+wanzoche_answer path_c_open(wanzoche *, const uint8_t *, size_t, uint32_t, uint8_t *, size_t);
+void path_c_close(wanzoche *);
+int64_t path_c_operation(wanzoche *, const uint8_t *, size_t);
+wanzoche_answer path_c_start(wanzoche *, uint32_t, uint32_t);
+wanzoche_answer path_c_use(wanzoche *, uint32_t, uint64_t, uint32_t, uint64_t);
+wanzoche_answer path_c_finish(wanzoche *, uint32_t, uint64_t);
+wanzoche_answer path_c_can_start(wanzoche *, uint32_t);
+size_t path_c_lines(wanzoche *);
+uint32_t path_c_live(wanzoche *);
+uint32_t path_c_room_left(wanzoche *);
+wanzoche_answer path_c_journal(wanzoche *, uint8_t *, size_t);
+wanzoche_answer path_c_rotate(wanzoche *);
+wanzoche_answer path_c_report(wanzoche *, uint8_t *, size_t);
+wanzoche_answer path_c_declaration(wanzoche *, uint8_t *, size_t);
+wanzoche_answer path_c_audit(const uint8_t *, size_t, uint32_t, const uint8_t *, size_t, uint8_t *, size_t);
+
+static const wanzoche_answer closed = {WANZOCHE_CLOSED, 0};
+
+/* A byte at a good address, for texts and buffers without bytes. */
+static uint8_t nothing[1];
+
+static const uint8_t *text_at(const char *text) {
+    return text == NULL ? nothing : (const uint8_t *)text;
+}
+
+static size_t length_of(const char *text, size_t length) {
+    return text == NULL ? 0 : length;
+}
+
+static uint8_t *buffer_at(char *buffer) {
+    return buffer == NULL ? nothing : (uint8_t *)buffer;
+}
+
+wanzoche_answer wanzoche_open(wanzoche *handle, const char *text, size_t length,
+                              uint32_t room, char *message, size_t size) {
+    if (handle == NULL) {
+        if (message != NULL && size > 0) message[0] = 0;
+        return closed;
+    }
+    return path_c_open(handle, text_at(text), length_of(text, length), room,
+                       buffer_at(message), length_of(message, size));
+}
+
+void wanzoche_close(wanzoche *handle) {
+    if (handle != NULL) path_c_close(handle);
+}
+
+int64_t wanzoche_operation(wanzoche *handle, const char *name, size_t length) {
+    if (handle == NULL) return -1;
+    return path_c_operation(handle, text_at(name), length_of(name, length));
+}
+
+wanzoche_answer wanzoche_start(wanzoche *handle, uint32_t worker,
+                               uint32_t operation) {
+    if (handle == NULL) return closed;
+    return path_c_start(handle, worker, operation);
+}
+
+wanzoche_answer wanzoche_use(wanzoche *handle, uint32_t worker,
+                             uint64_t activation, uint32_t verb,
+                             uint64_t number) {
+    if (handle == NULL) {
+        wanzoche_answer no_verb = {WANZOCHE_NO_VERB, 0};
+        return verb > WANZOCHE_ADD ? no_verb : closed;
+    }
+    return path_c_use(handle, worker, activation, verb, number);
+}
+
+wanzoche_answer wanzoche_finish(wanzoche *handle, uint32_t worker,
+                                uint64_t activation) {
+    if (handle == NULL) return closed;
+    return path_c_finish(handle, worker, activation);
+}
+
+wanzoche_answer wanzoche_can_start(wanzoche *handle, uint32_t operation) {
+    if (handle == NULL) return closed;
+    return path_c_can_start(handle, operation);
+}
+
+size_t wanzoche_lines(wanzoche *handle) {
+    return handle == NULL ? 0 : path_c_lines(handle);
+}
+
+uint32_t wanzoche_live(wanzoche *handle) {
+    return handle == NULL ? 0 : path_c_live(handle);
+}
+
+uint32_t wanzoche_room_left(wanzoche *handle) {
+    return handle == NULL ? 0 : path_c_room_left(handle);
+}
+
+wanzoche_answer wanzoche_journal(wanzoche *handle, char *buffer, size_t size) {
+    if (handle == NULL) return closed;
+    return path_c_journal(handle, buffer_at(buffer), length_of(buffer, size));
+}
+
+wanzoche_answer wanzoche_rotate(wanzoche *handle) {
+    if (handle == NULL) return closed;
+    return path_c_rotate(handle);
+}
+
+wanzoche_answer wanzoche_report(wanzoche *handle, char *buffer, size_t size) {
+    if (handle == NULL) return closed;
+    return path_c_report(handle, buffer_at(buffer), length_of(buffer, size));
+}
+
+wanzoche_answer wanzoche_declaration(wanzoche *handle, char *buffer,
+                                     size_t size) {
+    if (handle == NULL) return closed;
+    return path_c_declaration(handle, buffer_at(buffer), length_of(buffer, size));
+}
+
+wanzoche_answer wanzoche_audit(const char *declaration, size_t length,
+                               uint32_t room, const char *journal,
+                               size_t journal_length, char *message,
+                               size_t size) {
+    return path_c_audit(text_at(declaration), length_of(declaration, length),
+                        room, text_at(journal),
+                        length_of(journal, journal_length),
+                        buffer_at(message), length_of(message, size));
+}
+
+const char *wanzoche_words(uint32_t code) {
+    switch (code) {
+    case WANZOCHE_CLOSED: return "closed";
+    case WANZOCHE_STARTED: return "started";
+    case WANZOCHE_BLOCKED: return "blocked";
+    case WANZOCHE_UNKNOWN_OPERATION: return "unknown operation";
+    case WANZOCHE_USED: return "used";
+    case WANZOCHE_NOT_OFFERED: return "not offered";
+    case WANZOCHE_EMPTY: return "empty";
+    case WANZOCHE_FULL: return "full";
+    case WANZOCHE_OVERFLOW: return "overflow";
+    case WANZOCHE_DEVICE_FAILED: return "device failed";
+    case WANZOCHE_FINISHED: return "finished";
+    case WANZOCHE_STALE: return "stale";
+    case WANZOCHE_NOT_YOURS: return "not yours";
+    case WANZOCHE_NO_ROOM: return "no room";
+    case WANZOCHE_NO_VERB: return "no such verb";
+    case WANZOCHE_CAN_START: return "can start";
+    case WANZOCHE_ROTATED: return "rotated";
+    case WANZOCHE_WRITTEN: return "written";
+    case WANZOCHE_TOO_SMALL: return "too small";
+    case WANZOCHE_OPENED: return "opened";
+    case WANZOCHE_ALREADY_OPEN: return "already open";
+    case WANZOCHE_BAD_ROOM: return "bad room";
+    case WANZOCHE_OUT_OF_MEMORY: return "out of memory";
+    case WANZOCHE_SOUND: return "sound";
+    case WANZOCHE_WRONG_LINE: return "wrong line";
+    case WANZOCHE_JOURNAL_TOO_LONG: return "journal too long";
+    case WANZOCHE_BAD_LINE: return "bad line";
+    case WANZOCHE_UNDECLARED_LINE: return "undeclared in line";
+    case WANZOCHE_TOO_LONG: return "text too long";
+    case WANZOCHE_BAD_BYTE: return "bad byte";
+    case WANZOCHE_WORD_TOO_LONG: return "word too long";
+    case WANZOCHE_NUMBER_TOO_LONG: return "number too long";
+    case WANZOCHE_UNEXPECTED: return "unexpected";
+    case WANZOCHE_TOO_DEEP: return "too deep";
+    case WANZOCHE_DUPLICATE_RESOURCE: return "duplicate resource";
+    case WANZOCHE_DUPLICATE_OPERATION: return "duplicate operation";
+    case WANZOCHE_UNDECLARED: return "undeclared";
+    case WANZOCHE_REPEATED_NAME: return "repeated name";
+    case WANZOCHE_NESTED_BRACES: return "nested braces";
+    case WANZOCHE_BAD_CAPACITY: return "bad capacity";
+    case WANZOCHE_BAD_COUNT: return "bad count";
+    case WANZOCHE_TOO_MANY: return "too many";
+    default: return "no such code";
+    }
+}

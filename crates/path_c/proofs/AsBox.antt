@@ -1,0 +1,21 @@
+-- What is held and its parts own what a box at the same types owns.
+use mir.Syntax.{impl, tnil, dnil}
+use mathlib.Core.List.{[]}
+use denote.Signature.{Slot, plain}
+use Rattle.std_alloc.proofs.BoxSteps.Form.{Bx}
+use Rattle.std_heap.specs.contracts.Global as Heap
+use Rattle.std_heap.specs.contracts.GlobalAllocator.TheImpl.{ghosts, dict}
+use Rattle.std_heap.proofs.Global.TheLaws as heap
+use Rattle.path_service.proofs.service.Service.TheLaws as service
+use Rattle.path_c.specs.contracts.parts.Parts as Parts
+use Rattle.path_c.specs.contracts.handle.Held as Held
+use Rattle.path_c.specs.Held.{service_row}
+
+abbrev pub E : Bx
+E = record { row = service_row; laws = service.the_row_laws; al = record { row = Heap.the_row; laws = heap.the_row_laws; g = ghosts; d = dict; drops = impl [] tnil dnil } }
+
+abbrev pub FromParts : Slot 0
+FromParts = plain (λ _. Parts.the_row service_row Heap.the_row ghosts)
+
+abbrev pub FromHeld : Slot 0
+FromHeld = plain (λ _. Held.the_row)

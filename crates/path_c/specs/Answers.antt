@@ -1,0 +1,125 @@
+-- The codes of the C interface, as `wanzoche.h` has them.
+use Rattle.std.specs.Prelude.{ℕ, List, [], ◌∷◌, Option, Some, None, Result, Ok, Err, slice_index_or}
+use Rattle.path_model.specs.declared.journal.Reply.{Reply}
+use Rattle.path_model.specs.declared.journal.Reply.TheVariants as replies
+use Rattle.path_model.specs.declared.journal.Verb.{Verb}
+use Rattle.path_model.specs.declared.journal.Verb.TheVariants.{Put, Take, Look, Add}
+use Rattle.path_lex.specs.declared.fault.DeclFault.{DeclFault}
+use Rattle.path_lex.specs.declared.fault.DeclFault.TheVariants as declarations
+use Rattle.path_lines.specs.declared.texts.TextFault.{TextFault}
+use Rattle.path_lines.specs.declared.texts.TextFault.TheVariants as texts
+use Rattle.path_audit.specs.declared.journals.Verdict.{Verdict}
+use Rattle.path_audit.specs.declared.journals.Verdict.TheVariants as verdicts
+use Rattle.path_system.specs.declared.calls.StartRefusal.{StartRefusal}
+use Rattle.path_system.specs.declared.calls.StartRefusal.TheVariants as starts
+use Rattle.path_service.specs.declared.fault.ServiceFault.{ServiceFault}
+use Rattle.path_service.specs.declared.fault.ServiceFault.TheVariants as services
+use Rattle.path_service.specs.declared.fault.AuditRefusal.{AuditRefusal}
+use Rattle.path_service.specs.declared.fault.AuditRefusal.TheVariants as audits
+use Rattle.path_c.specs.declared.answer.Answer.{Answer}
+
+abbrev pub numbered : ℕ → ℕ → Answer
+numbered code number = record { code = code; number = number }
+
+abbrev pub plain : ℕ → Answer
+plain code = numbered code 0
+
+-- calls that get no reply
+abbrev pub closed : Answer
+closed = plain 0
+
+abbrev pub no_verb : Answer
+no_verb = plain 14
+
+abbrev pub has_rotated : Answer
+has_rotated = plain 16
+
+abbrev pub opened : Answer
+opened = plain 19
+
+abbrev pub already_open : Answer
+already_open = plain 20
+
+abbrev pub out_of_memory : Answer
+out_of_memory = plain 22
+
+-- a text of this length is in the buffer, or the buffer is too small for it
+abbrev pub written : ℕ → Answer
+written n = numbered 17 n
+
+abbrev pub too_small : ℕ → Answer
+too_small n = numbered 18 n
+
+-- a reply
+abbrev pub reply_answer : Reply → Answer
+reply_answer (replies.Started n) = numbered 1 n.0
+reply_answer (replies.Blocked p) = numbered 2 p.0
+reply_answer replies.UnknownOperation = plain 3
+reply_answer (replies.Used x) = numbered 4 x
+reply_answer replies.NotOffered = plain 5
+reply_answer replies.Empty = plain 6
+reply_answer replies.Full = plain 7
+reply_answer replies.Overflow = plain 8
+reply_answer replies.DeviceFailed = plain 9
+reply_answer replies.Finished = plain 10
+reply_answer replies.Stale = plain 11
+reply_answer replies.NotYours = plain 12
+reply_answer replies.NoRoom = plain 13
+
+-- whether an operation may start
+abbrev pub may_answer : {U : Type 0} → Result U StartRefusal → Answer
+may_answer (Ok u) = plain 15
+may_answer (Err (starts.Blocked p)) = numbered 2 p.0
+may_answer (Err starts.UnknownOperation) = plain 3
+may_answer (Err starts.NoRoom) = plain 13
+
+-- why a text isn't a declaration, with the place in it
+abbrev pub declaration_answer : DeclFault → Answer
+declaration_answer declarations.OutOfMemory = out_of_memory
+declaration_answer declarations.TooLong = plain 32
+declaration_answer (declarations.BadByte at) = numbered 33 at
+declaration_answer (declarations.WordTooLong at) = numbered 34 at
+declaration_answer (declarations.NumberTooLong at) = numbered 35 at
+declaration_answer (declarations.Unexpected at) = numbered 36 at
+declaration_answer (declarations.TooDeep at) = numbered 37 at
+declaration_answer (declarations.DuplicateResource at) = numbered 38 at
+declaration_answer (declarations.DuplicateOperation at) = numbered 39 at
+declaration_answer (declarations.Undeclared at) = numbered 40 at
+declaration_answer (declarations.RepeatedName at) = numbered 41 at
+declaration_answer (declarations.NestedBraces at) = numbered 42 at
+declaration_answer (declarations.BadCapacity at) = numbered 43 at
+declaration_answer (declarations.BadCount at) = numbered 44 at
+declaration_answer (declarations.TooMany at) = numbered 45 at
+
+-- why a service can't be opened
+abbrev pub fault_answer : ServiceFault → Answer
+fault_answer (services.Declaration fault) = declaration_answer fault
+fault_answer services.BadRoom = plain 21
+fault_answer services.OutOfMemory = out_of_memory
+
+-- a verdict, with the wrong line
+abbrev pub verdict_answer : Verdict → Answer
+verdict_answer verdicts.Sound = plain 23
+verdict_answer (verdicts.WrongLine n) = numbered 24 n
+
+-- why a text isn't a journal, with the line at fault
+abbrev pub journal_answer : TextFault → Answer
+journal_answer texts.TooLong = plain 25
+journal_answer (texts.BadLine n) = numbered 26 n
+journal_answer (texts.Undeclared n) = numbered 27 n
+journal_answer texts.OutOfMemory = out_of_memory
+
+-- why a text has no verdict
+abbrev pub refusal_answer : AuditRefusal → Answer
+refusal_answer (audits.Declaration fault) = declaration_answer fault
+refusal_answer (audits.Journal fault) = journal_answer fault
+refusal_answer audits.BadRoom = plain 21
+refusal_answer audits.OutOfMemory = out_of_memory
+
+-- the verbs with the number n, by their codes from 0
+abbrev verbs : ℕ → List (Option Verb)
+verbs n = Some (Put n) ∷ Some Take ∷ Some Look ∷ Some (Add n) ∷ []
+
+-- the verb of a code, with its number
+abbrev pub verb_at : ℕ → ℕ → Option Verb
+verb_at code n = slice_index_or (verbs n) code None

@@ -1,0 +1,196 @@
+//! The calls on a handle that make an attempt or ask for one. Each leaves an open handle open, and a closed one closed.
+
+ghost use Rattle.std.specs.Prelude.{◌≡◌, ◌+◌, ◌≤◌, ◌<◌, ◌↔◌, IsSome, length, true, false};
+ghost use Rattle.path_model.specs.declared.journal.Attempt.TheVariants.{Start, Apply, Finish};
+ghost use Rattle.path_model.specs.Journals.{admitted_history, live};
+ghost use Rattle.path_model.specs.Segments.{joined, taken_behind};
+ghost use Rattle.path_system.specs.Accounts.{all_lines, rotated};
+ghost use Rattle.path_c.specs.Answers.{closed, has_rotated, no_verb, verb_at};
+ghost use Rattle.path_c.specs.Calls.{IsAnswered, IsStartable, IsVerb};
+
+use crate::answer::{Answer, CLOSED, NO_VERB, ROTATED, may, plainly, replied};
+use crate::handle::Handle;
+use path_model::{ActId, Attempt, OpId, Verb};
+use std::alloc::Global;
+
+/// The verb of a code and its number.
+fn verb_of(code: u32, number: u64) -> Option<Verb>
+    ensures verb { result ≡ verb_at code number }
+    ensures known { IsSome result ↔ (code < 4) }
+{
+    match code {
+        0 => Some(Verb::Put(number)),
+        1 => Some(Verb::Take),
+        2 => Some(Verb::Look),
+        3 => Some(Verb::Add(number)),
+        _ => None,
+    }
+}
+
+/// One attempt at the service of a handle.
+fn step(alloc: Global, handle: &mut Handle, worker: u32, attempt: Attempt) -> Answer
+    ensures live { handle.new.live ≡ handle.old.live }
+    ensures closed { handle.old.live ≡ false → result ≡ closed }
+    ensures stepped { handle.old.live ≡ true → IsAnswered handle.old.held.account worker attempt result handle.new.held.account }
+{
+    match handle.take(alloc) {
+        None => plainly(CLOSED),
+        Some(mut service) => {
+            let reply = service.step(worker, attempt);
+            handle.put(service);
+            replied(reply)
+        }
+    }
+}
+
+/// A worker starts an operation.
+#[unsafe(no_mangle)]
+pub extern "C" fn path_c_start(
+    alloc: Global,
+    handle: &mut Handle,
+    worker: u32,
+    operation: u32,
+) -> Answer
+    ensures live { handle.new.live ≡ handle.old.live }
+    ensures closed { handle.old.live ≡ false → result ≡ closed }
+    ensures stepped { handle.old.live ≡ true → IsAnswered handle.old.held.account worker (Start (record { 0 = operation }))
+        result handle.new.held.account }
+{
+    step(alloc, handle, worker, Attempt::Start(OpId(operation)))
+}
+
+/// A worker uses the device of an activation's resource: by verb 0 it puts the number, by 1 it takes one, by 2 it looks, by 3 it adds
+/// the number. There is no other verb, and then nothing changes.
+#[unsafe(no_mangle)]
+pub extern "C" fn path_c_use(
+    alloc: Global,
+    handle: &mut Handle,
+    worker: u32,
+    activation: u64,
+    verb: u32,
+    number: u64,
+) -> Answer
+    ensures live { handle.new.live ≡ handle.old.live }
+    ensures closed { handle.old.live ≡ false → verb < 4 → result ≡ closed }
+    ensures no_verb { 4 ≤ verb → (result ≡ no_verb) × (handle.new ≡ handle.old) }
+    ensures stepped { handle.old.live ≡ true → IsVerb (verb_at verb number)
+        (λ v. IsAnswered handle.old.held.account worker (Apply (record { 0 = activation }) v) result handle.new.held.account) }
+{
+    match verb_of(verb, number) {
+        None => plainly(NO_VERB),
+        Some(verb) => step(
+            alloc,
+            handle,
+            worker,
+            Attempt::Apply(ActId(activation), verb),
+        ),
+    }
+}
+
+/// A worker finishes an activation.
+#[unsafe(no_mangle)]
+pub extern "C" fn path_c_finish(
+    alloc: Global,
+    handle: &mut Handle,
+    worker: u32,
+    activation: u64,
+) -> Answer
+    ensures live { handle.new.live ≡ handle.old.live }
+    ensures closed { handle.old.live ≡ false → result ≡ closed }
+    ensures stepped { handle.old.live ≡ true → IsAnswered handle.old.held.account worker (Finish (record { 0 = activation }))
+        result handle.new.held.account }
+{
+    step(alloc, handle, worker, Attempt::Finish(ActId(activation)))
+}
+
+/// Whether an operation may start now, or the first path that forbids it.
+#[unsafe(no_mangle)]
+pub extern "C" fn path_c_can_start(alloc: Global, handle: &mut Handle, operation: u32) -> Answer
+    ensures live { handle.new.live ≡ handle.old.live }
+    ensures closed { handle.old.live ≡ false → result ≡ closed }
+    ensures kept { handle.old.live ≡ true → handle.new.held.account ≡ handle.old.held.account }
+    ensures told { handle.old.live ≡ true → IsStartable handle.old.held.account.declaration
+        (admitted_history (all_lines handle.old.held.account)) (record { 0 = operation }) result }
+{
+    match handle.take(alloc) {
+        None => plainly(CLOSED),
+        Some(service) => {
+            let told = service.can_start(OpId(operation));
+            handle.put(service);
+            may(told)
+        }
+    }
+}
+
+/// The lines so far are given up, and the room counts anew.
+#[unsafe(no_mangle)]
+pub extern "C" fn path_c_rotate(alloc: Global, handle: &mut Handle) -> Answer
+    ensures live { handle.new.live ≡ handle.old.live }
+    ensures closed { handle.old.live ≡ false → result ≡ closed }
+    ensures rotated { handle.old.live ≡ true
+        → (result ≡ has_rotated) × (handle.new.held.account ≡ rotated handle.old.held.account) }
+{
+    match handle.take(alloc) {
+        None => plainly(CLOSED),
+        Some(mut service) => {
+            service.rotate(alloc);
+            handle.put(service);
+            plainly(ROTATED)
+        }
+    }
+}
+
+/// How many lines the journal has; 0 for a closed handle.
+#[unsafe(no_mangle)]
+pub extern "C" fn path_c_lines(alloc: Global, handle: &mut Handle) -> usize
+    ensures live { handle.new.live ≡ handle.old.live }
+    ensures closed { handle.old.live ≡ false → result ≡ 0 }
+    ensures kept { handle.old.live ≡ true → handle.new.held.account ≡ handle.old.held.account }
+    ensures lines { handle.old.live ≡ true → result ≡ length handle.old.held.account.journal }
+{
+    match handle.take(alloc) {
+        None => 0,
+        Some(service) => {
+            let lines = service.system().journal().len();
+            handle.put(service);
+            lines
+        }
+    }
+}
+
+/// How many activations are live; 0 for a closed handle.
+#[unsafe(no_mangle)]
+pub extern "C" fn path_c_live(alloc: Global, handle: &mut Handle) -> u32
+    ensures live { handle.new.live ≡ handle.old.live }
+    ensures closed { handle.old.live ≡ false → result ≡ 0 }
+    ensures kept { handle.old.live ≡ true → handle.new.held.account ≡ handle.old.held.account }
+    ensures count { handle.old.live ≡ true → result ≡ length (live (all_lines handle.old.held.account)) }
+{
+    match handle.take(alloc) {
+        None => 0,
+        Some(service) => {
+            let count = service.system().live_count();
+            handle.put(service);
+            count
+        }
+    }
+}
+
+/// How many places the room has left; 0 for a closed handle.
+#[unsafe(no_mangle)]
+pub extern "C" fn path_c_room_left(alloc: Global, handle: &mut Handle) -> u32
+    ensures live { handle.new.live ≡ handle.old.live }
+    ensures closed { handle.old.live ≡ false → result ≡ 0 }
+    ensures kept { handle.old.live ≡ true → handle.new.held.account ≡ handle.old.held.account }
+    ensures left { handle.old.live ≡ true → result + taken_behind (joined handle.old.held.account.earlier)
+        handle.old.held.account.journal ≡ handle.old.held.account.room }
+{
+    match handle.take(alloc) {
+        None => 0,
+        Some(service) => {
+            let left = service.system().room_left();
+            handle.put(service);
+            left
+        }
+    }
+}

@@ -1,0 +1,128 @@
+//! Texts that are written into a buffer of the caller.
+
+ghost use Rattle.std.specs.Prelude.{◌≡◌, ◌≢◌, ◌<◌, ◌≤◌, length, true, false, Contains};
+ghost use Rattle.path_journal.specs.JournalTexts.{lines_text};
+ghost use Rattle.path_print.specs.Printed.{printed};
+ghost use Rattle.path_system.specs.Accounts.{all_lines};
+ghost use Rattle.path_c.specs.Answers.{closed, out_of_memory};
+ghost use Rattle.path_c.specs.Calls.{IsGiven, IsReportGiven, with_text};
+
+use crate::answer::{Answer, CLOSED, OUT_OF_MEMORY, TOO_SMALL, WRITTEN, plainly, with};
+use crate::handle::Handle;
+use std::alloc::Global;
+use std::fmt::Display;
+
+/// Writes a text and a zero byte to the front of a buffer that is large enough.
+fn put_whole(buffer: &mut [u8], text: &[u8])
+    requires { length text.now < length buffer.old }
+    ensures { buffer.new ≡ with_text buffer.old text.now }
+{
+    let (front, back) = buffer.split_at_mut(text.len());
+    front.copy_from_slice(text);
+    back[0] = 0;
+}
+
+/// Writes a text to a buffer, as far as it fits before a zero byte.
+pub(crate) fn put_front(buffer: &mut [u8], text: &[u8])
+    ensures { 0 < length buffer.old → Contains buffer.new 0 }
+{
+    if !buffer.is_empty() {
+        let fits = text.len().min(buffer.len() - 1);
+        put_whole(buffer, &text[..fits]);
+    }
+}
+
+/// Writes what a fault shows to a buffer, as far as it fits before a zero byte.
+pub(crate) fn put_words<T: Display + Drop>(alloc: Global, buffer: &mut [u8], fault: T)
+    ensures { 0 < length buffer.old → Contains buffer.new 0 }
+{
+    match format!(in alloc; "{fault}") {
+        Ok(words) => put_front(buffer, words.as_bytes()),
+        Err(_) => put_front(buffer, b"out of memory"),
+    }
+}
+
+/// Writes a text and a zero byte to a buffer, if they fit.
+fn give(buffer: &mut [u8], text: &[u8]) -> Answer
+    ensures { IsGiven text.now buffer.old result buffer.new }
+{
+    let length = text.len() as u64;
+    if text.len() >= buffer.len() {
+        return with(TOO_SMALL, length);
+    }
+    put_whole(buffer, text);
+    with(WRITTEN, length)
+}
+
+/// The text of the lines since the last rotation.
+#[unsafe(no_mangle)]
+pub extern "C" fn path_c_journal(alloc: Global, handle: &mut Handle, buffer: &mut [u8]) -> Answer
+    ensures live { handle.new.live ≡ handle.old.live }
+    ensures kept { handle.old.live ≡ true → handle.new.held.account ≡ handle.old.held.account }
+    ensures closed { handle.old.live ≡ false → (result ≡ closed) × (buffer.new ≡ buffer.old) }
+    ensures memory { result ≡ out_of_memory → buffer.new ≡ buffer.old }
+    ensures given { handle.old.live ≡ true → result ≢ out_of_memory → IsGiven
+        (lines_text handle.old.held.account.declaration handle.old.held.account.journal) buffer.old result buffer.new }
+{
+    match handle.take(alloc) {
+        None => plainly(CLOSED),
+        Some(service) => {
+            let text = service.journal_text(alloc);
+            handle.put(service);
+            match text {
+                Ok(text) => give(buffer, text.as_bytes()),
+                Err(_) => plainly(OUT_OF_MEMORY),
+            }
+        }
+    }
+}
+
+/// The text of a report.
+#[unsafe(no_mangle)]
+pub extern "C" fn path_c_report(alloc: Global, handle: &mut Handle, buffer: &mut [u8]) -> Answer
+    ensures live { handle.new.live ≡ handle.old.live }
+    ensures kept { handle.old.live ≡ true → handle.new.held.account ≡ handle.old.held.account }
+    ensures closed { handle.old.live ≡ false → (result ≡ closed) × (buffer.new ≡ buffer.old) }
+    ensures memory { result ≡ out_of_memory → buffer.new ≡ buffer.old }
+    ensures given { handle.old.live ≡ true → result ≢ out_of_memory → IsReportGiven
+        handle.old.held.account.declaration (all_lines handle.old.held.account) buffer.old result buffer.new }
+{
+    match handle.take(alloc) {
+        None => plainly(CLOSED),
+        Some(service) => {
+            let text = service.report_text(alloc);
+            handle.put(service);
+            match text {
+                Ok(text) => give(buffer, &text),
+                Err(_) => plainly(OUT_OF_MEMORY),
+            }
+        }
+    }
+}
+
+/// The text of the declaration, in one line.
+#[unsafe(no_mangle)]
+pub extern "C" fn path_c_declaration(
+    alloc: Global,
+    handle: &mut Handle,
+    buffer: &mut [u8],
+) -> Answer
+    ensures live { handle.new.live ≡ handle.old.live }
+    ensures kept { handle.old.live ≡ true → handle.new.held.account ≡ handle.old.held.account }
+    ensures closed { handle.old.live ≡ false → (result ≡ closed) × (buffer.new ≡ buffer.old) }
+    ensures memory { result ≡ out_of_memory → buffer.new ≡ buffer.old }
+    ensures given { handle.old.live ≡ true → result ≢ out_of_memory
+        → IsGiven (printed handle.old.held.account.declaration) buffer.old result buffer.new }
+{
+    match handle.take(alloc) {
+        None => plainly(CLOSED),
+        Some(service) => {
+            let text = service.declaration_text(alloc);
+            handle.put(service);
+            match text {
+                Ok(text) => give(buffer, text.as_bytes()),
+                Err(_) => plainly(OUT_OF_MEMORY),
+            }
+        }
+    }
+}

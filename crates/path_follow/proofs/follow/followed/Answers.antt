@@ -1,0 +1,64 @@
+-- Each block is read and its lines taken, and it stops behind those that were.
+use Rattle.std.proofs.Common.{[], take, arith, refl}
+use Rattle.std.proofs.lemmas.Result.{IfOk-weaker, IfErr-weaker}
+use Rattle.path_shelf.specs.States.{MayFail}
+use Rattle.path_follow.proofs.Reading.{gave_first, gave_kept, gave_block, gave_all, read_more, read_nothing, read_part}
+use Rattle.path_follow.proofs.Stopping.{stops_with, stops_as, unless_so}
+use Rattle.path_follow.proofs.follow.followed.Goals as goal
+
+pub returns-in_err-block-clause-err : goal.returns-in_err-block-clause-err
+returns-in_err-block-clause-err g c =
+    stops_with _ _
+    (gave_first (MayFail g.D.Device.state) c.args.follower.now.system c.args.follower.now.system (g.R.Read.remaining c.args.input.now) (g.R.Read.remaining c.args.input.now) [] c.args.follower.now.refused c.args.follower.now.refused (g.O.Write.contents c.args.out.now) (g.O.Write.contents c.args.out.now)
+    (read_nothing (MayFail g.D.Device.state) c.args.follower.now.system (g.R.Read.remaining c.args.input.now) [] c.args.follower.now.refused (g.O.Write.contents c.args.out.now) refl))
+
+pub loop-init : goal.loop-init
+loop-init g c = record {
+  passes = read_nothing (MayFail g.D.Device.state) c.args.follower.now.system (g.R.Read.remaining c.args.input.now) c.new-pending.result.items c.args.follower.now.refused (g.O.Write.contents c.args.out.now) c.new-pending.ensures.items;
+  one = rw c.new-pending.ensures.items tt;
+  some = let n = c.in_ok-block.ensures.len in omega (arith, n);
+}
+
+pub returns-in_err-count-clause-err : goal.returns-in_err-count-clause-err
+returns-in_err-count-clause-err g c =
+    stops_with _ _
+    (gave_first (MayFail g.D.Device.state) c.args.follower.now.system c.loop.follower.system (g.R.Read.remaining c.args.input.now) (g.R.Read.remaining c.loop.input) c.loop.pending.items c.args.follower.now.refused c.loop.follower.refused (g.O.Write.contents c.args.out.now) (g.O.Write.contents c.loop.out)
+    c.loop.invariant.passes)
+
+pub returns-then-count-eq0-clause-ok : goal.returns-then-count-eq0-clause-ok
+returns-then-count-eq0-clause-ok g c =
+    IfOk-weaker c.take_last.result _ _
+    (λ done t. gave_all (MayFail g.D.Device.state) c.args.follower.now.system c.loop.follower.system (g.R.Read.remaining c.args.input.now) (g.R.Read.remaining c.loop.input) c.loop.pending.items c.args.follower.now.refused c.loop.follower.refused (g.O.Write.contents c.args.out.now) (g.O.Write.contents c.loop.out)
+    c.loop.invariant.passes (g.R.Read.remaining c.read_block.new.input) (take c.in_ok-count.count c.read_block.new.block) c.take_last.new.self.refused (g.O.Write.contents c.take_last.new.out)
+    (rw c.if-count-eq0.true refl) c.in_ok-count.ensures.bytes (c.in_ok-count.ensures.end c.if-count-eq0.true) (rw c.deref.ensures.value at t))
+    c.take_last.ensures.ok
+
+pub returns-then-count-eq0-clause-err : goal.returns-then-count-eq0-clause-err
+returns-then-count-eq0-clause-err g c =
+    IfErr-weaker c.take_last.result _ _
+    (λ stop. unless_so _ _ stop
+    (gave_kept (MayFail g.D.Device.state) c.args.follower.now.system c.loop.follower.system (g.R.Read.remaining c.args.input.now) (g.R.Read.remaining c.loop.input) c.loop.pending.items c.args.follower.now.refused c.loop.follower.refused (g.O.Write.contents c.args.out.now) (g.O.Write.contents c.loop.out)
+    c.loop.invariant.passes (g.O.Write.contents c.take_last.new.out)))
+    c.take_last.ensures.err
+
+pub returns-in_err-take_block-clause-err : goal.returns-in_err-take_block-clause-err
+returns-in_err-take_block-clause-err g c =
+    stops_as _ _ _ _ c.from_residual-in_err-take_block.ensures.1
+    (gave_block (MayFail g.D.Device.state) c.args.follower.now.system c.loop.follower.system (g.R.Read.remaining c.args.input.now) (g.R.Read.remaining c.loop.input) c.loop.pending.items c.args.follower.now.refused c.loop.follower.refused (g.O.Write.contents c.args.out.now) (g.O.Write.contents c.loop.out)
+    c.loop.invariant.passes (g.R.Read.remaining c.read_block.new.input) _ (g.O.Write.contents c.take_block.new.out) (read_part (g.R.Read.remaining c.loop.input) (g.R.Read.remaining c.read_block.new.input) c.in_ok-count.count c.loop.block.len _ _ _ c.deref-in-loop.ensures.value c.in_ok-count.ensures.within
+    (omega (arith, c.read_block.auto.block, c.deref_mut.ensures.len, c.in_ok-count.ensures.within)) c.in_ok-count.ensures.bytes))
+    c.in_err-take_block.ensures.err
+
+pub loop-preserved : goal.loop-preserved
+loop-preserved g c = record {
+  passes = read_more (MayFail g.D.Device.state) c.args.follower.now.system c.loop.follower.system (g.R.Read.remaining c.args.input.now) (g.R.Read.remaining c.loop.input) c.loop.pending.items c.args.follower.now.refused c.loop.follower.refused (g.O.Write.contents c.args.out.now) (g.O.Write.contents c.loop.out)
+      c.loop.invariant.passes c.take_block.new.self.system (g.R.Read.remaining c.read_block.new.input) _ c.take_block.new.pending.items c.take_block.new.self.refused (g.O.Write.contents c.take_block.new.out) (read_part (g.R.Read.remaining c.loop.input) (g.R.Read.remaining c.read_block.new.input) c.in_ok-count.count c.loop.block.len _ _ _ c.deref-in-loop.ensures.value c.in_ok-count.ensures.within
+      (omega (arith, c.read_block.auto.block, c.deref_mut.ensures.len, c.in_ok-count.ensures.within)) c.in_ok-count.ensures.bytes) c.in_ok-take_block.ensures.ok;
+  one = c.in_ok-take_block.ensures.one;
+  some = c.loop.invariant.some;
+}
+
+pub returns-clause-err : goal.returns-clause-err
+returns-clause-err g c =
+    gave_first (MayFail g.D.Device.state) c.args.follower.now.system c.loop.follower.system (g.R.Read.remaining c.args.input.now) (g.R.Read.remaining c.loop.input) c.loop.pending.items c.args.follower.now.refused c.loop.follower.refused (g.O.Write.contents c.args.out.now) (g.O.Write.contents c.loop.out)
+    c.loop.invariant.passes

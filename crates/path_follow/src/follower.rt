@@ -1,0 +1,147 @@
+//! One line after the other.
+
+ghost use Rattle.std.specs.Prelude.{◌≡◌, ◌++◌, false, [], IfErr, OnOk};
+ghost use Rattle.std.specs.Io.KnownBytes.{Appends, Keeps};
+ghost use Rattle.path_fields.specs.Splits.{HasNone};
+ghost use Rattle.path_shelf.specs.States.{MayFail};
+ghost use Rattle.path_follow.specs.Inner.Taken.{GoesOn, Passes, Stopped, Takes, Through};
+ghost use Rattle.path_follow.specs.Stops.{IsWriting, UnlessWriting};
+
+use crate::answer::answer;
+use crate::stop::Stop;
+use path_fields::cut;
+use path_lines::{LIMIT, LineFault, fault_at};
+use path_shelf::Device;
+use path_streams::{Fault, Status, tell};
+use path_system::Controller;
+use std::alloc::Allocator;
+use std::io::Write;
+
+/// A system that answers the lines of an input.
+#[derive(Drop)]
+pub struct Follower<D: Device, A: Allocator + Copy> {
+    /// The answer to the present line; its memory serves for the next.
+    told: Vec<u8, A>,
+    /// How many lines there were; stops at 4,294,967,295.
+    number: u32,
+    /// Whether a line was refused.
+    pub refused: bool,
+    /// Last, because a controller keeps its declaration last.
+    pub system: Controller<D, A>,
+}
+
+/// Writes all of an answer, and flushes it.
+fn send<O: Write>(out: &mut O, told: &[u8]) -> Result<(), Stop>
+    ensures ok { OnOk result (Appends (O.contents out.old) (O.contents out.new) told.now) }
+    ensures err { IfErr result (λ stop. IsWriting stop) }
+{
+    if let Err(error) = out.write_all(told) {
+        return Err(Stop::of_writing(&error));
+    }
+    match out.flush() {
+        Ok(()) => Ok(()),
+        Err(error) => Err(Stop::of_writing(&error)),
+    }
+}
+
+/// Tells on `err` that the line of this number, counted from 0, is refused.
+fn refuse<E: Write>(err: &mut E, number: u32, fault: LineFault) -> Result<(), Stop>
+    ensures { IfErr result (λ stop. IsWriting stop) }
+{
+    match tell(err, Fault::Text(fault_at(number, fault))) {
+        Status::StreamFailed => Err(Stop::Quiet),
+        _ => Ok(()),
+    }
+}
+
+impl<D: Device, A: Allocator + Copy> Follower<D, A> {
+    /// A follower of an input of which nothing was read. Allocates nothing.
+    pub fn new(alloc: A, system: Controller<D, A>) -> Follower<D, A>
+        ensures system { result.system ≡ system }
+        ensures none { result.refused ≡ false }
+    {
+        Follower {
+            told: Vec::new(alloc),
+            number: 0,
+            refused: false,
+            system,
+        }
+    }
+
+    /// Answers one line on `out`, or tells on `err` why it is refused.
+    pub fn take_line<O: Write, E: Write>(
+        &mut self,
+        alloc: A,
+        line: &[u8],
+        out: &mut O,
+        err: &mut E,
+    ) -> Result<(), Stop>
+        requires whole { self.old.system.earlier ≡ [] }
+        requires one { HasNone 10 line.now }
+        ensures ok { OnOk result (Takes (MayFail D.state) self.old.system self.new.system line.now self.old.refused self.new.refused
+            (O.contents out.old) (O.contents out.new)) }
+        ensures err { IfErr result (λ stop. UnlessWriting stop (Keeps (O.contents out.old) (O.contents out.new))) }
+    {
+        let number = self.number;
+        self.number = number.saturating_add(1);
+        match answer(alloc, &mut self.system, line, &mut self.told)? {
+            None => send(out, &self.told),
+            Some(fault) => {
+                self.refused = true;
+                refuse(err, number, fault)
+            }
+        }
+    }
+
+    /// Takes each line that a block of the input ends. `pending` is what the input has before the block, from its last line feed on, and
+    /// then what it has behind its last line feed.
+    pub fn take_block<O: Write, E: Write>(
+        &mut self,
+        alloc: A,
+        block: &[u8],
+        pending: &mut Vec<u8, A>,
+        out: &mut O,
+        err: &mut E,
+    ) -> Result<(), Stop>
+        requires whole { self.old.system.earlier ≡ [] }
+        requires one { HasNone 10 pending.old.items }
+        ensures one { OnOk result (HasNone 10 pending.new.items) }
+        ensures ok { OnOk result (Passes (MayFail D.state) self.old.system self.new.system (pending.old.items ++ block.now)
+            pending.new.items self.old.refused self.new.refused (O.contents out.old) (O.contents out.new)) }
+        ensures err { IfErr result (λ stop. UnlessWriting stop (Stopped (MayFail D.state) self.old.system
+            (pending.old.items ++ block.now) self.old.refused (O.contents out.old) (O.contents out.new))) }
+    {
+        let mut rest = block;
+        while let Some((line, after)) = cut(rest, b'\n') {
+            pending.extend_from_slice(line)?;
+            self.take_line(alloc, pending, out, err)?;
+            pending.clear();
+            rest = after;
+        }
+        if pending.len().saturating_add(rest.len()) > LIMIT {
+            return Err(Stop::TooLong);
+        }
+        pending.extend_from_slice(rest)?;
+        Ok(())
+    }
+
+    /// Takes the last line, which no line feed ends, if there is one.
+    pub fn take_last<O: Write, E: Write>(
+        &mut self,
+        alloc: A,
+        line: &[u8],
+        out: &mut O,
+        err: &mut E,
+    ) -> Result<(), Stop>
+        requires whole { self.old.system.earlier ≡ [] }
+        requires one { HasNone 10 line.now }
+        ensures ok { OnOk result (Through (MayFail D.state) self.old.system line.now self.old.refused self.new.refused
+            (O.contents out.old) (O.contents out.new)) }
+        ensures err { IfErr result (λ stop. UnlessWriting stop (Keeps (O.contents out.old) (O.contents out.new))) }
+    {
+        if line.is_empty() {
+            return Ok(());
+        }
+        self.take_line(alloc, line, out, err)
+    }
+}

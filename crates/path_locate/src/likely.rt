@@ -1,0 +1,126 @@
+//! Likely causes that a byte tells.
+
+use crate::places::Spot;
+use std::fmt;
+use std::fmt::Display;
+
+/// A likely cause of a fault.
+#[derive(Clone, Copy, Debug, PartialEq, Eq)]
+pub enum Likely {
+    /// The text begins with the bytes of a byte order mark.
+    ByteOrderMark,
+    /// A carriage return stands there.
+    CarriageReturn,
+    /// A tab stands there.
+    Tab,
+    /// The line is blank.
+    BlankLine,
+    /// A word is written with capitals.
+    UpperCase,
+    /// A number begins with 0.
+    LeadingZero,
+    /// A space stands there.
+    Space,
+    /// The token has a byte past ASCII.
+    PastAscii,
+}
+
+impl Display for Likely {
+    fn fmt<W: fmt::Write>(&self, f: &mut fmt::Formatter<W>) -> fmt::Result {
+        f.write_str(match self {
+            Likely::ByteOrderMark => "the file begins with a byte order mark; save it without one",
+            Likely::CarriageReturn => "a carriage return; save the file with line feeds alone",
+            Likely::Tab => "a tab; write one space",
+            Likely::BlankLine => "a blank line; take it out",
+            Likely::UpperCase => "capital letters; write the word in small ones",
+            Likely::LeadingZero => "a number with a leading zero; write it without",
+            Likely::Space => "a space too many",
+            Likely::PastAscii => "a character that isn't ASCII",
+        })
+    }
+}
+
+/// The words of all the languages that have no capitals.
+const WORDS: &[&str] = &[
+    "start",
+    "use",
+    "finish",
+    "put",
+    "take",
+    "look",
+    "add",
+    "process",
+    "enter",
+    "leave",
+    "end",
+    "resource",
+    "operation",
+    "path",
+    "cell",
+    "tally",
+    "queue",
+    "started",
+    "blocked",
+    "used",
+    "finished",
+    "stale",
+    "empty",
+    "full",
+    "overflow",
+    "journal",
+    "room",
+    "no",
+    "not",
+    "device",
+    "unknown",
+];
+
+/// Whether these bytes are a word of the languages, but for capitals.
+fn is_word_in_capitals(token: &[u8]) -> bool {
+    WORDS.iter().any(|word| word.as_bytes() != token && word.as_bytes().eq_ignore_ascii_case(token))
+}
+
+/// Whether these bytes begin with 0 and a digit.
+fn has_leading_zero(token: &[u8]) -> bool {
+    match token {
+        [b'0', second, ..] => second.is_ascii_digit(),
+        _ => false,
+    }
+}
+
+/// What a token of one byte tells that is white space.
+fn told_by(byte: u8) -> Option<Likely> {
+    match byte {
+        b'\r' => Some(Likely::CarriageReturn),
+        b'\t' => Some(Likely::Tab),
+        b' ' => Some(Likely::Space),
+        _ => None,
+    }
+}
+
+/// The likely cause of a fault at this place, if a byte there tells it. One pass over the line.
+pub fn likely_at(spot: &Spot<'_>) -> Option<Likely> {
+    let rest = spot.text.get(spot.at..).unwrap_or(&[]);
+    let token = rest.get(..spot.width).unwrap_or(rest);
+    if spot.line == 1 && spot.at < 3 && spot.text.starts_with(b"\xef\xbb\xbf") {
+        return Some(Likely::ByteOrderMark);
+    }
+    if has_leading_zero(token) {
+        return Some(Likely::LeadingZero);
+    }
+    if is_word_in_capitals(token) {
+        return Some(Likely::UpperCase);
+    }
+    if !token.is_ascii() {
+        return Some(Likely::PastAscii);
+    }
+    if is_blank(spot.text) {
+        return Some(Likely::BlankLine);
+    }
+    told_by(*rest.first()?)
+}
+
+/// Whether a line has nothing but spaces and tabs.
+fn is_blank(line: &[u8]) -> bool {
+    line.iter().all(|byte| matches!(*byte, b' ' | b'\t'))
+}

@@ -1,0 +1,30 @@
+//! The nearest of some names.
+
+use path_model::OutOfMemory;
+use std::alloc::Allocator;
+use strsim::osa_distance;
+
+/// How many edits two names may be apart to be near: a third of the name's bytes or two, but fewer than it has.
+fn near(name: &str) -> usize {
+    (name.len() / 3).max(2).min(name.len().saturating_sub(1))
+}
+
+/// The first of the names with the fewest edits from this one, if it is near: at most a third of its bytes or two, but fewer than it has.
+/// An edit adds, drops or changes a character, or swaps two neighbours. Fails only if allocation fails. The cost is the product of the
+/// lengths, for each name.
+pub fn nearest<'n, A: Allocator + Copy>(
+    alloc: A,
+    name: &str,
+    names: &[&'n str],
+) -> Result<Option<&'n str>, OutOfMemory> {
+    let mut best = None;
+    let mut edits = near(name).saturating_add(1);
+    for other in names {
+        let apart = osa_distance(alloc, name, *other)?;
+        if apart < edits {
+            edits = apart;
+            best = Some(*other);
+        }
+    }
+    Ok(best)
+}

@@ -1,0 +1,67 @@
+//! What is wrong, in a few words.
+
+use path_lex::DeclFault;
+use path_script::ScriptFault;
+use std::fmt;
+use std::fmt::Display;
+
+/// What is wrong at a place.
+#[derive(Clone, Copy, Debug, PartialEq, Eq)]
+pub enum Wrong {
+    /// The declaration has this fault.
+    Declaration(DeclFault),
+    /// The line has none of the forms.
+    Line,
+    /// The name isn't a declared operation.
+    Undeclared,
+    /// The text is longer than its limit.
+    TooLong,
+    /// The script has this fault.
+    Script(ScriptFault),
+}
+
+/// What is wrong with a declaration.
+fn declaration_words(fault: DeclFault) -> &'static str {
+    match fault {
+        DeclFault::TooLong => "the text has more than 65,536 bytes",
+        DeclFault::BadByte(_) => "no token begins with this",
+        DeclFault::WordTooLong(_) => "this word has more than 32 bytes",
+        DeclFault::NumberTooLong(_) => "this number has more than nine digits",
+        DeclFault::Unexpected(_) => "this can't stand here",
+        DeclFault::TooDeep(_) => "this would be the 33rd open parenthesis or brace",
+        DeclFault::DuplicateResource(_) => "an earlier resource has this name",
+        DeclFault::DuplicateOperation(_) => "an earlier operation has this name",
+        DeclFault::Undeclared(_) => "this isn't an operation of the path's resource",
+        DeclFault::RepeatedName(_) => "this name stands in the path already",
+        DeclFault::NestedBraces(_) => "braces can't stand in braces",
+        DeclFault::BadCapacity(_) => "this is no capacity",
+        DeclFault::BadCount(_) => "this is no bound",
+        DeclFault::TooMany(_) => "this is one more than the limit",
+        DeclFault::OutOfMemory => "out of memory",
+    }
+}
+
+/// What is wrong with a script.
+fn script_words(fault: ScriptFault) -> &'static str {
+    match fault {
+        ScriptFault::TooLong => "the text has more than 262,144 bytes",
+        ScriptFault::BadLine(_) => "this line can't stand here",
+        ScriptFault::Undeclared(_) => "this isn't a declared operation",
+        ScriptFault::Unbalanced(_) => "this doesn't fit what is entered",
+        ScriptFault::TooDeep(_) => "this would be the 17th operation entered at once",
+        ScriptFault::TooMany(_) => "this would be the 17th process or the 4,097th step",
+        ScriptFault::OutOfMemory => "out of memory",
+    }
+}
+
+impl Display for Wrong {
+    fn fmt<W: fmt::Write>(&self, f: &mut fmt::Formatter<W>) -> fmt::Result {
+        f.write_str(match self {
+            Wrong::Declaration(fault) => declaration_words(*fault),
+            Wrong::Line => "this line can't be read",
+            Wrong::Undeclared => "this isn't a declared operation",
+            Wrong::TooLong => "the text has more than 134,217,728 bytes",
+            Wrong::Script(fault) => script_words(*fault),
+        })
+    }
+}

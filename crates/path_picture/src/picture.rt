@@ -1,0 +1,178 @@
+//! From bytes to the picture of a journal.
+
+ghost use Rattle.std.specs.Prelude.{◌≡◌, ◌≢◌, map, IfOk, IfErr, OnOk};
+ghost use Rattle.std.specs.Io.KnownBytes.{Keeps};
+ghost use Rattle.path_model.specs.Rooms.{IsBadRoom};
+ghost use Rattle.path_shelf.specs.Own.{own_state};
+ghost use Rattle.path_streams.specs.Refusals.{IsNoDeclaration};
+ghost use Rattle.path_streams.specs.Statuses.{status_of};
+ghost use Rattle.path_trace.specs.Traces.{own_states, HasAttempts, IsBadTextUnder, LacksRoomUnder};
+ghost use Rattle.path_picture.specs.Pictures.{HasAttemptsUnder, IsUndrawn, IsUndrawnOf};
+ghost use Rattle.path_picture.specs.Pictures.{IsBadJournalUnder, IsJournalUnder, IsUndrawnJournal};
+
+use crate::figure::{LINES, draw};
+use path_decl::Decl;
+use path_journal::read_journal;
+use path_lines::read_attempts;
+use path_model::{Attempt, Line, OutOfMemory};
+use path_read::read;
+use path_shelf::{Device, OwnDevice};
+use path_streams::{Fault, Status, put_text, tell};
+use path_system::Controller;
+use path_trace::read_own;
+use std::alloc::Allocator;
+use std::io::Write;
+
+/// The lines of the first attempts: each with the reply of a system that nothing was attempted before.
+fn lines_of<D: Device, A: Allocator + Copy>(
+    alloc: A,
+    system: &mut Controller<D, A>,
+    attempts: &[(u32, Attempt)],
+) -> Result<Vec<Line, A>, OutOfMemory> {
+    let mut lines = Vec::new(alloc);
+    for (worker, attempt) in attempts.iter().take(LINES) {
+        let reply = system.step(*worker, *attempt);
+        lines.push(Line {
+            worker: *worker,
+            attempt: *attempt,
+            reply,
+        })?;
+    }
+    Ok(lines)
+}
+
+/// The picture of the replies to these attempts.
+fn drawn_of<D: Device, A: Allocator + Copy>(
+    alloc: A,
+    system: &mut Controller<D, A>,
+    attempts: &[(u32, Attempt)],
+) -> Result<String<A>, OutOfMemory> {
+    let lines = lines_of(alloc, system, attempts)?;
+    draw(alloc, system.decl(), &lines, attempts.len())
+}
+
+/// The picture of the replies to the attempts of a text, by a system over the program's own devices.
+fn drawn<A: Allocator + Copy>(
+    alloc: A,
+    decl: Decl<A>,
+    devices: Vec<OwnDevice<A>, A>,
+    room: u32,
+    text: &[u8],
+) -> Result<String<A>, Fault<'static>>
+    requires { map own_state devices.items ≡ own_states decl.declaration }
+    ensures ok { IfOk result (λ _. HasAttempts decl.declaration text.now) }
+    ensures opened { OnOk result (IsBadRoom room → ⊥) }
+    ensures err { IfErr result (λ fault. IsUndrawnOf decl.declaration room text.now (status_of fault)) }
+{
+    let attempts = match read_attempts(alloc, &decl, text) {
+        Ok(attempts) => attempts,
+        Err(fault) => return Err(Fault::Text(fault)),
+    };
+    match Controller::open(alloc, decl, devices, room) {
+        Ok(mut system) => {
+            let text = drawn_of(alloc, &mut system, &attempts);
+            drop(system);
+            Ok(text?)
+        }
+        Err((fault, _)) => Err(Fault::Open(fault)),
+    }
+}
+
+/// The picture of a text of attempts under the declaration in another text.
+fn picture<A: Allocator + Copy>(
+    alloc: A,
+    declaration: &[u8],
+    room: u32,
+    attempts: &[u8],
+) -> Result<String<A>, Fault<'static>>
+    ensures ok { IfOk result (λ _. HasAttemptsUnder declaration.now attempts.now) }
+    ensures opened { OnOk result (IsBadRoom room → ⊥) }
+    ensures err { IfErr result (λ fault. IsUndrawn declaration.now room attempts.now (status_of fault)) }
+{
+    let (decl, devices) = read_own(alloc, declaration)?;
+    drawn(alloc, decl, devices, room, attempts)
+}
+
+/// The picture of a journal's text under the declaration in another text.
+fn journal_picture<A: Allocator + Copy>(
+    alloc: A,
+    declaration: &[u8],
+    journal: &[u8],
+) -> Result<String<A>, Fault<'static>>
+    ensures ok { IfOk result (λ _. IsJournalUnder declaration.now journal.now) }
+    ensures err { IfErr result (λ fault. IsUndrawnJournal declaration.now journal.now (status_of fault)) }
+{
+    let decl = match read(alloc, declaration) {
+        Ok(decl) => decl,
+        Err(fault) => return Err(Fault::Declaration(fault)),
+    };
+    match read_journal(alloc, &decl, journal) {
+        Ok(found) => Ok(draw(alloc, &decl, &found.lines, found.lines.len())?),
+        Err(fault) => Err(Fault::Text(fault)),
+    }
+}
+
+/// Reads a declaration and attempts, and writes the picture of the attempts with their replies ([`draw`]). The devices are
+/// [`OwnDevice`]s: each cell and tally contains 0 at first, each queue is empty, and none fails. The journal has room for
+/// `room` lines; an attempt without room gets the reply `no room`. Writes nothing before both texts have been read.
+///
+/// `DeclarationRefused`: the declaration is refused. `TextRefused`: the attempts are refused. `CommandRefused`: the room is refused.
+/// In these three cases nothing was written. `StreamFailed`: a writer failed, and what it took is unknown. `NoMemory`: allocation
+/// failed, and a front of the picture was written. A fault is one line on `err`.
+pub fn picture_bytes<A: Allocator + Copy, O: Write, E: Write>(
+    alloc: A,
+    declaration: &[u8],
+    room: u32,
+    attempts: &[u8],
+    out: &mut O,
+    err: &mut E,
+) -> Status
+    // The texts are a declaration and a list of attempts.
+    ensures done { result ≡ Status.Done → HasAttemptsUnder declaration.now attempts.now }
+    // Done means that a system can have the room.
+    ensures room { IsBadRoom room → result ≢ Status.Done }
+    // The text isn't a declaration, and nothing was written.
+    ensures undeclared { result ≡ Status.DeclarationRefused
+        → Keeps (O.contents out.old) (O.contents out.new) × IsNoDeclaration declaration.now }
+    // The texts are a declaration and a list of attempts, but no system can have the room; nothing was written.
+    ensures bad_room { result ≡ Status.CommandRefused
+        → Keeps (O.contents out.old) (O.contents out.new) × LacksRoomUnder declaration.now room attempts.now }
+    // The attempts are too long or don't fit the declaration, and nothing was written.
+    ensures refused { result ≡ Status.TextRefused
+        → Keeps (O.contents out.old) (O.contents out.new) × IsBadTextUnder declaration.now attempts.now }
+    ensures statuses { result ≢ Status.Unsound }
+{
+    match picture(alloc, declaration, room, attempts) {
+        Ok(text) => put_text(out, err, text.as_bytes()),
+        Err(fault) => tell(err, fault),
+    }
+}
+
+/// Reads a declaration and a journal, and writes the picture of the journal ([`draw`]), whether or not its replies were owed. Writes
+/// nothing before both texts have been read.
+///
+/// `DeclarationRefused`: the declaration is refused. `TextRefused`: the journal's text is refused. In these two cases nothing was
+/// written. `StreamFailed`: a writer failed, and what it took is unknown. `NoMemory`: allocation failed, and a front of the picture
+/// was written. A fault is one line on `err`.
+pub fn picture_journal_bytes<A: Allocator + Copy, O: Write, E: Write>(
+    alloc: A,
+    declaration: &[u8],
+    journal: &[u8],
+    out: &mut O,
+    err: &mut E,
+) -> Status
+    // The texts are a declaration and a journal.
+    ensures done { result ≡ Status.Done → IsJournalUnder declaration.now journal.now }
+    // The text isn't a declaration, and nothing was written.
+    ensures undeclared { result ≡ Status.DeclarationRefused
+        → Keeps (O.contents out.old) (O.contents out.new) × IsNoDeclaration declaration.now }
+    // The journal's text is too long or isn't a journal, and nothing was written.
+    ensures refused { result ≡ Status.TextRefused
+        → Keeps (O.contents out.old) (O.contents out.new) × IsBadJournalUnder declaration.now journal.now }
+    ensures statuses { (result ≢ Status.CommandRefused) × (result ≢ Status.Unsound) }
+{
+    match journal_picture(alloc, declaration, journal) {
+        Ok(text) => put_text(out, err, text.as_bytes()),
+        Err(fault) => tell(err, fault),
+    }
+}

@@ -1,0 +1,4 @@
+pub mod Threads
+pub mod Own
+pub mod Refused
+pub mod CallerLemmas

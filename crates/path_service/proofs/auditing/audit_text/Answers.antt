@@ -1,0 +1,10 @@
+-- What refuses the journal is told.
+use Rattle.std.proofs.Common.{subst, sym}
+use Rattle.path_service.specs.Verdicts.{IsAuditRefusal}
+use Rattle.path_service.proofs.Refused.{refused}
+use Rattle.path_service.proofs.auditing.audit_text.Goals as goal
+
+pub returns-in-Ok-clause-err : goal.returns-in-Ok-clause-err
+returns-in-Ok-clause-err g c =
+    subst (IsAuditRefusal c.args.declaration.now c.args.room c.args.journal.now) (sym c.refusal.ensures)
+    (refused c.args.declaration.now c.args.room c.args.journal.now c.in-Ok.decl.declaration c.in-Err-verdict_on.fault c.in-Ok.ensures.ok c.in-Err-verdict_on.ensures.err c.in-Err-verdict_on.ensures.text)

@@ -1,0 +1,47 @@
+-- What a service is at its opening, and what a step does.
+use Rattle.std.specs.Prelude.{◌≡◌, ◌≢◌, ◌<◌, ◌≤◌, ℕ, List, [], ◌∷◌, ◌++◌, length, Result, Ok, Err}
+use Rattle.path_model.specs.declared.ids.OpId.{OpId}
+use Rattle.path_model.specs.declared.history.Event.{Event}
+use Rattle.path_model.specs.declared.journal.Attempt.{Attempt}
+use Rattle.path_model.specs.declared.journal.Reply.{Reply}
+use Rattle.path_model.specs.declared.journal.Reply.TheVariants as replies
+use Rattle.path_model.specs.Asked.{resource_asked}
+use Rattle.path_model.specs.declared.history.Event.TheVariants.{Began}
+use Rattle.path_model.specs.Declarations.{Declaration, paths_of}
+use Rattle.path_model.specs.Journals.{with_line}
+use Rattle.path_model.specs.Legal.{First, Forbids, Legal}
+use Rattle.path_model.specs.Rooms.{IsBadRoom}
+use Rattle.path_model.specs.Segments.{OwedBehind, joined}
+use Rattle.path_decl.specs.Text.{IsDeclarationText}
+use Rattle.path_read.specs.Refused.{Refuses}
+use Rattle.path_system.specs.declared.calls.StartRefusal.{StartRefusal}
+use Rattle.path_system.specs.declared.calls.StartRefusal.TheVariants as starts
+use Rattle.path_system.specs.Accounts.{Account, account_of, all_lines, StayBut}
+use Rattle.path_trace.specs.Traces.{own_states}
+use Rattle.path_service.specs.declared.fault.ServiceFault.{ServiceFault}
+use Rattle.path_service.specs.declared.fault.ServiceFault.TheVariants as faults
+
+-- of the declaration in the text, with this room, over new devices, and nothing was attempted
+pub record IsOpened (text : List ℕ) (room : ℕ) (a : Account) : Type 0 where
+  pub declared : IsDeclarationText text a.declaration
+  pub fresh : a ≡ account_of a.declaration room (own_states a.declaration)
+
+-- the text isn't a declaration; or the room is out of range
+abbrev pub IsServiceFault : List ℕ → ℕ → ServiceFault → Type 0
+IsServiceFault text room (faults.Declaration fault) = Refuses text fault
+IsServiceFault text room faults.BadRoom = IsBadRoom room
+IsServiceFault text room faults.OutOfMemory = Unit {0}
+
+-- the reply is owed by all lines before, and the journal gains a line with it if there is room; no device fails
+pub record IsStep (old : Account) (worker : ℕ) (attempt : Attempt) (reply : Reply) (new : Account) : Type 0 where
+  pub owed : OwedBehind old.declaration old.room old.openings (joined old.earlier) old.journal worker attempt reply
+  pub line : new ≡ record old { journal = with_line old.journal worker attempt reply; failures = new.failures }
+  pub failures : StayBut (resource_asked old.declaration (all_lines old) attempt reply) old.failures new.failures
+  pub served : reply ≢ replies.DeviceFailed
+
+-- the operation is declared, and no path forbids its start after the history, or this is the first that does; or it isn't declared
+abbrev pub MayStart : {U : Type 0} → Declaration → List Event → OpId → Result U StartRefusal → Type 0
+MayStart d h op (Ok u) = (op.0 < length d.operations) × Legal (paths_of d) (h ++ Began op ∷ [])
+MayStart d h op (Err (starts.Blocked p)) = (op.0 < length d.operations) × First (Forbids h op) (paths_of d) p.0
+MayStart d h op (Err starts.UnknownOperation) = length d.operations ≤ op.0
+MayStart d h op (Err starts.NoRoom) = ⊥

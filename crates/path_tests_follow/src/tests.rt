@@ -1,0 +1,6 @@
+//! The tests of follows.
+
+mod ends;
+mod failing;
+mod follows;
+mod readers;

@@ -1,0 +1,111 @@
+//! How follows end.
+
+use crate::tests::readers::Pieces;
+use path_follow::follow_bytes;
+use path_streams::Status;
+use std::alloc::{Allocator, Global};
+use std::io::Read;
+use std::process::Abort;
+use test_support::{Refusing, refuse_in_turn};
+
+/// The room of all follows but one.
+pub(crate) const ROOM: u32 = 100;
+
+/// A declaration whose deposits and removals alternate.
+pub(crate) const SLOT: &str =
+    "resource slot cell operation deposit, remove path deposit ; remove end end";
+
+/// How a call ends: its status, its output, and its standard error.
+pub(crate) type Ending<'a> = (Status, &'a str, &'a str);
+
+/// The name of a row, a declaration, a room and an input, and how their follow ends.
+pub(crate) type Row<'a> = (&'a str, (&'a str, u32, &'a str), Ending<'a>);
+
+/// Checks that the call of this name ended as wanted.
+pub(crate) fn check_ending(
+    rt: &impl Abort,
+    name: &str,
+    ended: (Status, &[u8], &[u8]),
+    want: Ending<'_>,
+) {
+    let want = (want.0, want.1.as_bytes(), want.2.as_bytes());
+    assert_eq!(rt; ended, want, "{name}");
+}
+
+/// Checks that a follow of what this reader gives ends so.
+pub(crate) fn check_follow<R: Read>(
+    rt: &impl Abort,
+    heap: Global,
+    declaration: &str,
+    input: &mut R,
+    want: Ending<'_>,
+) {
+    let mut out = Vec::new(heap);
+    let mut err = Vec::new(heap);
+    let status = follow_bytes(
+        heap,
+        declaration.as_bytes(),
+        ROOM,
+        input,
+        &mut out,
+        &mut err,
+    );
+    check_ending(rt, "a follow", (status, &out, &err), want);
+}
+
+// Whether a follow passed, and so ended this way; fails if memory ran out, when whole answers were written.
+fn follows<A: Allocator + Copy>(
+    rt: &impl Abort,
+    alloc: A,
+    heap: Global,
+    row: &Row<'_>,
+    most: usize,
+) -> Result<bool, Status> {
+    let (declaration, room, input) = row.1;
+    let mut input = Pieces::new(input.as_bytes(), most);
+    let mut out = Vec::new(heap);
+    let mut err = Vec::new(heap);
+    let status = follow_bytes(
+        alloc,
+        declaration.as_bytes(),
+        room,
+        &mut input,
+        &mut out,
+        &mut err,
+    );
+    if status == Status::NoMemory {
+        let is_front = row.2.1.as_bytes().starts_with(&out);
+        let is_whole = out.is_empty() || out.ends_with(b"\n");
+        assert!(rt;
+            is_front && is_whole && err.ends_with(b"out of memory\n"),
+            "{}",
+            row.0
+        );
+        return Err(status);
+    }
+    check_ending(rt, row.0, (status, &out, &err), row.2);
+    Ok(true)
+}
+
+// Checks that a follow ends as its row says, in pieces of this many bytes.
+fn check_pieces(rt: &impl Abort, heap: Global, row: &Row<'_>, most: usize) {
+    let passed = follows(rt, heap, heap, row, most);
+    assert!(rt; passed == Ok(true), "{}", row.0);
+}
+
+/// Checks that each follow ends as its row says, whether its input comes a byte at a time, in pieces of 7, or as a whole.
+pub(crate) fn check_all(rt: &impl Abort, heap: Global, rows: &[Row<'_>]) {
+    for row in rows {
+        check_pieces(rt, heap, row, 1);
+        check_pieces(rt, heap, row, 7);
+        check_pieces(rt, heap, row, 1000);
+    }
+}
+
+/// Refuses each request of a follow in turn; then it must end as its row says.
+pub(crate) fn refuse_each_request(rt: &impl Abort, heap: Global, row: &Row<'_>) {
+    let refused = refuse_in_turn(heap, Status::NoMemory, |refusing: &Refusing<Global>| {
+        follows(rt, refusing, heap, row, 7)
+    });
+    assert_eq!(rt; refused, Ok(()));
+}

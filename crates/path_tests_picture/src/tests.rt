@@ -1,0 +1,4 @@
+//! The tests of pictures.
+
+mod pictures;
+mod refusals;

@@ -1,0 +1,347 @@
+/*
+** Wanzoche: path expressions, for C.
+**
+** A declaration says beside a resource in which order its operations may
+** run, as `path deposit ; remove end`. A system of it admits or refuses each
+** start:
+**
+**     wanzoche w = WANZOCHE_CLOSED_HANDLE;
+**     const char *text =
+**         "resource slot cell operation deposit, remove"
+**         " path deposit ; remove end end";
+**     char why[WANZOCHE_MESSAGE];
+**     if (wanzoche_open(&w, text, strlen(text), 4096, why, sizeof why).code
+**         != WANZOCHE_OPENED) { puts(why); exit(1); }
+**     uint32_t deposit = (uint32_t)wanzoche_operation(&w, "deposit", 7);
+**     wanzoche_answer a = wanzoche_start(&w, 1, deposit);
+**     if (a.code == WANZOCHE_STARTED) {
+**         .. the caller's own work ..
+**         wanzoche_finish(&w, 1, a.number);
+**     }
+**     wanzoche_close(&w);
+**
+** Nothing here waits: a start that the paths forbid is answered by
+** WANZOCHE_BLOCKED. To wait until a start is admitted, use
+** wanzoche_monitor.h. What declarations, attempts and journals are is in
+** docs/language.md, docs/attempts.md and docs/journals.md.
+**
+** ANSWERS. Each call that can fail returns a code and a number. No call ends
+** the program or writes to a stream. A bad argument, a null pointer, a closed
+** handle and want of memory are answers.
+**
+** HANDLES. The caller owns the struct `wanzoche`: it may lie on the stack,
+** in a static variable or in a struct of the caller. It is
+** WANZOCHE_CLOSED_HANDLE, or all bytes zero, before it is opened. Only the
+** functions below change it, and no field is read. An open handle may be
+** moved by copying the struct if the old copy isn't used again.
+**
+** THREADS. A handle is for one thread at a time, which need not be the
+** thread that opened it. Calls on one handle are ordered by a lock of the
+** caller, or by the start or the join of a thread. Calls on different
+** handles need no order, nor does wanzoche_audit.
+**
+** FORKS AND SIGNALS. No function is called from a signal handler, nor, in a
+** process with several threads, by the child of a fork before it calls
+** exec. The child of a process with one thread has a copy of the handle,
+** which is its own.
+**
+** MEMORY. A call allocates by the program's malloc, realloc and free, and
+** only these calls do: wanzoche_open, wanzoche_journal, wanzoche_report,
+** wanzoche_declaration and wanzoche_audit. If it gets no memory it answers
+** WANZOCHE_OUT_OF_MEMORY, keeps nothing, and the handle is as it was. A
+** start, a use, a finish and a rotation never lack memory.
+**
+** TEXTS. A text that comes in is a pointer and a length, need not end with a
+** zero byte, and isn't kept. A text that goes out ends with a zero byte,
+** which its length doesn't count. A length or a size says how many bytes
+** there are at the pointer. A buffer lies apart from the texts that come in
+** with it, and from the handle.
+*/
+#ifndef WANZOCHE_H
+#define WANZOCHE_H
+
+#include <stdbool.h>
+#include <stddef.h>
+#include <stdint.h>
+
+#ifdef __cplusplus
+extern "C" {
+#endif
+
+/*
+** A system, or nothing. The fields are private.
+*/
+typedef struct wanzoche {
+    void *at;
+    bool live;
+} wanzoche;
+
+#define WANZOCHE_CLOSED_HANDLE {0, false}
+
+/*
+** What a call answers. The number is 0 where the code says nothing of it.
+*/
+typedef struct wanzoche_answer {
+    uint32_t code;
+    uint64_t number;
+} wanzoche_answer;
+
+/*
+** The codes of answers. They never change their numbers.
+*/
+enum {
+    WANZOCHE_CLOSED = 0,             /* the handle is closed, or null */
+
+    /* Replies to attempts: each takes a line of the journal, but not NO_ROOM */
+    WANZOCHE_STARTED = 1,            /* admitted; number: the activation */
+    WANZOCHE_BLOCKED = 2,            /* number: the first path that forbids it */
+    WANZOCHE_UNKNOWN_OPERATION = 3,  /* no operation has this number */
+    WANZOCHE_USED = 4,               /* number: what the device answered */
+    WANZOCHE_NOT_OFFERED = 5,        /* the device doesn't offer this verb */
+    WANZOCHE_EMPTY = 6,              /* the queue is empty */
+    WANZOCHE_FULL = 7,               /* the queue is full */
+    WANZOCHE_OVERFLOW = 8,           /* the total would be above 2^64 - 1 */
+    WANZOCHE_DEVICE_FAILED = 9,      /* only in texts: no device here fails */
+    WANZOCHE_FINISHED = 10,          /* the activation is over */
+    WANZOCHE_STALE = 11,             /* no live activation has this number */
+    WANZOCHE_NOT_YOURS = 12,         /* the activation is another worker's */
+    WANZOCHE_NO_ROOM = 13,           /* rotate, and try again */
+
+    WANZOCHE_NO_VERB = 14,           /* the verb is none of those below */
+    WANZOCHE_CAN_START = 15,         /* no path forbids a start now */
+    WANZOCHE_ROTATED = 16,           /* the room counts anew */
+    WANZOCHE_WRITTEN = 17,           /* number: the length of the text */
+    WANZOCHE_TOO_SMALL = 18,         /* number: the length of the text */
+    WANZOCHE_OPENED = 19,            /* the handle was opened */
+    WANZOCHE_ALREADY_OPEN = 20,      /* the handle is open, and stays so */
+    WANZOCHE_BAD_ROOM = 21,          /* the room is 0 or above the most */
+    WANZOCHE_OUT_OF_MEMORY = 22,     /* an allocation failed */
+
+    /* Verdicts on a journal, and why it isn't one; number: the line, from 0 */
+    WANZOCHE_SOUND = 23,             /* each reply was owed; no number */
+    WANZOCHE_WRONG_LINE = 24,        /* the first line with a reply not owed */
+    WANZOCHE_JOURNAL_TOO_LONG = 25,  /* above 134,217,728 bytes; no number */
+    WANZOCHE_BAD_LINE = 26,          /* the first line that isn't one */
+    WANZOCHE_UNDECLARED_LINE = 27,   /* it names an operation not declared */
+
+    /* Why a text isn't a declaration; number: where in it, in bytes from 0 */
+    WANZOCHE_TOO_LONG = 32,          /* above 65,536 bytes; no number */
+    WANZOCHE_BAD_BYTE = 33,          /* no word or sign begins with it */
+    WANZOCHE_WORD_TOO_LONG = 34,     /* above 32 bytes */
+    WANZOCHE_NUMBER_TOO_LONG = 35,   /* above 9 digits */
+    WANZOCHE_UNEXPECTED = 36,        /* something else has to stand there */
+    WANZOCHE_TOO_DEEP = 37,          /* it opens the 33rd parenthesis or brace */
+    WANZOCHE_DUPLICATE_RESOURCE = 38,
+    WANZOCHE_DUPLICATE_OPERATION = 39,
+    WANZOCHE_UNDECLARED = 40,        /* not an operation of the resource */
+    WANZOCHE_REPEATED_NAME = 41,     /* the path has this name already */
+    WANZOCHE_NESTED_BRACES = 42,
+    WANZOCHE_BAD_CAPACITY = 43,      /* a queue's: 1 to 1,024 */
+    WANZOCHE_BAD_COUNT = 44,         /* of braces: 1 to 65,535 */
+    WANZOCHE_TOO_MANY = 45           /* resources, operations, paths or names */
+};
+
+/*
+** The verbs of a use. What each device answers to which is in
+** docs/devices.md: a cell has PUT and LOOK, a tally LOOK and ADD, a queue PUT,
+** TAKE and LOOK.
+*/
+enum {
+    WANZOCHE_PUT = 0,  /* puts a number in */
+    WANZOCHE_TAKE = 1, /* takes a number out */
+    WANZOCHE_LOOK = 2, /* looks at a number, which stays */
+    WANZOCHE_ADD = 3   /* adds to the total */
+};
+
+/*
+** The most lines that a journal may have room for, the most operations that a
+** text may declare, and a size that is enough for each message.
+*/
+#define WANZOCHE_MOST_LINES 1048576
+#define WANZOCHE_MOST_OPERATIONS 256
+#define WANZOCHE_MESSAGE 64
+
+/*
+** Open a handle: a system of the declaration in a text, in which nothing has
+** been attempted. Each resource gets a device: a cell or a tally that has 0
+** in it, or an empty queue. A service whose resource is its own declares a
+** cell and leaves it.
+**
+** The room is how many lines the journal takes between two rotations, 1 to
+** WANZOCHE_MOST_LINES. Each attempt that isn't answered by WANZOCHE_NO_ROOM
+** takes one, and room is kept for the finish of each live activation. All
+** memory is taken now: for each line of the room 144 bytes, and for each
+** queue its capacity.
+**
+** WANZOCHE_OPENED       the handle is open
+** WANZOCHE_ALREADY_OPEN the handle was open, and is as it was
+** WANZOCHE_TOO_LONG .. WANZOCHE_TOO_MANY
+**                       the text isn't a declaration; the first fault counts
+** WANZOCHE_BAD_ROOM     the text is a declaration, and the room isn't one
+** WANZOCHE_OUT_OF_MEMORY, WANZOCHE_CLOSED (the handle is null)
+**
+** Unless it answers WANZOCHE_OPENED, the handle is as it was. The message is
+** in words what the answer says, as "unexpected at 8", cut to the size of
+** its buffer, and empty if the handle was opened or is null. If there is no
+** memory to write it, it is "out of memory". It may be null.
+*/
+wanzoche_answer wanzoche_open(wanzoche *handle, const char *text, size_t length,
+                              uint32_t room, char *message, size_t size);
+
+/*
+** Close a handle, and give all its memory back, whatever is live. A handle
+** that is closed or null stays so: a second close does nothing. A closed
+** handle may be opened again.
+*/
+void wanzoche_close(wanzoche *handle);
+
+/*
+** The number of the operation with this name: operations count from 0, in the
+** order of the text. -1 if no operation has it, or the handle is closed.
+** Looks the name up in a table.
+*/
+int64_t wanzoche_operation(wanzoche *handle, const char *name, size_t length);
+
+/*
+** Start an operation for a worker. A worker is a number of the caller's
+** choice: a thread, a connection, a user. It may have any number of live
+** activations.
+**
+** WANZOCHE_STARTED  the operation is in progress; the number is that of its
+**                   activation, which wanzoche_finish gets; they count from 0
+** WANZOCHE_BLOCKED  the number is that of the first path, in the order of the
+**                   text from 0, that forbids the start now; it stays
+**                   forbidden until something finishes
+** WANZOCHE_UNKNOWN_OPERATION, WANZOCHE_CLOSED
+** WANZOCHE_NO_ROOM  the journal hasn't two places left, for this line and its
+**                   finish, or 4,294,967,295 starts were admitted
+*/
+wanzoche_answer wanzoche_start(wanzoche *handle, uint32_t worker,
+                               uint32_t operation);
+
+/*
+** Use the device of the resource whose operation a live activation of the
+** worker is. The number is what PUT puts and ADD adds; other verbs don't look
+** at it.
+**
+** WANZOCHE_USED     the number is the device's answer: of a cell the number
+**                   before, of a tally the total, of a queue the number
+**                   taken or looked at, or how many it has after PUT
+** WANZOCHE_NOT_OFFERED, WANZOCHE_EMPTY, WANZOCHE_FULL, WANZOCHE_OVERFLOW
+**                   nothing changed in the device
+** WANZOCHE_NO_VERB  whatever the handle is; nothing changed
+** WANZOCHE_STALE, WANZOCHE_NOT_YOURS, WANZOCHE_NO_ROOM, WANZOCHE_CLOSED
+*/
+wanzoche_answer wanzoche_use(wanzoche *handle, uint32_t worker,
+                             uint64_t activation, uint32_t verb,
+                             uint64_t number);
+
+/*
+** Finish a live activation of the worker. There is always room for that.
+**
+** WANZOCHE_FINISHED  the activation is over
+** WANZOCHE_STALE     no live activation has this number, as after its finish
+** WANZOCHE_NOT_YOURS another worker has it
+** WANZOCHE_NO_ROOM   it isn't the worker's own live activation, and there is no
+**                    room to say so
+** WANZOCHE_CLOSED
+*/
+wanzoche_answer wanzoche_finish(wanzoche *handle, uint32_t worker,
+                                uint64_t activation);
+
+/*
+** Whether a start of this operation would be admitted now, but for the room.
+** Takes no line of the journal.
+**
+** WANZOCHE_CAN_START, WANZOCHE_BLOCKED, WANZOCHE_UNKNOWN_OPERATION,
+** WANZOCHE_CLOSED
+*/
+wanzoche_answer wanzoche_can_start(wanzoche *handle, uint32_t operation);
+
+/*
+** How many lines the journal has, how many activations are live, and how many
+** places of the room are left beside those of the lines and of the finishes
+** to come: a start needs two, and a use one. 0 if the handle is closed.
+*/
+size_t wanzoche_lines(wanzoche *handle);
+uint32_t wanzoche_live(wanzoche *handle);
+uint32_t wanzoche_room_left(wanzoche *handle);
+
+/*
+** Write the text of the journal, the lines since the last rotation, to a
+** buffer, each with its line feed: docs/journals.md has their form.
+**
+** WANZOCHE_WRITTEN   the text and a zero byte are in the buffer
+** WANZOCHE_TOO_SMALL the text and a zero byte need number + 1 bytes, and the
+**                    buffer is as it was
+** WANZOCHE_OUT_OF_MEMORY, WANZOCHE_CLOSED; the buffer is as it was
+**
+** A null buffer has no bytes. The system is as it was. The cost is that of the
+** text, also if the buffer is too small.
+*/
+wanzoche_answer wanzoche_journal(wanzoche *handle, char *buffer, size_t size);
+
+/*
+** Give the lines so far up, and count the room anew. What is live stays live
+** under its number, and devices keep what they have. To keep a log, take the
+** lines by wanzoche_journal first. Takes constant time and no memory.
+**
+** WANZOCHE_ROTATED, WANZOCHE_CLOSED
+*/
+wanzoche_answer wanzoche_rotate(wanzoche *handle);
+
+/*
+** Write a report to a buffer, with the answers of wanzoche_journal: a line
+** `startable` with the operations that can be started, a line `blocked NAME P`
+** for each other one with the first path that forbids it, a line
+** `live A W NAME` for each live activation with its number and its worker, and
+** `frozen yes` if nothing is live and nothing can ever be started again, or
+** `frozen no`.
+*/
+wanzoche_answer wanzoche_report(wanzoche *handle, char *buffer, size_t size);
+
+/*
+** Write the text of the declaration to a buffer, with the answers of
+** wanzoche_journal: one line with its line feed, the words and signs in their
+** order, with parentheses only where they are needed, and a space between two
+** but none before `,`, `;` and `:`. So path P is what stands between the word
+** `path` with P others before it and the next `end`.
+*/
+wanzoche_answer wanzoche_declaration(wanzoche *handle, char *buffer,
+                                     size_t size);
+
+/*
+** Audit a journal: replay its text under the declaration in another text. It
+** needs no handle, and the log may be any program's. Each cell and tally had 0
+** in it at first, and each queue was empty. If the journal begins with a line
+** `journal 2 room N`, N is its room, and else `room` is.
+**
+** WANZOCHE_SOUND      each reply was owed by the lines before it
+** WANZOCHE_WRONG_LINE the number is that of the first line that wasn't, from
+**                     0, not counting a first line that names the room
+** WANZOCHE_JOURNAL_TOO_LONG, WANZOCHE_BAD_LINE, WANZOCHE_UNDECLARED_LINE
+**                     the text isn't a journal; here a first line that names
+**                     the room counts
+** WANZOCHE_TOO_LONG .. WANZOCHE_TOO_MANY
+**                     the first text isn't a declaration
+** WANZOCHE_BAD_ROOM   the journal names no room, and `room` isn't one
+** WANZOCHE_OUT_OF_MEMORY
+**
+** The message is that of wanzoche_open, behind `declaration: ` or `journal: `
+** if it is of a text, as "journal: bad line 1", and empty after a verdict.
+*/
+wanzoche_answer wanzoche_audit(const char *declaration, size_t length,
+                               uint32_t room, const char *journal,
+                               size_t journal_length, char *message,
+                               size_t size);
+
+/*
+** A code in words, as "blocked"; "no such code" if it is none. The text is
+** constant.
+*/
+const char *wanzoche_words(uint32_t code);
+
+#ifdef __cplusplus
+}
+#endif
+#endif
