@@ -35,6 +35,111 @@ Exit statuses:
   5  a line of the journal is wrong, or not all processes are done
   6  out of memory";
 
+/// What help says of `check` below its options.
+const CHECK_HELP: &str = "\
+Example:
+  pathsys check examples/slot/declaration
+
+Exit statuses:
+  0  done
+  1  the declaration is refused
+  2  the command line is refused
+  3  a file or stream failed
+  6  out of memory
+
+See docs/language.md for declarations.";
+
+/// What help says of `compile` below its options.
+const COMPILE_HELP: &str = "\
+Example:
+  pathsys compile examples/slot/declaration
+
+Exit statuses:
+  0  done
+  1  the declaration is refused
+  2  the command line is refused
+  3  a file or stream failed
+  6  out of memory
+
+See docs/translation.md for how to read them.";
+
+/// What help says of `trace` below its options.
+const TRACE_HELP: &str = "\
+Example:
+  pathsys trace examples/knot/declaration examples/knot/attempts --report
+
+Exit statuses:
+  0  done
+  1  the declaration is refused
+  2  the command line is refused
+  3  a file or stream failed
+  4  the attempts are refused
+  6  out of memory
+
+See docs/language.md for declarations, docs/attempts.md for attempts, replies and reports.";
+
+/// What help says of `follow` below its options.
+const FOLLOW_HELP: &str = "\
+Example:
+  pathsys follow examples/slot/declaration < examples/slot/attempts
+
+Exit statuses:
+  0  done
+  1  the declaration is refused
+  2  the command line is refused
+  3  a file or stream failed
+  4  lines that aren't attempts were told on standard error and skipped
+  6  out of memory
+
+The line ? writes the report. See docs/explaining.md.";
+
+/// What help says of `picture` below its options.
+const PICTURE_HELP: &str = "\
+Example:
+  pathsys picture examples/pool/declaration examples/pool/attempts > pool.svg
+
+Exit statuses:
+  0  done
+  1  the declaration is refused
+  2  the command line is refused
+  3  a file or stream failed
+  4  the attempts or the journal are refused
+  6  out of memory
+
+See docs/picture.md for what is drawn.";
+
+/// What help says of `audit` below its options.
+const AUDIT_HELP: &str = "\
+Example:
+  pathsys audit examples/recorder/declaration examples/recorder/journal examples/recorder/next
+
+Exit statuses:
+  0  done
+  1  the declaration is refused
+  2  the command line is refused
+  3  a file or stream failed
+  4  a file isn't a journal, or names another room than the first
+  5  a line is wrong
+  6  out of memory
+
+See docs/language.md for declarations, docs/journals.md for journals and audits.";
+
+/// What help says of `run` below its options.
+const RUN_HELP: &str = "\
+Example:
+  pathsys run examples/forks/declaration examples/forks/script
+
+Exit statuses:
+  0  done
+  1  the declaration is refused
+  2  the command line is refused
+  3  a file or stream failed
+  4  the script is refused
+  5  not all processes are done
+  6  out of memory
+
+See docs/language.md for declarations, docs/scripts.md for scripts and how processes end.";
+
 /// A required file name.
 fn file<'a>(alloc: Global, id: &'a str, help: &'a str) -> Arg<'a> {
     Arg::new(alloc, id).required(true).help(help)
@@ -64,7 +169,7 @@ fn report<'a>(alloc: Global) -> Arg<'a> {
 fn check<'a>(alloc: Global) -> Result<Command<'a>, AllocError> {
     Command::new(alloc, "check")
         .about("Reads a declaration and prints it")
-        .after_help("See docs/language.md for declarations.")
+        .after_help(CHECK_HELP)
         .arg(file(alloc, "DECL", "the file of the declaration"))
 }
 
@@ -72,7 +177,7 @@ fn check<'a>(alloc: Global) -> Result<Command<'a>, AllocError> {
 fn compile<'a>(alloc: Global) -> Result<Command<'a>, AllocError> {
     Command::new(alloc, "compile")
         .about("Prints the semaphores of a declaration's paths, before and after trimming")
-        .after_help("See docs/translation.md for how to read them.")
+        .after_help(COMPILE_HELP)
         .arg(file(alloc, "DECL", "the file of the declaration"))
 }
 
@@ -80,9 +185,7 @@ fn compile<'a>(alloc: Global) -> Result<Command<'a>, AllocError> {
 fn trace<'a>(alloc: Global) -> Result<Command<'a>, AllocError> {
     Command::new(alloc, "trace")
         .about("Writes each attempt of a file with its reply")
-        .after_help(
-            "See docs/language.md for declarations, docs/attempts.md for attempts, replies and reports.",
-        )
+        .after_help(TRACE_HELP)
         .arg(file(alloc, "DECL", "the file of the declaration"))?
         .arg(file(alloc, "ATTEMPTS", "the file of the attempts"))?
         .arg(room(
@@ -96,10 +199,7 @@ fn trace<'a>(alloc: Global) -> Result<Command<'a>, AllocError> {
 fn follow<'a>(alloc: Global) -> Result<Command<'a>, AllocError> {
     Command::new(alloc, "follow")
         .about("Answers each attempt from standard input before it reads the next")
-        .after_help(
-            "The line ? writes the report. A line that isn't an attempt is told on standard error and skipped; the exit \
-             status is then 4.\nSee docs/explaining.md.",
-        )
+        .after_help(FOLLOW_HELP)
         .arg(file(alloc, "DECL", "the file of the declaration"))?
         .arg(room(
             alloc,
@@ -116,7 +216,7 @@ fn picture<'a>(alloc: Global) -> Result<Command<'a>, AllocError> {
         .help("the file of a journal, in place of attempts");
     Command::new(alloc, "picture")
         .about("Draws attempts with their replies, or a journal, as an SVG: who ran when")
-        .after_help("See docs/picture.md for what is drawn.")
+        .after_help(PICTURE_HELP)
         .arg(file(alloc, "DECL", "the file of the declaration"))?
         .arg(attempts.required_unless_present("journal")?)?
         .arg(journal.conflicts_with("ATTEMPTS")?)?
@@ -130,9 +230,7 @@ fn picture<'a>(alloc: Global) -> Result<Command<'a>, AllocError> {
 fn audit<'a>(alloc: Global) -> Result<Command<'a>, AllocError> {
     Command::new(alloc, "audit")
         .about("Says whether a journal is sound, or names its first wrong line")
-        .after_help(
-            "See docs/language.md for declarations, docs/journals.md for journals and audits.",
-        )
+        .after_help(AUDIT_HELP)
         .arg(file(alloc, "DECL", "the file of the declaration"))?
         .arg(file(
             alloc,
@@ -150,9 +248,7 @@ fn audit<'a>(alloc: Global) -> Result<Command<'a>, AllocError> {
 fn run<'a>(alloc: Global) -> Result<Command<'a>, AllocError> {
     Command::new(alloc, "run")
         .about("Runs the processes of a script, writes the journal and says how each process ended")
-        .after_help(
-            "See docs/language.md for declarations, docs/scripts.md for scripts and how processes end.",
-        )
+        .after_help(RUN_HELP)
         .arg(file(alloc, "DECL", "the file of the declaration"))?
         .arg(file(alloc, "SCRIPT", "the file of the script"))?
         .arg(room(
