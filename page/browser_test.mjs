@@ -1,5 +1,8 @@
 // Drives the page in headless Chromium: node browser_test.mjs PAGE EXAMPLES PICTURES [CHROMIUM]
 // It opens the page from the disk, types, clicks, reads and measures, and writes pictures at three sizes and dark to the folder PICTURES.
+//
+// It waits for what it wants to see, and no fixed time, so that a slow machine makes it late and not wrong. Times are printed, and decide
+// nothing.
 import { spawn } from "node:child_process";
 import { mkdirSync, mkdtempSync, readFileSync, rmSync, writeFileSync } from "node:fs";
 import { tmpdir } from "node:os";
@@ -9,36 +12,90 @@ const [page, examples, pictures, chromium = "chromium"] = process.argv.slice(2);
 mkdirSync(pictures, { recursive: true });
 const profile = mkdtempSync(join(tmpdir(), "page-"));
 
+// Milliseconds until the browser has to have started, answered a command, or shown what is wanted; and what is wanted after a failure.
+const LIMIT = { start: 60000, command: 120000, shown: 60000, after: 3000 };
+const pause = time => new Promise(done => setTimeout(done, time));
+
+// The result of a promise, or an error once the time is up.
+function within(limit, what, promise) {
+  let timer;
+  const late = new Promise((_, refuse) => { timer = setTimeout(() => refuse(new Error(`${what}: nothing in ${limit / 1000} s`)), limit); });
+  return Promise.race([promise, late]).finally(() => clearTimeout(timer));
+}
+
 // ---- the browser, over a pipe
 
-const browser = spawn(chromium, ["--headless=new", "--no-sandbox", "--disable-gpu", "--disable-dev-shm-usage", "--remote-debugging-pipe",
-  `--user-data-dir=${profile}`, "about:blank"], { stdio: ["ignore", "ignore", "ignore", "pipe", "pipe"] });
-for (const signal of ["SIGINT", "SIGTERM"]) process.on(signal, () => { browser.kill(); process.exit(1); });
+let browser;
 const waiting = new Map();
 const complaints = [];
 const requests = [];
+let passed = 0;
+let failed = 0;
 let number = 0;
 let loaded = () => {};
 let session;
+for (const signal of ["SIGINT", "SIGTERM"]) process.on(signal, () => { browser?.kill("SIGKILL"); process.exit(1); });
 
 function heard(message) {
-  if (message.id) return waiting.get(message.id)(message);
+  if (message.id) return waiting.get(message.id)?.(message);
   if (message.method === "Page.loadEventFired") loaded();
   if (message.method === "Network.requestWillBeSent") requests.push(message.params.request.url);
   if (message.method === "Runtime.exceptionThrown" || message.method === "Log.entryAdded") complaints.push(JSON.stringify(message.params).slice(0, 500));
 }
 
-let unread = Buffer.alloc(0);
-browser.stdio[4].on("data", data => {
-  unread = Buffer.concat([unread, data]);
-  for (let end; (end = unread.indexOf(0)) >= 0; unread = unread.subarray(end + 1)) heard(JSON.parse(unread.subarray(0, end)));
-});
+function launch(folder) {
+  browser = spawn(chromium, ["--headless=new", "--no-sandbox", "--disable-gpu", "--disable-dev-shm-usage", "--no-first-run", "--remote-debugging-pipe",
+    `--user-data-dir=${folder}`, "about:blank"], { stdio: ["ignore", "ignore", "ignore", "pipe", "pipe"] });
+  browser.on("error", () => {});
+  for (const stream of browser.stdio.slice(3)) stream.on("error", () => {});
+  browser.gone = new Promise(done => { browser.once("exit", done).once("error", done); });
+  let unread = Buffer.alloc(0);
+  browser.stdio[4].on("data", data => {
+    unread = Buffer.concat([unread, data]);
+    for (let end; (end = unread.indexOf(0)) >= 0; unread = unread.subarray(end + 1)) heard(JSON.parse(unread.subarray(0, end)));
+  });
+}
+
+async function stop() {
+  browser.kill();
+  await within(10000, "the end of the browser", browser.gone).catch(() => browser.kill("SIGKILL"));
+  await within(10000, "the end of the browser", browser.gone).catch(() => {});
+}
+
+// The id of the browser's first tab, as soon as it has one.
+async function firstTab() {
+  for (;;) {
+    const { targetInfos } = await send("Target.getTargets");
+    const tab = targetInfos.find(it => it.type === "page");
+    if (tab) return tab.targetId;
+    await pause(50);
+  }
+}
+
+// Starts the browser, a second time if it doesn't answer.
+async function startBrowser() {
+  for (const attempt of [1, 2]) {
+    launch(join(profile, String(attempt)));
+    const ended = browser.gone.then(() => { throw new Error("the browser ended"); });
+    try {
+      const targetId = await within(LIMIT.start, "the start of the browser", Promise.race([firstTab(), ended]));
+      ended.catch(() => {});
+      ({ sessionId: session } = await send("Target.attachToTarget", { targetId, flatten: true }));
+      return;
+    } catch (error) {
+      console.log(`${chromium}, start ${attempt}: ${error.message}`);
+      await stop();
+      if (attempt === 2) throw error;
+    }
+  }
+}
 
 async function send(method, params = {}) {
   const id = ++number;
   const answer = new Promise(answered => waiting.set(id, answered));
   browser.stdio[3].write(JSON.stringify({ id, method, params, sessionId: session }) + "\0");
-  const { result, error } = await answer;
+  const { result, error } = await within(LIMIT.command, method, answer);
+  waiting.delete(id);
   if (error) throw new Error(`${method}: ${error.message}`);
   return result;
 }
@@ -50,23 +107,41 @@ async function value(expression) {
   return result.value;
 }
 
-const pause = time => new Promise(done => setTimeout(done, time));
+// What `read` gives, once it is as wanted; what it gave last, if that takes too long.
+async function awaited(read, isWanted) {
+  for (const began = Date.now(); ; await pause(25)) {
+    const is = await read();
+    if (isWanted(is) || Date.now() - began > (failed ? LIMIT.after : LIMIT.shown)) return is;
+  }
+}
+
+// Waits until an expression in the page is true.
+async function until(expression) {
+  if (!await awaited(() => value(`Boolean(${expression})`), is => is)) throw new Error(`never true: ${expression}`);
+}
 
 async function visit(url) {
   const load = new Promise(done => { loaded = done; });
   await send("Page.navigate", { url });
-  await load;
-  await pause(300);
+  await within(LIMIT.shown, url, load);
+}
+
+// Opens the page, and waits until it has shown the case of its address.
+async function openPage(hash = "") {
+  await visit("about:blank");
+  await visit("file://" + resolve(page) + hash);
+  await until(`document.getElementById("about").textContent !== ""`);
 }
 
 async function size(width, height, isDark) {
   await send("Emulation.setScrollbarsHidden", { hidden: true });
   await send("Emulation.setDeviceMetricsOverride", { width, height, deviceScaleFactor: 1, mobile: false });
   await send("Emulation.setEmulatedMedia", { features: [{ name: "prefers-color-scheme", value: isDark ? "dark" : "light" }] });
-  await pause(150);
+  await until(`innerWidth === ${width} && matchMedia("(prefers-color-scheme: dark)").matches === ${isDark}`);
 }
 
 async function shoot(name) {
+  await value("new Promise(done => requestAnimationFrame(() => requestAnimationFrame(done)))");
   const { data } = await send("Page.captureScreenshot", { format: "png", captureBeyondViewport: true });
   writeFileSync(join(pictures, name + ".png"), Buffer.from(data, "base64"));
 }
@@ -76,17 +151,15 @@ async function press(key) {
   await send("Input.dispatchKeyEvent", { type: "keyUp", key, code: key });
 }
 
-// Clicks in the middle of an element.
+// Clicks in the middle of an element, as soon as it is there.
 async function click(selector) {
-  const at = await value(`(it => { it.scrollIntoView({ block: "center" }); const r = it.getBoundingClientRect(); return { x: r.x + r.width / 2, y: r.y + r.height / 2 }; })(document.querySelector(${JSON.stringify(selector)}))`);
+  const it = `document.querySelector(${JSON.stringify(selector)})`;
+  await until(it);
+  const at = await value(`(it => { it.scrollIntoView({ block: "center" }); const r = it.getBoundingClientRect(); return { x: r.x + r.width / 2, y: r.y + r.height / 2 }; })(${it})`);
   for (const type of ["mousePressed", "mouseReleased"]) await send("Input.dispatchMouseEvent", { type, ...at, button: "left", clickCount: 1 });
-  await pause(50);
 }
 
 // ---- what the page shows
-
-let passed = 0;
-let failed = 0;
 
 function same(what, is, wanted) {
   if (JSON.stringify(is) === JSON.stringify(wanted)) return passed++;
@@ -94,23 +167,30 @@ function same(what, is, wanted) {
   console.log(`${what}: ${JSON.stringify(is)}, and not ${JSON.stringify(wanted)}`);
 }
 
+// Waits for what is wanted.
+async function shows(what, read, wanted) {
+  same(what, await awaited(read, is => JSON.stringify(is) === JSON.stringify(wanted)), wanted);
+}
+
 const text = id => value(`document.getElementById("${id}").textContent`);
 const field = id => value(`document.getElementById("${id}").value`);
 const replies = () => value(`[...document.querySelectorAll("#attempts-sheet .replies [data-line]")].map(it => it.textContent.replace(/^line \\d+: /, ""))`);
+const lastReply = async () => (await replies()).at(-1);
 const marked = id => value(`[...document.querySelectorAll("#${id}-sheet mark, #${id}-sheet .marks div.fault")].map(it => [it.className, it.textContent])`);
 const choose = name => value(`(it => { it.value = "${name}"; it.dispatchEvent(new Event("change")); })(document.getElementById("example"))`);
 const read = path => readFileSync(join(examples, path), "utf8");
 
 async function typeAtEnd(id, what) {
   await value(`(it => { it.focus(); it.setSelectionRange(it.value.length, it.value.length); })(document.getElementById("${id}"))`);
+  const before = await field(id);
   await send("Input.insertText", { text: what });
-  await pause(100);
+  await until(`document.getElementById("${id}").value === ${JSON.stringify(before + what)}`);
 }
 
 async function write(id, what) {
   await value(`(it => { it.focus(); it.select(); })(document.getElementById("${id}"))`);
   await send("Input.insertText", { text: what });
-  await pause(100);
+  await until(`document.getElementById("${id}").value === ${JSON.stringify(what)}`);
 }
 
 async function testExamples() {
@@ -122,82 +202,80 @@ async function testExamples() {
     if (["service", "till", "recorder"].includes(name)) same(`${name}: verdict`, verdict.startsWith(read(`${name}/verdict`).trim()), true);
   }
   await choose("readers_and_writers");
-  same("report", await text("report"), read("readers_and_writers/report"));
-  same("semaphores", await text("compiled"), read("readers_and_writers/listing"));
+  await shows("report", () => text("report"), read("readers_and_writers/report"));
+  await shows("semaphores", () => text("compiled"), read("readers_and_writers/listing"));
 }
 
 async function testTyping() {
   await choose("slot");
   await typeAtEnd("attempts", "3 start deposit\n");
-  same("a typed attempt is answered", (await replies()).at(-1), "blocked 0");
-  same("why", await text("selected"), "Line 6, 3 start deposit: blocked 0. Path 0 of slot forbids that deposit starts now: deposit; remove.");
-  same("the path is marked", await marked("declaration"), [["path", "path deposit ; remove end"]]);
+  await shows("a typed attempt is answered", lastReply, "blocked 0");
+  await shows("why", () => text("selected"), "Line 6, 3 start deposit: blocked 0. Path 0 of slot forbids that deposit starts now: deposit; remove.");
+  await shows("the path is marked", () => marked("declaration"), [["path", "path deposit ; remove end"]]);
   await typeAtEnd("attempts", "3 start insert\n");
-  same("an undeclared name is said", await text("attempts-said"), "text: undeclared in line 7. 7 attempts: 2 started, 2 blocked, 2 used, 1 finished.");
-  same("and marked", await marked("attempts"), [["fault", "insert"]]);
-  same("no step is offered", await text("steps-said"), "First mend the line that is at fault.");
+  await shows("an undeclared name is said", () => text("attempts-said"), "text: undeclared in line 7. 7 attempts: 2 started, 2 blocked, 2 used, 1 finished.");
+  await shows("and marked", () => marked("attempts"), [["fault", "insert"]]);
+  await shows("no step is offered", () => text("steps-said"), "First mend the line that is at fault.");
   await choose("slot");
   await value(`(it => { it.focus(); it.setSelectionRange(20, 20); })(document.getElementById("attempts"))`);
-  await pause(100);
-  same("the caret's line is explained", await text("selected"), "Line 1, 2 start remove: blocked 0. Path 0 of slot forbids that remove starts now: deposit; remove.");
+  await shows("the caret's line is explained", () => text("selected"), "Line 1, 2 start remove: blocked 0. Path 0 of slot forbids that remove starts now: deposit; remove.");
   await write("declaration", "resource r cell operation a\npath a ; b end end");
-  same("a refused declaration", await text("declaration-said"), "declaration: undeclared at 37 (line 2, column 10)");
-  same("is marked", await marked("declaration"), [["fault", "b"]]);
-  same("nothing is answered", [await replies(), await text("report"), await text("compiled")], [[], "", ""]);
+  await shows("a refused declaration", () => text("declaration-said"), "declaration: undeclared at 37 (line 2, column 10)");
+  await shows("is marked", () => marked("declaration"), [["fault", "b"]]);
+  await shows("nothing is answered", async () => [await replies(), await text("report"), await text("compiled")], [[], "", ""]);
 }
 
 async function testClicking() {
   await choose("slot");
   await write("attempts", "");
-  same("nothing was attempted", await text("attempts-said"), "0 attempts.");
-  same("what can start", await value(`[...document.querySelectorAll("#starts button")].map(it => [it.textContent, it.ariaDisabled])`),
+  await shows("nothing was attempted", () => text("attempts-said"), "0 attempts.");
+  await shows("what can start", () => value(`[...document.querySelectorAll("#starts button")].map(it => [it.textContent, it.ariaDisabled])`),
     [["start deposit", null], ["start remove path 0", "true"]]);
   await click(`#starts [data-key="start remove"]`);
-  same("a forbidden start appends nothing", await field("attempts"), "");
-  same("and says why", await text("steps-said"), "Path 0 of slot forbids that remove starts now: deposit; remove.");
-  same("and marks the path", await marked("declaration"), [["path", "path deposit ; remove end"]]);
+  await shows("a forbidden start says why", () => text("steps-said"), "Path 0 of slot forbids that remove starts now: deposit; remove.");
+  await shows("and appends nothing", () => field("attempts"), "");
+  await shows("and marks the path", () => marked("declaration"), [["path", "path deposit ; remove end"]]);
   await click(`#starts [data-key="start deposit"]`);
   await write("number", "42");
   await click(`#live [data-key="use 0 put"]`);
   await click(`#live [data-key="finish 0"]`);
   await click(`#workers [data-key="worker 2"]`);
+  await until(`document.querySelector("#workers input:checked").value === "2"`);
   await click(`#starts [data-key="start remove"]`);
   await click(`#live [data-key="use 1 look"]`);
-  same("clicked attempts", await field("attempts"), "1 start deposit\n1 use 0 put 42\n1 finish 0\n2 start remove\n2 use 1 look\n");
-  same("their replies", await replies(), ["started 0", "used 0", "finished", "started 1", "used 42"]);
+  await shows("clicked attempts", () => field("attempts"), "1 start deposit\n1 use 0 put 42\n1 finish 0\n2 start remove\n2 use 1 look\n");
+  await shows("their replies", replies, ["started 0", "used 0", "finished", "started 1", "used 42"]);
   await write("number", "18446744073709551616");
   await click(`#live [data-key="use 1 put"]`);
-  same("a number past 64 bits", await text("steps-said"), "The number to put or add is 0 to 18446744073709551615.");
+  await shows("a number past 64 bits", () => text("steps-said"), "The number to put or add is 0 to 18446744073709551615.");
   await value(`document.querySelector('#live [data-key="finish 1"]').focus()`);
   await press("Enter");
-  same("a key finishes", (await replies()).at(-1), "finished");
-  same("the focus stays in reach", await value(`document.activeElement !== document.body || document.querySelector("#live").children.length === 0`), true);
+  await shows("a key finishes", lastReply, "finished");
+  await shows("the focus stays in reach", () => value(`document.activeElement !== document.body || document.querySelector("#live").children.length === 0`), true);
   await choose("knot");
-  same("a frozen system", await text("steps-said"), "Nothing is live and nothing can start: nothing is ever admitted again.");
+  await shows("a frozen system", () => text("steps-said"), "Nothing is live and nothing can start: nothing is ever admitted again.");
 }
 
 async function testAudit() {
   await choose("till");
-  same("the wrong line", await text("journal-said"), "wrong line 3: 2 use 1 add 120: used 620");
-  same("is marked", await value(`[...document.querySelector("#journal-sheet .marks .rows").children].findIndex(it => it.className === "fault")`), 3);
+  await shows("the wrong line", () => text("journal-said"), "wrong line 3: 2 use 1 add 120: used 620");
+  await shows("is marked", () => value(`[...document.querySelector("#journal-sheet .marks .rows").children].findIndex(it => it.className === "fault")`), 3);
   await choose("slot");
   await value(`document.getElementById("audit").open = true`);
   await click("#audit-trace");
-  same("the trace is sound", await text("journal-said"), "sound");
+  await shows("the trace is sound", () => text("journal-said"), "sound");
 }
 
 async function testAddress() {
   await choose("pool");
-  await pause(500);
-  same("an example in the address", await value("location.hash"), "#example=pool");
+  await shows("an example in the address", () => value("location.hash"), "#example=pool");
   await typeAtEnd("attempts", "9 start backup\n");
-  await pause(500);
+  await until(`location.hash.includes("backup")`);
   const hash = await value("location.hash");
   const shown = [await field("declaration"), await field("attempts")];
-  await visit("about:blank");
-  await visit("file://" + resolve(page) + hash);
-  same("a case comes back from its address", [await field("declaration"), await field("attempts")], shown);
-  same("and is answered", (await replies()).at(-1).startsWith("blocked"), true);
+  await openPage(hash);
+  await shows("a case comes back from its address", async () => [await field("declaration"), await field("attempts")], shown);
+  await shows("and is answered", async () => (await lastReply()).startsWith("blocked"), true);
 }
 
 async function testPicture() {
@@ -207,55 +285,72 @@ async function testPicture() {
   same("a bar for each start", runs, trace.match(/: started/g).length);
   same("a tick for each refused start", ticks, trace.match(/: blocked/g).length);
   same("in words", (await value(`[...document.querySelectorAll("#spoken li")].map(it => it.textContent)`))[0], "Worker 0: eat0 in lines 0 to 5.");
-  same("its file", await value(`new DOMParser().parseFromString(pictureFile(picture).replace(/<style>[^]*<.style>/, ""), "image/svg+xml").querySelector("parsererror") === null`), true);
+  await shows("its file", () => value(`new DOMParser().parseFromString(pictureFile(), "image/svg+xml").querySelector("parsererror") === null`), true);
 }
 
 const MANY = `Array.from({ length: 10000 }, (_, i) => i % 2 ? (i % 7) + " finish " + (i - 1) / 2 : ((i + 1) % 7) + (i % 4 ? " start remove" : " start deposit")).join("\\n") + "\\n"`;
 
-// Times keystrokes, each with all that follows from it and the layout, by the clock and in time of the page's thread.
-async function measureKeystrokes() {
-  const spent = async () => Object.fromEntries((await send("Performance.getMetrics")).metrics.map(it => [it.name, it.value * 1000])).TaskDuration;
-  await send("Performance.enable", { timeDomain: "threadTicks" });
-  const times = [];
-  const threads = [];
-  for (let i = 0; i < 15; i++) {
-    const before = await spent();
-    times.push(await value(`(began => {
-      document.getElementById("attempts").focus();
-      document.execCommand("insertText", false, ${JSON.stringify(i % 2 ? "\n" : "1 start deposit")});
-      document.body.getBoundingClientRect();
-      return performance.now() - began;
-    })(performance.now())`));
-    threads.push(await spent() - before);
+const sorted = times => [...times].sort((a, b) => a - b);
+const inShort = times => `${sorted(times)[0].toFixed(1)} ms at least, ${sorted(times)[times.length >> 1].toFixed(1)} by the median`;
+
+// The time of a keystroke in a text area, with all that follows from it at once, and the layout.
+const keystroke = (id, what) => value(`(began => {
+  document.getElementById("${id}").focus();
+  document.execCommand("insertText", false, ${JSON.stringify(what)});
+  document.body.getBoundingClientRect();
+  return performance.now() - began;
+})(performance.now())`);
+
+// Times keystrokes at the end of a text area, of three kinds.
+async function keystrokes(id) {
+  const times = { "a letter": [], "an attempt in an empty line": [], "a line feed": [] };
+  for (let i = 0; i < 20; i++) {
+    times["an attempt in an empty line"].push(await keystroke(id, "1 start deposit"));
+    times["a line feed"].push(await keystroke(id, "\n"));
   }
-  const rest = await value("(began => { showRest(); document.body.getBoundingClientRect(); return performance.now() - began; })(performance.now())");
-  console.log(`what follows the last keystroke, by the clock: ${rest.toFixed(1)} ms`);
-  for (const [what, all] of [["by the clock", times], ["of the page's thread", threads]]) {
-    all.sort((a, b) => a - b);
-    console.log(`a keystroke in a text of 10,000 attempts, ${what}: ${all[0].toFixed(1)} ms at least, ${all[7].toFixed(1)} by the median`);
-  }
+  await keystroke(id, "1 ");
+  for (const letter of "start deposit, and then some more letters") times["a letter"].push(await keystroke(id, letter));
+  return times;
+}
+
+// Prints what a keystroke in the page takes, and what it takes in a text area alone, where nothing listens.
+async function measureKeystrokes(inPage) {
+  await visit("about:blank");
+  await value(`document.body.innerHTML = '<textarea id="alone" wrap="off" spellcheck="false" style="width: 18rem; height: 19rem"></textarea>'`);
+  await value(`(it => { it.value = ${MANY}; it.setSelectionRange(it.value.length, it.value.length); it.scrollTop = it.scrollHeight; })(document.getElementById("alone"))`);
+  const alone = await keystrokes("alone");
+  console.log("keystrokes in a text of 10,000 attempts");
+  for (const kind in alone) console.log(`${kind}: ${inShort(inPage[kind])}; in a text area alone ${inShort(alone[kind])}`);
 }
 
 async function testMany() {
   await choose("slot");
   await value(`(it => { it.value = ${MANY}; it.setSelectionRange(it.value.length, it.value.length); it.scrollTop = it.scrollHeight; it.dispatchEvent(new Event("input")); })(document.getElementById("attempts"))`);
-  await pause(500);
+  await shows("the last reply", lastReply, "finished");
+  await shows("the counts", () => text("attempts-said"), "10000 attempts: 5000 started, 5000 finished.");
   const rows = await value(`document.querySelectorAll("#attempts-sheet .replies .rows > div").length`);
   same("only what is in view is drawn", rows < 200, true);
-  same("the last reply", (await replies()).at(-1), "finished");
-  await measureKeystrokes();
+  const inPage = await keystrokes("attempts");
+  const rest = await value("(began => { showRest(); document.body.getBoundingClientRect(); return performance.now() - began; })(performance.now())");
+  console.log(`what follows the last keystroke: ${rest.toFixed(1)} ms`);
   await shoot("large");
   await value(`document.getElementById("attempts").scrollTop = 5000 * attemptsSheet.row`);
-  await pause(200);
-  same("scrolled, the middle is drawn", await value(`document.querySelector('#attempts-sheet .replies [data-line="5005"]')?.textContent`), "line 5005: finished");
+  await shows("scrolled, the middle is drawn", () => value(`document.querySelector('#attempts-sheet .replies [data-line="5005"]')?.textContent`), "line 5005: finished");
+  await value(`(it => { const at = attemptsSheet.lines.starts[5005]; it.focus(); it.setSelectionRange(at, at); })(document.getElementById("attempts"))`);
+  await send("Input.insertText", { text: "1 start deposit\n" });
+  await until(`attemptsSheet.lines.at(5005) === "1 start deposit"`);
+  await shows("what is drawn is what was answered", () => value(`(({ first, last, numbers, replies }) =>
+    [...numbers.element.children].map(it => it.textContent).join() === Array.from({ length: last - first }, (_, i) => first + i).join()
+    && [...replies.element.children].every((it, i) => it.textContent === "line " + (first + i) + ": " + answered.entry(first + i)?.reply))(attemptsSheet)`), true);
+  await measureKeystrokes(inPage);
+  await openPage();
 }
 
 try {
-  const { targetInfos } = await send("Target.getTargets");
-  ({ sessionId: session } = await send("Target.attachToTarget", { targetId: targetInfos.find(it => it.type === "page").targetId, flatten: true }));
+  await startBrowser();
   for (const domain of ["Page", "Runtime", "Log", "Network"]) await send(domain + ".enable");
   await size(1280, 1100, false);
-  await visit("file://" + resolve(page));
+  await openPage();
   console.log((await text("about")).split(". ")[0]);
   for (const test of [testExamples, testTyping, testClicking, testAudit, testAddress, testPicture, testMany]) await test();
   await choose("philosophers");
@@ -266,17 +361,22 @@ try {
   await size(390, 1100, false);
   await choose("pool");
   await shoot("narrow");
-  same("nothing is wider than a narrow window", await value("document.documentElement.scrollWidth <= 390"), true);
+  await shows("nothing is wider than a narrow window", () => value("document.documentElement.scrollWidth <= 390"), true);
   await size(1280, 1100, true);
   await choose("till");
   await shoot("dark");
   same("requests", requests.filter(it => !it.startsWith("file:") && !it.startsWith("about:")), []);
   same("complaints", complaints, []);
+} catch (error) {
+  failed++;
+  console.log(error.stack);
 } finally {
-  const gone = new Promise(done => browser.on("exit", done));
-  browser.kill();
-  await gone;
-  rmSync(profile, { recursive: true, force: true, maxRetries: 5, retryDelay: 200 });
+  await stop();
+  try {
+    rmSync(profile, { recursive: true, force: true, maxRetries: 10, retryDelay: 200 });
+  } catch (error) {
+    console.log(`${profile} is left: ${error.message}`);
+  }
 }
 console.log(`${passed} passed, ${failed} failed`);
-process.exitCode = failed ? 1 : 0;
+process.exit(failed ? 1 : 0);

@@ -95,7 +95,12 @@ function callsOf(module) {
 
   const MEBIBYTE = 2 ** 20;
   // Two lines of room for each attempt, so that none lacks room.
-  const roomFor = attempts => Math.min(MOST_LINES, 2 * attempts.split("\n").length);
+  function roomFor(attempts) {
+    let lines = 1;
+    for (let end = attempts.indexOf("\n"); end >= 0; end = attempts.indexOf("\n", end + 1)) lines++;
+    return Math.min(MOST_LINES, 2 * lines);
+  }
+
   return {
     call,
     // The attempts with their replies, and the report behind them if it is asked for.
@@ -107,5 +112,8 @@ function callsOf(module) {
     compile: declaration => call("compile", [declaration], 16 * declaration.length + PAGE, MEBIBYTE),
     // Whether a journal is sound, in the room that it names, else in this one.
     audit: (declaration, journal, room = MOST_LINES) => call("audit", [declaration, room, journal], 256, MEBIBYTE + 8 * journal.length),
+    // The attempts as an SVG.
+    picture: (declaration, attempts, room = roomFor(attempts)) =>
+      call("picture", [declaration, room, attempts], 32 * attempts.length + PAGE, MEBIBYTE + 64 * attempts.length),
   };
 }

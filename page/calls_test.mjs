@@ -7,7 +7,7 @@ import { existsSync, readdirSync, readFileSync } from "node:fs";
 const [file, examples] = process.argv.slice(2);
 const page = readFileSync(file, "utf8");
 const element = id => new RegExp(`<script id="${id}"[^>]*>([^]*?)</script>`).exec(page)[1];
-const names = "{ callsOf, callOnce, answersTo, verdictOn, declaredIn, reportIn, pathPlaces, lanesOf, pictureFile, linesOf }";
+const names = "{ callsOf, callOnce, answersTo, verdictOn, declaredIn, pathPlaces, lanesOf, Lines }";
 const code = ["calls-code", "texts-code", "lanes-code"].map(element).join("\n");
 const its = new Function(`${code}\nreturn ${names};`)();
 const module = await WebAssembly.compile(Buffer.from(element("module"), "base64"));
@@ -30,7 +30,7 @@ function same(what, is, wanted) {
 
 same("imports", WebAssembly.Module.imports(module), []);
 const exported = WebAssembly.Module.exports(module).map(it => it.name).sort();
-same("exports", exported, ["__heap_base", "memory", "path_page_audit", "path_page_check", "path_page_compile", "path_page_trace"]);
+same("exports", exported, ["__heap_base", "memory", ...["audit", "check", "compile", "picture", "trace"].map(it => "path_page_" + it)]);
 
 // ---- the examples
 
@@ -47,9 +47,10 @@ for (const name of readdirSync(examples)) {
     same(`${name}: audit of its trace`, calls.audit(declaration, trace), done("sound\n"));
     const answered = its.answersTo(calls, declaration, attempts);
     same(`${name}: entries`, answered.entries.map(it => `${it.line}: ${it.reply}\n`).join(""), trace);
-    same(`${name}: lanes`, its.pictureFile(its.lanesOf(answered.entries)).startsWith("<svg "), true);
+    same(`${name}: lanes`, its.lanesOf(answered.entries).lines, answered.entries.length);
     same(`${name}: paths`, its.pathPlaces(declaration).length, its.declaredIn(read("printed")).paths.length);
   }
+  if (read("picture.svg") !== null) same(`${name}: picture`, calls.picture(declaration, attempts), done(read("picture.svg")));
   if (report !== null) same(`${name}: report`, calls.trace(declaration, attempts, true), done(trace + report));
   if (read("verdict") !== null) {
     const verdict = read("verdict");
@@ -67,10 +68,19 @@ same("an empty text", calls.check(""), refused(1, "declaration: unexpected at 0"
 same("a text past ASCII", calls.check("resource é"), refused(1, "declaration: bad byte at 9"));
 same("no room", calls.trace(SLOT, "", false, 0), refused(2, "open: bad room"));
 same("a bad line", calls.trace(SLOT, "1 start deposit\n1 strat", false), refused(4, "text: bad line 1"));
+same("a picture of a bad line", calls.picture(SLOT, "1 strat"), refused(4, "text: bad line 0"));
 same("a wrong line", calls.audit(SLOT, "1 start remove: started 0\n"), { status: 5, out: "wrong line 0\n", err: "" });
 const half = its.answersTo(calls, SLOT, "1 start deposit\n1 start insert\n");
 same("lines before a fault are answered", [half.entries.map(it => it.reply), half.fault],
   [["started 0"], { says: "text: undeclared in line 1", line: 1, name: "insert" }]);
+const typed = its.answersTo(calls, SLOT, "1 start deposit\n2 sta", its.answersTo(calls, SLOT, "1 start deposit\n"));
+same("while a line is typed", [typed.entries.map(it => it.reply), typed.fault.says, typed.report.blocked.get("deposit")], [["started 0"], "text: bad line 1", 0]);
+for (const text of ["", "\n", "a", "a\n", "a\n\nbc"]) {
+  const lines = new its.Lines(text);
+  same("lines", Array.from({ length: lines.length }, (_, i) => lines.at(i)), text.split("\n"));
+  same("lines that are counted", lines.counted, text.split("\n").length - (text === "" || text.endsWith("\n") ? 1 : 0));
+  same("lines of places", Array.from({ length: text.length + 1 }, (_, i) => lines.lineOf(i)), Array.from({ length: text.length + 1 }, (_, i) => text.slice(0, i).split("\n").length - 1));
+}
 same("a wrong line behind a head", its.verdictOn(calls, SLOT, "journal 2 room 9\n1 start remove: started 0\n").line, 1);
 
 // ---- buffers and memory

@@ -94,20 +94,6 @@ function labels(picture, window) {
     .join("");
 }
 
-const PICTURE_STYLE = `svg{font:12px ui-monospace,Menlo,Consolas,"DejaVu Sans Mono",monospace;background:#fbfaf7}text{fill:#1d2228}.lane{stroke:#d9d6ce}
-.bar{fill:#2f6f8f}.bar.live{fill:#a9c6d4}.name{fill:#fff}.name.live{fill:#1d2228}.tick{stroke:#b3261e;stroke-width:2}.path{fill:#b3261e;font-weight:600}.use{fill:#fff}
-.axis{fill:#5f6771;font-size:10px}`;
-
-// The whole picture as a file of its own.
-function pictureFile(picture) {
-  const step = stepFor(picture.lines);
-  const width = LANE.label + picture.lines * step + 2 * LANE.margin;
-  const all = { from: 0, to: picture.lines + 1, top: 0, bottom: picture.height };
-  return `<svg xmlns="http://www.w3.org/2000/svg" width="${width}" height="${picture.height}" viewBox="0 0 ${width} ${picture.height}" role="img">`
-    + `<title>${escaped(summaryOf(picture))}</title><style>${PICTURE_STYLE}</style>${labels(picture, all)}`
-    + `<g transform="translate(${LANE.label} 0)">${drawn(picture, step, all)}</g></svg>\n`;
-}
-
 // The picture in one sentence.
 function summaryOf(picture) {
   const live = picture.runs.filter(run => run.to === Infinity).length;

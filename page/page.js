@@ -5,6 +5,8 @@ const $ = id => document.getElementById(id);
 
 // Up to so many lines all are drawn; of more, only those in view.
 const MOST_DRAWN = 2000;
+// Then so many lines come into view, or go, at a time.
+const STEP_DRAWN = 20;
 // Of long lists beside the texts, so many are shown.
 const MOST_LISTED = 100;
 // A longer case isn't put into the address.
@@ -28,14 +30,56 @@ function viewOf({ scrollTop, scrollLeft, clientWidth, clientHeight }) {
   return { scrollTop, scrollLeft, clientWidth, clientHeight };
 }
 
+// A column of rows, beside a text area or under it. What is as before, above and below, isn't touched.
+class Column {
+  constructor(element) {
+    this.element = element;
+    this.rows = [];
+  }
+
+  // Shows these rows, each the text of one element, below as much room as `padding` says.
+  show(rows, padding) {
+    const { element, rows: before } = this;
+    const most = Math.min(rows.length, before.length);
+    let above = 0;
+    while (above < most && rows[above] === before[above]) above++;
+    let below = 0;
+    while (below < most - above && rows[rows.length - 1 - below] === before[before.length - 1 - below]) below++;
+    this.rows = rows;
+    this.replace(above, before.length - below, rows.slice(above, rows.length - below).join(""));
+    if (padding !== this.padding) element.style.paddingTop = this.padding = padding;
+  }
+
+  // Puts other rows in the place of [from, to).
+  replace(from, to, html) {
+    const { element } = this;
+    const rows = element.children;
+    if (from === 0 && to === rows.length) {
+      if (html || to) element.innerHTML = html;
+      return;
+    }
+    for (let row = to - 1; row >= from; row--) rows[row].remove();
+    if (!html) return;
+    if (from < rows.length) rows[from].insertAdjacentHTML("beforebegin", html);
+    else element.insertAdjacentHTML("beforeend", html);
+  }
+
+  place(x, y) {
+    this.element.style.transform = `translate(${-x}px, ${-y}px)`;
+  }
+}
+
 class Sheet {
   constructor(id) {
     this.area = $(id);
-    const root = $(id + "-sheet");
-    this.numbers = root.querySelector(".numbers .rows");
-    this.marks = root.querySelector(".marks .rows");
-    this.replies = root.querySelector(".replies .rows");
-    this.lines = [];
+    const column = name => {
+      const element = $(id + "-sheet").querySelector(`.${name} .rows`);
+      return element && new Column(element);
+    };
+    this.numbers = column("numbers");
+    this.marks = column("marks");
+    this.replies = column("replies");
+    this.lines = new Lines("");
     this.marked = new Map();
     this.reply = () => undefined;
     this.first = this.last = 0;
@@ -53,27 +97,31 @@ class Sheet {
   }
 
   draw() {
-    const isLong = this.lines.length > MOST_DRAWN;
-    const seen = this.inView();
-    const first = isLong ? Math.max(0, seen.first - 20) : 0;
-    const last = isLong ? Math.min(this.lines.length, seen.last + 20) : this.lines.length;
-    Object.assign(this, { first, last });
-    const rows = f => this.lines.slice(first, last).map((line, i) => f(line, first + i)).join("");
+    Object.assign(this, this.toDraw());
+    const { first, last, marked } = this;
     const padding = `calc(.6rem + ${first * this.row}px)`;
-    const fill = (element, html) => {
-      if (!element) return;
-      element.style.paddingTop = padding;
-      element.innerHTML = html;
-    };
-    fill(this.numbers, rows((line, i) => `<div>${i}</div>`));
-    fill(this.marks, rows((line, i) => this.markedRow(line, this.marked.get(i))));
-    fill(this.replies, rows((line, i) => this.repliedRow(this.reply(i), i)));
+    const fill = (column, row) => column?.show(Array.from({ length: last - first }, (_, i) => row(first + i)), padding);
+    fill(this.numbers, i => `<div>${i}</div>`);
+    fill(this.marks, i => this.markedRow(i, marked.get(i)));
+    fill(this.replies, i => this.repliedRow(i, this.reply(i)));
     this.place();
   }
 
-  markedRow(line, marks) {
+  // The lines to draw, [first, last).
+  toDraw() {
+    const { length } = this.lines;
+    if (length <= MOST_DRAWN) return { first: 0, last: length };
+    const { first, last } = this.inView();
+    return {
+      first: Math.max(0, Math.floor(first / STEP_DRAWN - 1) * STEP_DRAWN),
+      last: Math.min(length, Math.ceil(last / STEP_DRAWN + 1) * STEP_DRAWN),
+    };
+  }
+
+  markedRow(i, marks) {
     if (marks === undefined) return "<div></div>";
     if (typeof marks === "string") return `<div class="${marks}"> </div>`;
+    const line = this.lines.at(i);
     let at = 0;
     const pieces = marks.map(({ from, to, kind }) => {
       const before = line.slice(at, from);
@@ -83,7 +131,7 @@ class Sheet {
     return `<div>${pieces.join("")}</div>`;
   }
 
-  repliedRow(reply, i) {
+  repliedRow(i, reply) {
     if (reply === undefined) return "<div></div>";
     return `<div data-line="${i}" class="${reply.kind}${i === this.at ? " at" : ""}"><span class="spoken">line ${i}: </span>${escaped(reply.text)}</div>`;
   }
@@ -105,37 +153,31 @@ class Sheet {
 
   place() {
     const { scrollTop, scrollLeft } = this.view;
-    for (const rows of [this.numbers, this.replies]) if (rows) rows.style.transform = `translateY(${-scrollTop}px)`;
-    this.marks.style.transform = `translate(${-scrollLeft}px, ${-scrollTop}px)`;
+    this.numbers?.place(0, scrollTop);
+    this.replies?.place(0, scrollTop);
+    this.marks.place(scrollLeft, scrollTop);
   }
 
   // The line of the caret.
   caretLine() {
-    const caret = this.area.selectionStart;
-    let line = 0;
-    for (let end = this.lines[0]?.length; end < caret && line < this.lines.length - 1; end += this.lines[line].length + 1) line++;
-    return line;
+    return this.lines.lineOf(this.area.selectionStart);
   }
 
   // Puts the caret at the end of a line.
   select(line) {
-    const at = this.lines.slice(0, line + 1).join("\n").length;
+    const at = this.lines.endOf(line);
     this.area.setSelectionRange(at, at);
   }
 }
 
-// Marks [from, to) of a text, cut into its lines.
-function markInto(marked, text, from, to, kind) {
-  let start = 0;
-  text.split("\n").forEach((line, i) => {
-    const end = start + line.length;
-    const isIn = from <= end && to > start;
-    if (isIn && (to > from)) {
-      const piece = { from: Math.max(0, from - start), to: Math.min(line.length, to - start), kind };
-      if (piece.to > piece.from || from >= end) marked.set(i, [...(marked.get(i) ?? []), piece]);
-    }
-    start = end + 1;
-  });
+// Marks [from, to) of a text in each of its lines.
+function markInto(marked, lines, from, to, kind) {
+  for (let i = lines.lineOf(from); i < lines.length && lines.starts[i] < to; i++) {
+    const start = lines.starts[i];
+    const end = lines.endOf(i);
+    const piece = { from: Math.max(0, from - start), to: Math.min(end, to) - start, kind };
+    if (piece.to > piece.from || from >= end) marked.set(i, [...(marked.get(i) ?? []), piece]);
+  }
 }
 
 // ---- the case
@@ -144,8 +186,8 @@ const examples = JSON.parse($("examples").textContent);
 let calls = null;
 let declarationSheet, attemptsSheet, journalSheet;
 // What was read of the declaration's text, and of the attempts under it.
-let declared = { text: null, isRead: false, operations: [], paths: [], fault: null };
-let answered = { text: "", entries: [], report: reportIn(""), reportText: "", fault: null };
+let declared = { text: null, lines: new Lines(""), isRead: false, operations: [], paths: [], fault: null };
+let answered = new Answers("", new Lines(""), 0, "", null);
 let picture = lanesOf([]);
 // The path that is marked, by a selected attempt or by a start that it forbids.
 let forbidding = null;
@@ -155,10 +197,10 @@ function readDeclaration() {
   if (text === declared.text) return;
   const read = calls.check(text);
   if (read.status === 0) {
-    declared = { text, isRead: true, fault: null, ...declaredIn(read.out) };
+    declared = { text, lines: new Lines(text), isRead: true, fault: null, ...declaredIn(read.out) };
     showLong($("compiled"), calls.compile(text).out);
   } else {
-    declared = { text, isRead: false, operations: [], paths: [], fault: declarationFault(text, read.err || STATUSES[read.status]) };
+    declared = { text, lines: new Lines(text), isRead: false, operations: [], paths: [], fault: declarationFault(text, read.err || STATUSES[read.status]) };
     $("compiled").textContent = "";
   }
   $("declaration-said").innerHTML = declared.isRead
@@ -175,58 +217,62 @@ function showLong(element, text) {
 
 function readAttempts() {
   const text = $("attempts").value;
-  const read = declared.isRead ? answersTo(calls, declared.text, text) : { entries: [], report: "", fault: null };
-  answered = { text, entries: read.entries, reportText: read.report, report: reportIn(read.report), fault: read.fault };
+  answered = declared.isRead ? answersTo(calls, declared.text, text, answered) : new Answers("", new Lines(text), 0, "", null);
 }
 
 // The attempt that is explained: that of the caret's line, else the last one.
 function selectedLine() {
   const line = attemptsSheet.caretLine();
-  return line < answered.entries.length ? line : answered.entries.length - 1;
+  return Math.min(line, answered.length - 1);
 }
 
 const REPLY_KINDS = { started: "yes", finished: "yes", used: "", blocked: "no" };
 
 // The reply to a line, as it is shown.
 function replyTo(line) {
-  const { entries, fault } = answered;
+  const { fault } = answered;
   if (line === fault?.line) return { text: fault.name ? "undeclared" : "bad line", kind: "no" };
-  return entries[line] && { text: entries[line].reply, kind: REPLY_KINDS[entries[line].kind] ?? "no" };
+  const entry = answered.entry(line);
+  return entry && { text: entry.reply, kind: REPLY_KINDS[entry.kind] ?? "no" };
 }
 
 function showAttempts() {
-  const { text, entries, fault } = answered;
-  const lines = text.split("\n");
+  const { lines, fault } = answered;
   attemptsSheet.lines = lines;
   const line = selectedLine();
   const marked = new Map();
   if (fault?.line !== undefined) {
-    const bad = lines[fault.line];
+    const bad = lines.at(fault.line);
     const from = fault.name ? bad.indexOf(fault.name, bad.indexOf("start ") + 6) : 0;
     marked.set(fault.line, [{ from, to: fault.name ? from + fault.name.length : bad.length, kind: "fault" }]);
   }
   attemptsSheet.show(lines, marked, replyTo, line);
+  const entry = answered.entry(line);
+  explain(entry ? `Line ${line}, ${entry.line}: ${entry.reply}. ${reasonFor(entry, declared.paths)}` : "",
+    entry?.kind === "blocked" ? Number(entry.number) : null);
+}
+
+// Says what is at fault, and how many attempts got which reply.
+function countAttempts() {
+  const { entries, fault } = answered;
   const tally = new Map();
   for (const { kind } of entries) tally.set(kind, (tally.get(kind) ?? 0) + 1);
   const counts = [...tally].map(([kind, count]) => `${count} ${kind}`).join(", ");
   $("attempts-said").innerHTML = (fault ? told(fault.says, "no") + ". " : "")
     + escaped(`${entries.length} ${entries.length === 1 ? "attempt" : "attempts"}${counts ? ": " + counts : ""}.`);
-  explain(entries[line] ? `Line ${line}, ${entries[line].line}: ${entries[line].reply}. ${reasonFor(entries[line], declared.paths)}` : "",
-    entries[line]?.kind === "blocked" ? Number(entries[line].number) : null);
 }
 
 // Says why an attempt got its reply, and marks the path that forbids it.
 function explain(text, path) {
-  $("selected").textContent = text;
+  if ($("selected").textContent !== text) $("selected").textContent = text;
+  $("paths").children[forbidding]?.classList.remove("forbids");
+  $("paths").children[path]?.classList.add("forbids");
   forbidding = path;
+  const { lines, fault } = declared;
   const marked = new Map();
-  if (path !== null) {
-    const [from, to] = pathPlaces(declared.text)[path];
-    markInto(marked, declared.text, from, to, "path");
-  }
-  if (declared.fault?.from !== undefined) markInto(marked, declared.text, declared.fault.from, declared.fault.to, "fault");
-  declarationSheet.show(declared.text.split("\n"), marked);
-  [...$("paths").children].forEach((item, i) => item.classList.toggle("forbids", i === path));
+  if (path !== null) markInto(marked, lines, ...pathPlaces(declared.text)[path], "path");
+  if (fault?.from !== undefined) markInto(marked, lines, fault.from, fault.to, "fault");
+  declarationSheet.show(lines, marked);
 }
 
 // ---- the next attempt, by clicking
@@ -335,20 +381,21 @@ function followPicture() {
 
 function judge() {
   const journal = $("journal").value;
+  const lines = new Lines(journal);
   const marked = new Map();
   $("journal-said").innerHTML = "";
   if (journal !== "" && declared.isRead) {
     const { says, isSound, line } = verdictOn(calls, declared.text, journal);
     if (line !== undefined) marked.set(line, "fault");
-    $("journal-said").innerHTML = told(line === undefined ? says : `${says}: ${journal.split("\n")[line]}`, isSound ? "yes" : "no");
+    $("journal-said").innerHTML = told(line === undefined ? says : `${says}: ${lines.at(line)}`, isSound ? "yes" : "no");
   }
-  journalSheet.show(journal.split("\n"), marked);
+  journalSheet.show(lines, marked);
 }
 
 // ---- the address, and files
 
 function caseNow() {
-  return { declaration: declared.text, attempts: answered.text, journal: $("journal").value };
+  return { declaration: declared.text, attempts: answered.lines.text, journal: $("journal").value };
 }
 
 const isSame = (one, other) => one.declaration === other.declaration && one.attempts === other.attempts && one.journal === other.journal;
@@ -398,6 +445,9 @@ function save(name, type, text) {
   setTimeout(() => URL.revokeObjectURL(address), 1000);
 }
 
+// The picture of what is answered, as the program draws it.
+const pictureFile = () => calls.picture(declared.text, answered.answeredText).out;
+
 const journalText = () => answered.entries.map(it => `${it.line}: ${it.reply}\n`).join("");
 
 // ---- all of it
@@ -413,12 +463,13 @@ function show() {
   showAttempts();
   if (text !== declared.text && text !== null) judge();
   clearTimeout(following);
-  if (answered.entries.length > MOST_DRAWN) following = setTimeout(showRest, 100);
+  if (answered.length > MOST_DRAWN) following = setTimeout(showRest, 100);
   else showRest();
 }
 
 function showRest() {
   picture = lanesOf(answered.entries);
+  countAttempts();
   showSteps();
   showPicture();
   showLong($("report"), answered.reportText);
@@ -434,11 +485,8 @@ function listen() {
   $("example").addEventListener("change", event => open(examples.find(it => it.name === event.target.value)));
   for (const id of ["declaration", "attempts"]) $(id).addEventListener("input", show);
   $("journal").addEventListener("input", () => { judge(); clearTimeout(noting); noting = setTimeout(noteAddress, 300); });
-  let line = -1;
   document.addEventListener("selectionchange", () => {
-    if (document.activeElement !== $("attempts") || line === selectedLine()) return;
-    line = selectedLine();
-    showAttempts();
+    if (document.activeElement === $("attempts") && attemptsSheet.at !== selectedLine()) showAttempts();
   });
   $("attempts-sheet").querySelector(".replies").addEventListener("click", event => {
     const row = event.target.closest("[data-line]");
@@ -454,9 +502,9 @@ function listen() {
   new ResizeObserver(followPicture).observe($("picture"));
   $("audit-trace").addEventListener("click", () => { $("journal").value = journalText(); $("journal").dispatchEvent(new Event("input")); });
   $("audit").addEventListener("toggle", judge);
-  $("save-attempts").addEventListener("click", () => save("attempts", "text/plain", answered.text));
+  $("save-attempts").addEventListener("click", () => save("attempts", "text/plain", answered.lines.text));
   $("save-journal").addEventListener("click", () => save("journal", "text/plain", journalText()));
-  $("save-picture").addEventListener("click", () => save("picture.svg", "image/svg+xml", pictureFile(picture)));
+  $("save-picture").addEventListener("click", () => save("picture.svg", "image/svg+xml", pictureFile()));
   window.addEventListener("hashchange", () => { if (location.hash.slice(1) !== lastFragment) openAddress(); });
 }
 
@@ -475,7 +523,7 @@ async function begin() {
   listen();
   openAddress();
   $("about").textContent = `The replies, reports, semaphores and verdicts come from the proved program, ${Math.round(bytes.length / 1024)} KiB of WebAssembly in this page. `
-    + "The picture and all that is drawn is plain JavaScript. Nothing is sent anywhere.";
+    + "So does the picture to download. What is drawn in the page is plain JavaScript. Nothing is sent anywhere.";
 }
 
 begin();

@@ -8,6 +8,43 @@ function linesOf(text) {
   return lines;
 }
 
+// The lines of a text, with the empty one behind its last line feed. Each is cut out when it is asked for.
+class Lines {
+  constructor(text) {
+    this.text = text;
+    this.starts = [0];
+    for (let end = text.indexOf("\n"); end >= 0; end = text.indexOf("\n", end + 1)) this.starts.push(end + 1);
+  }
+
+  get length() {
+    return this.starts.length;
+  }
+
+  // How many the program counts: not the empty one behind the last line feed.
+  get counted() {
+    return this.starts.at(-1) === this.text.length ? this.length - 1 : this.length;
+  }
+
+  endOf(line) {
+    return line + 1 < this.length ? this.starts[line + 1] - 1 : this.text.length;
+  }
+
+  at(line) {
+    return this.text.slice(this.starts[line], this.endOf(line));
+  }
+
+  // The line that a place of the text is in.
+  lineOf(index) {
+    let low = 0;
+    for (let high = this.length; high - low > 1;) {
+      const middle = (low + high) >> 1;
+      if (this.starts[middle] <= index) low = middle;
+      else high = middle;
+    }
+    return low;
+  }
+}
+
 // The place in a text of a number of its bytes, with line and column from 1.
 function placeOf(text, offset) {
   const before = decoder.decode(encoder.encode(text).subarray(0, offset));
@@ -35,7 +72,7 @@ function lineFault(lines, err) {
   const found = /^text: (bad line|undeclared in line) (\d+)$/.exec(says);
   if (!found) return { says };
   const line = Number(found[2]);
-  const name = found[1] === "bad line" ? null : (/^\d+ start ([^ :]+)/.exec(lines[line] ?? "")?.[1] ?? null);
+  const name = found[1] === "bad line" ? null : (/^\d+ start ([^ :]+)/.exec(lines.at(line))?.[1] ?? null);
   return { says, line, name };
 }
 
@@ -84,16 +121,33 @@ function entryOf(line, reply) {
   };
 }
 
-// The attempts of a trace with their replies, and the report behind them.
-function traceIn(lines, out) {
-  const entries = [];
-  let at = 0;
-  for (const line of lines) {
-    const end = out.indexOf("\n", at);
-    entries.push(entryOf(line, out.slice(at + line.length + 2, end)));
-    at = end + 1;
+// What was answered to the first lines of a text, `length` of them, by their trace with its report. A reply is read when it is asked for.
+class Answers {
+  constructor(declaration, lines, length, out, fault) {
+    Object.assign(this, { declaration, lines, length, out, fault });
+    this.outLines = new Lines(out);
+    this.reportText = out.slice(this.outLines.starts[length]);
   }
-  return { entries, report: out.slice(at) };
+
+  // An attempt with its reply, if there is one in this line.
+  entry(line) {
+    if (line < 0 || line >= this.length) return undefined;
+    const attempt = this.lines.at(line);
+    return entryOf(attempt, this.outLines.at(line).slice(attempt.length + 2));
+  }
+
+  get entries() {
+    return this.read ??= Array.from({ length: this.length }, (_, line) => this.entry(line));
+  }
+
+  get report() {
+    return this.reportRead ??= reportIn(this.reportText);
+  }
+
+  // The text that is answered.
+  get answeredText() {
+    return this.lines.text.slice(0, this.length < this.lines.length ? this.lines.starts[this.length] : undefined);
+  }
 }
 
 // What a report says.
@@ -109,27 +163,28 @@ function reportIn(text) {
   return report;
 }
 
-// The replies to attempts: { entries, report, fault }. If a line is at fault, the lines before it are answered.
-function answersTo(calls, declaration, attempts) {
-  const lines = linesOf(attempts);
+// The answers to attempts. If a line is at fault, the lines before it are answered; if these are what was answered before, as while a
+// line is typed, their trace is taken from there.
+function answersTo(calls, declaration, attempts, before) {
+  const lines = new Lines(attempts);
   const whole = calls.trace(declaration, attempts, true);
-  if (whole.status === 0) return { ...traceIn(lines, whole.out), fault: null };
+  if (whole.status === 0) return new Answers(declaration, lines, lines.counted, whole.out, null);
   const fault = whole.status === TEXT_REFUSED ? lineFault(lines, whole.err) : { says: whole.err.trim() || STATUSES[whole.status] };
-  if (fault.line === undefined) return { entries: [], report: "", fault };
-  const sound = lines.slice(0, fault.line);
-  const front = calls.trace(declaration, sound.map(line => line + "\n").join(""), true);
-  return { ...(front.status === 0 ? traceIn(sound, front.out) : { entries: [], report: "" }), fault };
+  if (fault.line === undefined) return new Answers(declaration, lines, 0, "", fault);
+  const sound = attempts.slice(0, lines.starts[fault.line]);
+  if (before?.out && before.declaration === declaration && before.answeredText === sound) return new Answers(declaration, lines, fault.line, before.out, fault);
+  const front = calls.trace(declaration, sound, true);
+  return front.status === 0 ? new Answers(declaration, lines, fault.line, front.out, fault) : new Answers(declaration, lines, 0, "", fault);
 }
 
 // The verdict on a journal: { says, isSound, line }; `line` is the line of the text that is wrong or at fault.
 function verdictOn(calls, declaration, journal) {
-  const lines = linesOf(journal);
   const told = calls.audit(declaration, journal);
-  if (told.status === TEXT_REFUSED) return { ...lineFault(lines, told.err), isSound: false };
+  if (told.status === TEXT_REFUSED) return { ...lineFault(new Lines(journal), told.err), isSound: false };
   const says = (told.out || told.err).trim() || STATUSES[told.status];
   const wrong = /^wrong line (\d+)$/.exec(says);
   // The head of a journal is no line of it.
-  const head = lines[0]?.startsWith("journal ") ? 1 : 0;
+  const head = journal.startsWith("journal ") ? 1 : 0;
   return { says, isSound: told.status === 0, line: wrong ? Number(wrong[1]) + head : undefined };
 }
 

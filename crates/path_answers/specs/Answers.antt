@@ -1,13 +1,16 @@
 -- What the status and the output of an answer say.
 use Rattle.std.specs.Prelude.{◌≡◌, ℕ, Bool, List, []}
 use Rattle.path_streams.specs.declared.status.Status.{Status}
-use Rattle.path_streams.specs.declared.status.Status.TheVariants.{Done, DeclarationRefused, CommandRefused, StreamFailed, TextRefused, Unsound, NoMemory}
+use Rattle.path_streams.specs.declared.status.Status.TheVariants.{Done, DeclarationRefused, CommandRefused, StreamFailed, TextRefused}
+use Rattle.path_streams.specs.declared.status.Status.TheVariants.{Unsound, NoMemory}
 use Rattle.path_streams.specs.Refusals.{IsNoDeclaration}
 use Rattle.path_streams.specs.Writes.{IsFrontOf}
 use Rattle.path_trace.specs.Traces.{IsTraceOfTexts, IsBadTextUnder, LacksRoomUnder}
 use Rattle.path_commands.specs.Prints.{IsPrintOf}
 use Rattle.path_commands.specs.Compiles.{IsCompiledOf}
 use Rattle.path_commands.specs.Audits.{IsBadJournal, LacksRoom, TellsSound, TellsVerdict, TellsWrong, Under}
+use Rattle.path_model.specs.Rooms.{IsBadRoom}
+use Rattle.path_picture.specs.Pictures.{HasAttemptsUnder, IsPicture, IsUndrawn}
 
 -- nothing was written, for this cause
 abbrev pub Refused : Type 0 → List ℕ → Type 0
@@ -50,3 +53,13 @@ IsAuditAnswer declaration room journal StreamFailed out = ⊥
 IsAuditAnswer declaration room journal TextRefused out = Refused (Under declaration (λ d. IsBadJournal d journal)) out
 IsAuditAnswer declaration room journal Unsound out = Under declaration (λ d. TellsWrong d room journal out)
 IsAuditAnswer declaration room journal NoMemory out = IsFrontOf (λ all. Under declaration (λ d. TellsVerdict d room journal all)) out
+
+-- how drawing attempts ends, and what it writes: a picture
+abbrev pub IsPictureAnswer : List ℕ → ℕ → List ℕ → Status → List ℕ → Type 0
+IsPictureAnswer declaration room attempts Done out = HasAttemptsUnder declaration attempts × (IsBadRoom room → ⊥) × IsPicture out
+IsPictureAnswer declaration room attempts DeclarationRefused out = Refused (IsUndrawn declaration room attempts DeclarationRefused) out
+IsPictureAnswer declaration room attempts CommandRefused out = Refused (IsUndrawn declaration room attempts CommandRefused) out
+IsPictureAnswer declaration room attempts StreamFailed out = ⊥
+IsPictureAnswer declaration room attempts TextRefused out = Refused (IsUndrawn declaration room attempts TextRefused) out
+IsPictureAnswer declaration room attempts Unsound out = ⊥
+IsPictureAnswer declaration room attempts NoMemory out = Unit {0}

@@ -1,9 +1,10 @@
 //! The commands of which a host asks.
 
-ghost use Rattle.path_answers.specs.Answers.{IsAuditAnswer, IsCheckAnswer, IsCompileAnswer, IsTraceAnswer};
+ghost use Rattle.path_answers.specs.Answers.{IsAuditAnswer, IsCheckAnswer, IsCompileAnswer, IsPictureAnswer, IsTraceAnswer};
 
 use crate::answer::Answer;
 use path_commands::{audit_bytes, check_to, compile_to};
+use path_picture::picture_bytes;
 use path_streams::Status;
 use path_trace::trace_bytes;
 use std::alloc::Allocator;
@@ -79,5 +80,26 @@ pub fn audit<A: Allocator + Copy>(
     }
     let (out, err) = (&mut answer.out, &mut answer.err);
     let status = audit_bytes(alloc, declaration, room, journal, out, err);
+    answer.ended(status)
+}
+
+/// The picture of attempts and their replies, as [`picture_bytes`] draws it and at its cost.
+///
+/// `DeclarationRefused`, `TextRefused`, `CommandRefused`: as there. `NoMemory`: allocation failed. A fault is one line of the answer's
+/// `err`, which is empty only if not even that found memory.
+pub fn picture<A: Allocator + Copy>(
+    alloc: A,
+    declaration: &[u8],
+    room: u32,
+    attempts: &[u8],
+) -> Answer<A>
+    ensures { IsPictureAnswer declaration.now room attempts.now result.status result.out.items }
+{
+    let mut answer = Answer::blank(alloc);
+    if answer.status == Status::NoMemory {
+        return answer;
+    }
+    let (out, err) = (&mut answer.out, &mut answer.err);
+    let status = picture_bytes(alloc, declaration, room, attempts, out, err);
     answer.ended(status)
 }

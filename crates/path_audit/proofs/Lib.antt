@@ -4,4 +4,5 @@ pub mod Resources
 pub mod Answered
 pub mod Written
 pub mod Replayed
+pub mod Roomless
 pub mod Segments

@@ -25,6 +25,12 @@ more k m [] o e = let same : k ≡ m = omega arith in ap (λ j. activation j o �
 more k m (None ∷ xs) o e = more (k + 1) m xs o (omega arith)
 more k m (Some p ∷ xs) o e = ap (λ rest. activation k p ∷ rest) (more (k + 1) m xs o (omega arith))
 
+-- none more at the end
+pub no_more : (k : ℕ) (xs : List (Option Owner)) → live_from k (xs ++ None ∷ []) ≡ live_from k xs
+no_more k [] = refl
+no_more k (None ∷ xs) = no_more (k + 1) xs
+no_more k (Some p ∷ xs) = ap (λ rest. activation k p ∷ rest) (no_more (k + 1) xs)
+
 -- one less
 pub fewer : (k i : ℕ) (xs : List (Option Owner)) (d : Option Owner) (o : Owner) → i < length xs → get_or xs i d ≡ Some o
     → length (live_from k (set xs i None)) + 1 ≡ length (live_from k xs)

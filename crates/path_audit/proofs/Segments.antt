@@ -1,6 +1,6 @@
 -- The segments that an auditor has judged, and the front of the next.
 use Rattle.std.proofs.Common.{◌≡◌, ◌≢◌, ℕ, ◌+◌, ◌<◌, ◌≤◌, Bool, true, false, List, [], ◌∷◌, ◌++◌, length, get_or, take, append-nil, append_assoc, length-append, arith, refl, ap, sym, subst, ◌∙◌, Vec}
-use Rattle.std.specs.Prelude.{◌&&◌, not, map}
+use Rattle.std.specs.Prelude.{◌&&◌, not, map, slice_get, Some}
 use Rattle.std.proofs.lemmas.List.{take_more, length-take-le, length-map, get_or-map}
 use Rattle.path_model.specs.declared.journal.Attempt.{Attempt}
 use Rattle.path_model.specs.declared.journal.Reply.{Reply}
@@ -8,6 +8,7 @@ use Rattle.path_model.specs.declared.journal.Reply.TheVariants.{NoRoom}
 use Rattle.path_model.specs.declared.journal.Line.{Line}
 use Rattle.path_model.specs.Declarations.{Declaration}
 use Rattle.path_model.specs.Honest.{IsHonest}
+use Rattle.path_model.specs.Journals.{with_line}
 use Rattle.path_model.specs.Rooms.{IsRoom}
 use Rattle.path_model.specs.Segments.{joined, room_behind, OwedBehind, IsSegmentFrom, AreHonestFrom, AreHonest}
 use Rattle.path_model.proofs.CallerLemmas.{each_honest_journal_has_room, room_behind_is, joined_more, more_room_keeps_honest, one_reply_is_owed_behind, one_segment_is_a_journal, segments_more, segments_rotated}
@@ -16,9 +17,10 @@ use Rattle.path_gate.specs.Places.{has_room, lacks_number}
 use Rattle.path_gate.proofs.CallerLemmas.{right_fails, same_room, owed_without_number, owed_with_number}
 use Rattle.path_audit.specs.Inner.Replays.{ReplayValue, Answers, IsReplayOf, can_take, says_failed}
 use Rattle.path_audit.specs.Verdicts.{IsFirstWrong}
-use Rattle.path_audit.specs.Judged.{AuditorValue, HasJudged, IsFirstWrongBehind}
+use Rattle.path_audit.specs.Judged.{AuditorValue, HasJudged, IsFirstWrongBehind, IsOwedInstead}
 use Rattle.path_audit.proofs.Answered.{owed_is, taken_is}
 use Rattle.path_audit.proofs.Written.{with_the_line, like_line}
+use Rattle.path_audit.proofs.Roomless.{without_room}
 use Rattle.path_audit.proofs.Replayed.{told_apart}
 
 -- the replay agrees with honest segments and with lines behind them
@@ -156,6 +158,28 @@ module _ (d : Declaration) (lawful : Lawful d) (old : ReplayValue) (room : ℕ) 
           let last = last_from d room openings [] segments (take n lines) line (subst (λ xs. AreHonest d room openings (segments ++ xs ∷ [])) one_line honest) in
           let same = one_reply_is_owed_behind d room openings earlier (take n lines) line.worker line.attempt reply line.reply owed_behind last.0 in
           other (told_apart reply line.reply (like_line d old new line.worker (says_failed line.reply) reply whole (length all) line.attempt answers_all) same, last.1);
+    }
+
+    -- the replay agrees with the lines before and with this one as it should have been answered
+    answered : (r : Reply) → reply ≡ r → IsReplayOf new d whole openings (earlier ++ with_line (take n lines) line.worker line.attempt r)
+    answered NoRoom is =
+        subst (λ v. IsReplayOf v d whole openings all)
+        (sym (without_room d old new line.worker (says_failed line.reply) reply whole (length all) line.attempt answers_all is)) s.replayed
+    answered r is =
+        subst (IsReplayOf new d whole openings) (append_assoc earlier (take n lines) (record { worker = line.worker; attempt = line.attempt; reply = r } ∷ []))
+        (subst (λ x. IsReplayOf new d whole openings (all ++ record { worker = line.worker; attempt = line.attempt; reply = x } ∷ [])) is
+        (with_the_line d lawful old whole openings all s.replayed line.worker line.attempt (says_failed line.reply) reply new answers_all (λ e. let told = is in cc)))
+
+    -- the line is wrong, and this is what was owed
+    pub owed_instead : slice_get lines n ≡ Some line → ((reply ≡ line.reply) × (line.reply ≢ NoRoom) → ⊥) → IsOwedInstead new d room openings segments lines n reply
+    owed_instead there other = record {
+      worker = line.worker;
+      attempt = line.attempt;
+      told = line.reply;
+      at = there;
+      first = line_wrong other;
+      owed = owed_behind;
+      replayed = answered reply refl;
     }
 
 -- a journal of one segment

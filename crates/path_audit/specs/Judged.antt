@@ -1,9 +1,13 @@
 -- What an auditor has judged, and what it finds of one more segment.
-use Rattle.std.specs.Prelude.{◌+◌, ◌<◌, ℕ, List, [], ◌∷◌, ◌++◌, length, take, slice_index_or}
+use Rattle.std.specs.Prelude.{◌≡◌, ◌+◌, ◌<◌, ℕ, List, [], ◌∷◌, ◌++◌, length, take, slice_get, slice_index_or, Option, Some, None}
+use Rattle.path_model.specs.declared.journal.Attempt.{Attempt}
+use Rattle.path_model.specs.declared.journal.Reply.{Reply}
 use Rattle.path_model.specs.declared.journal.Line.{Line}
 use Rattle.path_model.specs.Declarations.{Declaration}
 use Rattle.path_model.specs.Rooms.{IsRoom}
-use Rattle.path_model.specs.Segments.{joined, room_behind, AreHonest}
+use Rattle.path_model.specs.Journals.{with_line}
+use Rattle.path_model.specs.Segments.{joined, room_behind, AreHonest, OwedBehind}
+use Rattle.path_audit.specs.declared.auditor.Wrong.{Wrong}
 use Rattle.path_audit.specs.declared.auditor.JudgeFault.{JudgeFault}
 use Rattle.path_audit.specs.declared.auditor.JudgeFault.TheVariants.{WrongLine, OutOfMemory}
 use Rattle.path_audit.specs.declared.journals.SegmentsVerdict.{SegmentsVerdict}
@@ -27,6 +31,32 @@ pub record IsFirstWrongBehind (d : Declaration) (room : ℕ) (openings : List (L
   pub within : n < length lines
   pub honest : AreHonest d room openings (segments ++ take n lines ∷ [])
   pub wrong : AreHonest d room openings (segments ++ take (n + 1) lines ∷ []) → ⊥
+
+-- what was replayed of a segment, the room, and the first wrong line, if there is one
+pub record ExaminedValue : Type 0 where
+  pub replay : ReplayValue
+  pub room : ℕ
+  pub wrong : Option Wrong
+
+-- behind honest segments line n is the first wrong one; this reply was owed to its attempt, and the replay agrees with the lines before
+-- it and with it as it should have been answered
+pub record IsOwedInstead (replay : ReplayValue) (d : Declaration) (room : ℕ) (openings : List (List ℕ)) (segments : List (List Line))
+    (lines : List Line) (n : ℕ) (reply : Reply) : Type 0 where
+  pub worker : ℕ
+  pub attempt : Attempt
+  pub told : Reply
+  pub at : slice_get lines n ≡ Some (record { worker = worker; attempt = attempt; reply = told })
+  pub first : IsFirstWrongBehind d room openings segments lines n
+  pub owed : OwedBehind d room openings (joined segments) (take n lines) worker attempt reply
+  pub replayed : IsReplayOf replay d (room_behind (joined segments) room) openings (joined segments ++ with_line (take n lines) worker attempt reply)
+
+abbrev pub IsExaminedAs : Option Wrong → ReplayValue → Declaration → ℕ → List (List ℕ) → List (List Line) → List Line → Type 0
+IsExaminedAs None replay d room openings segments lines = HasJudged (record { replay = replay; room = room }) d openings (segments ++ lines ∷ [])
+IsExaminedAs (Some wrong) replay d room openings segments lines = IsOwedInstead replay d room openings segments lines wrong.line wrong.owed
+
+-- the segment was replayed behind these, to its end or up to its first wrong line
+abbrev pub IsExamined : ExaminedValue → Declaration → List (List ℕ) → List (List Line) → List Line → Type 0
+IsExamined x d openings segments lines = IsExaminedAs x.wrong x.replay d x.room openings segments lines
 
 -- why the auditor doesn't go on behind one more segment
 abbrev pub IsJudgeFault : Declaration → ℕ → List (List ℕ) → List (List Line) → List Line → JudgeFault → Type 0

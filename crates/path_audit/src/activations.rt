@@ -77,6 +77,23 @@ impl<A: Allocator + Copy> Activations<A> {
         })
     }
 
+    /// The live activations, in the order of their starts. Fails only if allocation fails. The cost is a look at each that was begun.
+    pub fn listed(&self, alloc: A) -> Result<Vec<Activation, A>, OutOfMemory>
+        ensures { IfOk result (λ list. list.items ≡ self.now.live) }
+    {
+        let mut list = Vec::new(alloc);
+        for (n, owner) in self.begun.iter().enumerate() {
+            if let Some(owner) = owner {
+                list.push(Activation {
+                    act: ActId(n as u64),
+                    worker: owner.worker,
+                    op: owner.op,
+                })?;
+            }
+        }
+        Ok(list)
+    }
+
     /// Appends an activation of this worker and operation, and returns its number: how many were begun before it. Fails only if
     /// allocation fails.
     pub fn begin(&mut self, worker: u32, op: OpId) -> Result<ActId, OutOfMemory>

@@ -7,11 +7,12 @@ ghost use Rattle.path_model.specs.Devices.{Fits};
 ghost use Rattle.path_audit.specs.declared.auditor.AuditFault.TheVariants as faults;
 ghost use Rattle.path_audit.specs.declared.auditor.JudgeFault.TheVariants as judge_faults;
 ghost use Rattle.path_audit.specs.Verdicts.{AllFit, IsAuditable, IsAuditFault, IsFirstMisfit};
-ghost use Rattle.path_audit.specs.Judged.{HasJudged, IsJudgeFault};
+ghost use Rattle.path_audit.specs.Judged.{HasJudged, IsExamined, IsJudgeFault};
 
 use crate::replay::{Replay, law_at};
 use path_decl::{Decl, counts};
-use path_model::{Law, Line, OutOfMemory, Reply, ResId, is_room};
+use path_gate::Gate;
+use path_model::{Activation, Law, Line, OutOfMemory, Reply, ResId, is_room};
 use std::alloc::{Allocator, Global};
 use std::marker::Model;
 use thiserror::Error;
@@ -111,6 +112,59 @@ impl<A: Allocator + Copy> Model for Auditor<A> {
     ghost view = { λ a. record { replay = a.replay; room = a.room } };
 }
 
+/// The first wrong line of a segment.
+#[derive(Clone, Copy, Debug, PartialEq, Eq)]
+pub struct Wrong {
+    /// Its number in the segment, counted from 0.
+    pub line: u32,
+    /// The reply that was owed to its attempt.
+    pub owed: Reply,
+}
+
+/// A segment that was replayed to its end, or up to and with the attempt of its first wrong line as it should have been answered.
+/// Contracts see how things stand then.
+#[derive(Drop)]
+pub struct Examined<A: Allocator + Copy = Global> {
+    replay: Replay<A>,
+    room: u32,
+    wrong: Option<Wrong>,
+}
+
+impl<A: Allocator + Copy> Model for Examined<A> {
+    ghost use Rattle.std.specs.Coded.{codes};
+    ghost use Rattle.path_gate.specs.Standings.{standing_code};
+    ghost use Rattle.path_audit.specs.Judged.{ExaminedValue};
+
+    ghost Value = { ExaminedValue };
+
+    ghost coded = { Prim.hlevel (codes, standing_code) };
+
+    ghost view = { λ e. record { replay = e.replay; room = e.room; wrong = e.wrong } };
+}
+
+impl<A: Allocator + Copy> Examined<A> {
+    /// The first wrong line, and the reply that was owed to it; `None` if all lines are right. Takes constant time.
+    pub fn wrong(&self) -> Option<Wrong>
+        ensures { result ≡ self.now.wrong }
+    {
+        self.wrong
+    }
+
+    /// The gate behind the right lines and the first wrong one as it should have been answered. Takes constant time.
+    pub fn gate(&self) -> &Gate<A>
+        ensures { result.now ≡ self.now.replay.standing }
+    {
+        self.replay.gate()
+    }
+
+    /// What is live there, in the order of the starts. Fails only if allocation fails. The cost is a look at each activation.
+    pub fn live(&self, alloc: A) -> Result<Vec<Activation, A>, OutOfMemory>
+        ensures { IfOk result (λ live. live.items ≡ self.now.replay.register.live) }
+    {
+        self.replay.live(alloc)
+    }
+}
+
 impl<A: Allocator + Copy> Auditor<A> {
     /// An auditor that has judged no line, for segments that each have this room, 1 to [`MOST_LINES`](path_model::MOST_LINES), over
     /// resources that opened with these contents, a list for each.
@@ -143,6 +197,38 @@ impl<A: Allocator + Copy> Auditor<A> {
         Ok(Auditor { replay, room })
     }
 
+    /// Replays one more segment, under the declaration that the auditor was opened with, up to its first wrong line: the reply that is
+    /// owed to that line's attempt is told, and how things stand as if it had been given. What is right is said at
+    /// [`judge`](Auditor::judge).
+    ///
+    /// Fails only if allocation fails. The cost is that of [`judge`](Auditor::judge).
+    pub fn examine(self, decl: &Decl<A>, lines: &[Line]) -> Result<Examined<A>, OutOfMemory>
+        requires { (openings : List (List ℕ)) × (segments : List (List Line)) × HasJudged self decl.now.declaration openings segments }
+        ensures found { IfOk result (λ examined. (openings : List (List ℕ)) (segments : List (List Line))
+            → HasJudged self decl.now.declaration openings segments
+            → IsExamined examined decl.now.declaration openings segments lines.now) }
+        ensures room { IfOk result (λ examined. examined.room ≡ self.room) }
+    {
+        let Auditor { mut replay, room } = self;
+        for (n, line) in lines.iter().enumerate() {
+            let owed = replay.answer(decl, room, n, *line)?;
+            if !is_told(owed, line.reply) {
+                let line = n as u32;
+                let wrong = Some(Wrong { line, owed });
+                return Ok(Examined {
+                    replay,
+                    room,
+                    wrong,
+                });
+            }
+        }
+        Ok(Examined {
+            replay,
+            room,
+            wrong: None,
+        })
+    }
+
     /// Judges one more segment, under the declaration that the auditor was opened with. The auditor goes on behind it if and only if each
     /// reply was owed by the lines of all segments before and by those before it in its own, and none is `NoRoom`. `DeviceFailed` is right
     /// in a line wherever the device's law would have served, and then nothing was served. Only the lines of a segment take its room, and
@@ -161,13 +247,14 @@ impl<A: Allocator + Copy> Auditor<A> {
             → HasJudged self decl.now.declaration openings segments
             → IsJudgeFault decl.now.declaration self.room openings segments lines.now fault) }
     {
-        let Auditor { mut replay, room } = self;
-        for (n, line) in lines.iter().enumerate() {
-            let owed = replay.answer(decl, room, n, *line)?;
-            if !is_told(owed, line.reply) {
-                return Err(JudgeFault::WrongLine(n as u32));
-            }
+        let Examined {
+            replay,
+            room,
+            wrong,
+        } = self.examine(decl, lines)?;
+        match wrong {
+            None => Ok(Auditor { replay, room }),
+            Some(wrong) => Err(JudgeFault::WrongLine(wrong.line)),
         }
-        Ok(Auditor { replay, room })
     }
 }

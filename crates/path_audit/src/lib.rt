@@ -11,5 +11,5 @@ mod contents;
 mod journals;
 mod replay;
 
-pub use auditor::{AuditFault, Auditor, JudgeFault};
+pub use auditor::{AuditFault, Auditor, Examined, JudgeFault, Wrong};
 pub use journals::{SegmentsVerdict, Verdict, audit, audit_segments};

@@ -9,7 +9,7 @@ use crate::activations::Activations;
 use crate::contents::{Contents, act_on};
 use path_decl::{Decl, counts, law_of, resource_of};
 use path_gate::{Gate, compile};
-use path_model::{ActId, Attempt, Law, Line, OpId, OutOfMemory, Reply, ResId, Verb};
+use path_model::{ActId, Activation, Attempt, Law, Line, OpId, OutOfMemory, Reply, ResId, Verb};
 use std::alloc::{Allocator, Global};
 use std::collections::VecDeque;
 use std::marker::Model;
@@ -73,6 +73,20 @@ impl<A: Allocator + Copy> Replay<A> {
             activations: Activations::new(alloc),
             contents,
         })
+    }
+
+    /// The gate. Takes constant time.
+    pub fn gate(&self) -> &Gate<A>
+        ensures { result.now ≡ self.now.standing }
+    {
+        &self.gate
+    }
+
+    /// The live activations, in the order of their starts. Fails only if allocation fails. The cost is a look at each that was begun.
+    pub fn live(&self, alloc: A) -> Result<Vec<Activation, A>, OutOfMemory>
+        ensures { IfOk result (λ live. live.items ≡ self.now.register.live) }
+    {
+        self.activations.listed(alloc)
     }
 
     /// Replays a start. The caller has checked that there is room, and a number.

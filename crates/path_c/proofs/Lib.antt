@@ -1,2 +1,3 @@
 pub mod AsBox
+pub mod Taking
 pub mod Told

@@ -36,7 +36,7 @@ openings_fit d r h =
     subst (λ held. Fits (law_of d r) held) (sym at) (numbers_fit (law_of d r))
 
 -- a journal of a room that no journal has names none
-lacks_room : (d : Declaration) (room : ℕ) (text : List ℕ) (named : Option ℕ) (lines : List Line) → IsJournalText d text named lines → IsBadRoom (unwrap_or named room) → LacksRoom d room text
+pub lacks_room : (d : Declaration) (room : ℕ) (text : List ℕ) (named : Option ℕ) (lines : List Line) → IsJournalText d text named lines → IsBadRoom (unwrap_or named room) → LacksRoom d room text
 lacks_room d room text None lines told bad = record { lines = lines; told = told; bad = bad }
 lacks_room d room text (Some m) lines told (inl none) = absurd (let fits = told.room_fits in omega (arith, fits.0, none))
 lacks_room d room text (Some m) lines told (inr much) = absurd (let fits = told.room_fits in omega (arith, fits.1, much))

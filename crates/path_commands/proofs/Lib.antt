@@ -1,3 +1,4 @@
 mod OpeningLemmas
 mod AuditLemmas
 mod SegmentLemmas
+pub mod CallerLemmas

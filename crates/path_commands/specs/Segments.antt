@@ -72,7 +72,8 @@ segments_status (WrongLine s n) = statuses.Unsound
 
 -- the bytes are the line of the verdict that the texts have
 abbrev pub TellsSegments : Declaration → ℕ → List (List ℕ) → List (List ℕ) → List ℕ → Type 0
-TellsSegments d given names texts bytes = (verdict : SegmentsVerdict) × AreAuditOf d given texts verdict × (bytes ≡ segments_line names verdict)
+TellsSegments d given names texts bytes =
+    (verdict : SegmentsVerdict) × AreAuditOf d given texts verdict × (bytes ≡ segments_line names verdict)
 
 -- they are sound, and the bytes say so
 abbrev pub TellsSoundSegments : Declaration → ℕ → List (List ℕ) → List (List ℕ) → List ℕ → Type 0

@@ -4,8 +4,6 @@ use Rattle.path_model.specs.declared.journal.Line.{Line}
 use Rattle.path_model.specs.Declarations.{Declaration}
 use Rattle.path_model.specs.Rooms.{IsBadRoom, IsRoom}
 use Rattle.path_decl.specs.Text.{IsDeclarationText}
-use Rattle.path_shelf.specs.declared.own.OwnDevice.{OwnDevice}
-use Rattle.path_shelf.specs.declared.own.OwnDevice.TheVariants as kinds
 use Rattle.path_shelf.specs.Own.{own_state}
 use Rattle.path_shelf.specs.States.{MayFail, State}
 use Rattle.path_system.specs.declared.fault.OpenFault.{OpenFault}
@@ -17,9 +15,10 @@ use Rattle.path_streams.specs.declared.status.Status.TheVariants as statuses
 use Rattle.path_streams.specs.Statuses.{open_status}
 use Rattle.path_streams.specs.Writes.{AppendsSome}
 use Rattle.path_trace.specs.Traces.{IsUnopened, own_states}
+use Rattle.path_trace.proofs.CallerLemmas.{unfailing}
 use Rattle.path_follow.specs.declared.stop.Stop.{Stop}
 use Rattle.path_follow.specs.declared.stop.Stop.TheVariants as stops
-use Rattle.path_follow.specs.Follows.{AnswersFirst, Follows, GaveAll, GaveFirst, IsAnswer, IsFollowOf, IsFollowUnder, WroteFirst, answers, at_end, refuses, replies, reports}
+use Rattle.path_follow.specs.Follows.{AnswersFirst, Follows, GaveAll, GaveFirst, IsAnswer, IsFollowOf, WroteAll, WroteFirst, answers, at_end, refuses, replies, reports}
 use Rattle.path_follow.specs.Inner.Taken.{Stopped, Through}
 use Rattle.path_follow.specs.Stops.{IsEnding, UnlessWriting, stop_status}
 use Rattle.path_follow.proofs.Written.{read_first, read_none, wrote_none}
@@ -123,15 +122,7 @@ pub first_none : (may_fail : Type 0) (had wrote : Option (List ℕ)) (d : Declar
     → GaveFirst had (λ text. AppendsSome wrote wrote (AnswersFirst d states may_fail room text))
 first_none may_fail had wrote d states room = ([], read_first had had [] (read_none had), ([], ([], false, at_end tt), wrote_none wrote))
 
--- the own devices never fail
-never_failed : {Y : Type 0} (d : OwnDevice Y) → (own_state d).failures ≡ 0
-never_failed (kinds.Cell c) = refl
-never_failed (kinds.Tally t) = refl
-never_failed (kinds.Queue q) = refl
-
-unfailing : {Y : Type 0} → MayFail (own_state {Y = Y}) → ⊥
-unfailing (d, some) = let zero = never_failed d in omega (arith, zero, some)
-
+-- what may follow from less may follow from more
 answers_so : {d : Declaration} {room : ℕ} {openings : List (List ℕ)} {may might : Type 0} {ls now : List Line} {line bytes : List ℕ}
     → (may → might) → IsAnswer d room openings may ls line now bytes → IsAnswer d room openings might ls line now bytes
 answers_so so (replies w a r is fits owed failed) = replies w a r is fits owed (λ e. so (failed e))
@@ -147,7 +138,7 @@ follows_so so (refuses is bad rest) = refuses is bad (follows_so so rest)
 module _ {Y : Type 0} (declaration : List ℕ) (had wrote writes : Option (List ℕ)) (d : Declaration) (states : List State) (room : ℕ)
     (declares : IsDeclarationText declaration d) (own : states ≡ own_states d) where
   pub follow_under : (refused : Bool) → GaveAll had (λ text. AppendsSome wrote writes (IsFollowOf d states (MayFail (own_state {Y = Y})) room refused text))
-      → GaveAll had (λ text. AppendsSome wrote writes (IsFollowUnder declaration room refused text))
+      → WroteAll had wrote writes declaration room refused
   follow_under refused t =
       let h = subst (λ s. GaveAll had (λ text. AppendsSome wrote writes (IsFollowOf d s (MayFail (own_state {Y = Y})) room refused text))) own t in
       (h.0, h.1, (h.2.0, (d, declares, (h.2.1.0, follows_so (unfailing {Y = Y}) h.2.1.1)), h.2.2))

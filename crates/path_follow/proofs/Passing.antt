@@ -1,6 +1,7 @@
 -- Lines are taken one after the other, and blocks of them.
-use Rattle.std.proofs.Common.{◌≡◌, ◌≢◌, ℕ, Bool, true, false, List, [], ◌∷◌, ◌++◌, inl, inr, Option, refl, sym, ap, ◌∙◌, subst, append_assoc}
-use Rattle.std.proofs.lemmas.List.{append-nil}
+use Rattle.std.proofs.Common.{◌≡◌, ◌≢◌, ◌==◌, ℕ, Bool, true, false, List, [], ◌∷◌, ◌++◌, length, arith, inl, inr, Option, refl, sym, ap, ◌∙◌, subst, append_assoc}
+use Rattle.std.proofs.lemmas.Grind.{common_steps}
+use Rattle.std.proofs.lemmas.List.{append-nil, nil_from_length}
 use Rattle.std.specs.Io.KnownBytes.{Keeps}
 use Rattle.path_model.specs.declared.journal.Line.{Line}
 use Rattle.path_fields.specs.Splits.{HasNone}
@@ -9,6 +10,13 @@ use Rattle.path_system.specs.Accounts.{Account}
 use Rattle.path_follow.specs.Follows.{IsLine, Follows, at_end, answers, refuses}
 use Rattle.path_follow.specs.Inner.Taken.{GoesOn, TakesBy, Takes, Passes, Stopped, Through}
 use Rattle.path_follow.proofs.Written.{joins, wrote_none, kept_wrote, wrote_same}
+
+-- whether a vector of so many items is empty
+pub none_left : (xs : List ℕ) (n : ℕ) (is : Bool) → n ≡ length xs → is ≡ (n == 0) → is ≡ true → xs ≡ []
+none_left xs n is len so holds = nil_from_length xs (grind (arith, common_steps))
+
+pub some_left : (xs : List ℕ) (n : ℕ) (is : Bool) → n ≡ length xs → is ≡ (n == 0) → is ≡ false → xs ≢ []
+some_left xs n is len so fails = λ e. let k : length xs ≡ 0 = ap length e in grind (arith, common_steps)
 
 pub goes_same : (old new : Account) → new ≡ old → GoesOn old new
 goes_same old new e = subst (λ x. x ≡ record old { journal = x.journal; failures = x.failures }) (sym e) refl

@@ -88,6 +88,10 @@ GaveFirst known P = (text : List ℕ) × IfSome known (λ bytes. (left : List �
 abbrev pub LacksRoom : List ℕ → ℕ → Type 0
 LacksRoom declaration room = (d : Declaration) × IsDeclarationText declaration d × IsBadRoom room
 
+-- the answers to all lines that a reader gave were written; the bit says whether one was refused
+abbrev pub WroteAll : Option (List ℕ) → Option (List ℕ) → Option (List ℕ) → List ℕ → ℕ → Bool → Type 0
+WroteAll known old new declaration room refused = GaveAll known (λ text. AppendsSome old new (IsFollowUnder declaration room refused text))
+
 -- the answers to the first lines that a reader gave were written, if the text is a declaration
 abbrev pub WroteFirst : Option (List ℕ) → Option (List ℕ) → Option (List ℕ) → List ℕ → ℕ → Type 0
 WroteFirst known old new declaration room =

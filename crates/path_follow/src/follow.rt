@@ -8,7 +8,7 @@ ghost use Rattle.path_shelf.specs.Shelves.{declared_laws};
 ghost use Rattle.path_streams.specs.Refusals.{IsNoDeclaration};
 ghost use Rattle.path_streams.specs.Writes.{AppendsSome};
 ghost use Rattle.path_trace.specs.Traces.{IsUnopened};
-ghost use Rattle.path_follow.specs.Follows.{AnswersFirst, GaveAll, GaveFirst, IsFollowOf, IsFollowUnder, LacksRoom, WroteFirst};
+ghost use Rattle.path_follow.specs.Follows.{AnswersFirst, GaveAll, GaveFirst, IsFollowOf, LacksRoom, WroteAll, WroteFirst};
 ghost use Rattle.path_follow.specs.Inner.Taken.{Stopped, Through};
 ghost use Rattle.path_follow.specs.Stops.{IsEnding, UnlessWriting};
 
@@ -45,7 +45,11 @@ fn followed<D: Device, A: Allocator + Copy, R: Read, O: Write, E: Write>(
     for _ in 0..u64::MAX {
         let count = read_block(input, &mut block)?;
         if count == 0 {
-            return follower.take_last(alloc, &pending, out, err);
+            // The last line may lack its line feed.
+            if pending.is_empty() {
+                return Ok(());
+            }
+            return follower.take_line(alloc, &pending, out, err);
         }
         follower.take_block(alloc, &block[..count], &mut pending, out, err)?;
     }
@@ -106,7 +110,8 @@ pub fn follow_to<D: Device, A: Allocator + Copy, R: Read, O: Write, E: Write>(
     ensures done { result ≡ Status.Done → GaveAll (R.remaining input.old) (λ text. AppendsSome (O.contents out.old) (O.contents out.new)
         (IsFollowOf decl.declaration (map D.state devices.items) (MayFail D.state) room false text)) }
     // A line of the input was refused, and the answers to the others were written, and nothing else.
-    ensures refused { result ≡ Status.TextRefused → GaveAll (R.remaining input.old) (λ text. AppendsSome (O.contents out.old) (O.contents out.new)
+    ensures refused { result ≡ Status.TextRefused
+        → GaveAll (R.remaining input.old) (λ text. AppendsSome (O.contents out.old) (O.contents out.new)
         (IsFollowOf decl.declaration (map D.state devices.items) (MayFail D.state) room true text)) }
     // A system can have the room, and the devices have the declared laws, unless it ends as refused or without memory.
     ensures room { IsBadRoom room → (result ≢ Status.Done) × (result ≢ Status.TextRefused) }
@@ -116,7 +121,8 @@ pub fn follow_to<D: Device, A: Allocator + Copy, R: Read, O: Write, E: Write>(
     ensures unopened { result ≡ Status.CommandRefused → Keeps (O.contents out.old) (O.contents out.new)
         × IsUnopened decl.declaration (map D.state devices.items) room }
     // The answers to the first lines were written, and nothing else.
-    ensures memory { result ≡ Status.NoMemory → GaveFirst (R.remaining input.old) (λ text. AppendsSome (O.contents out.old) (O.contents out.new)
+    ensures memory { result ≡ Status.NoMemory
+        → GaveFirst (R.remaining input.old) (λ text. AppendsSome (O.contents out.old) (O.contents out.new)
         (AnswersFirst decl.declaration (map D.state devices.items) (MayFail D.state) room text)) }
     ensures statuses { (result ≢ Status.DeclarationRefused) × (result ≢ Status.Unsound) }
 {
@@ -139,11 +145,11 @@ pub fn follow_bytes<A: Allocator + Copy, R: Read, O: Write, E: Write>(
     err: &mut E,
 ) -> Status
     // Each line of the input was an attempt or asked for the report, and its answer was written, and nothing else.
-    ensures done { result ≡ Status.Done → GaveAll (R.remaining input.old) (λ text. AppendsSome (O.contents out.old) (O.contents out.new)
-        (IsFollowUnder declaration.now room false text)) }
+    ensures done { result ≡ Status.Done
+        → WroteAll (R.remaining input.old) (O.contents out.old) (O.contents out.new) declaration.now room false }
     // A line of the input was refused, and the answers to the others were written, and nothing else.
-    ensures refused { result ≡ Status.TextRefused → GaveAll (R.remaining input.old) (λ text. AppendsSome (O.contents out.old) (O.contents out.new)
-        (IsFollowUnder declaration.now room true text)) }
+    ensures refused { result ≡ Status.TextRefused
+        → WroteAll (R.remaining input.old) (O.contents out.old) (O.contents out.new) declaration.now room true }
     // The text isn't a declaration, and nothing was written.
     ensures undeclared { result ≡ Status.DeclarationRefused
         → Keeps (O.contents out.old) (O.contents out.new) × IsNoDeclaration declaration.now }

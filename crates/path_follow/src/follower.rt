@@ -4,7 +4,7 @@ ghost use Rattle.std.specs.Prelude.{◌≡◌, ◌++◌, false, [], IfErr, OnOk}
 ghost use Rattle.std.specs.Io.KnownBytes.{Appends, Keeps};
 ghost use Rattle.path_fields.specs.Splits.{HasNone};
 ghost use Rattle.path_shelf.specs.States.{MayFail};
-ghost use Rattle.path_follow.specs.Inner.Taken.{GoesOn, Passes, Stopped, Takes, Through};
+ghost use Rattle.path_follow.specs.Inner.Taken.{GoesOn, Passes, Stopped, Takes};
 ghost use Rattle.path_follow.specs.Stops.{IsWriting, UnlessWriting};
 
 use crate::answer::answer;
@@ -123,25 +123,5 @@ impl<D: Device, A: Allocator + Copy> Follower<D, A> {
         }
         pending.extend_from_slice(rest)?;
         Ok(())
-    }
-
-    /// Takes the last line, which no line feed ends, if there is one.
-    pub fn take_last<O: Write, E: Write>(
-        &mut self,
-        alloc: A,
-        line: &[u8],
-        out: &mut O,
-        err: &mut E,
-    ) -> Result<(), Stop>
-        requires whole { self.old.system.earlier ≡ [] }
-        requires one { HasNone 10 line.now }
-        ensures ok { OnOk result (Through (MayFail D.state) self.old.system line.now self.old.refused self.new.refused
-            (O.contents out.old) (O.contents out.new)) }
-        ensures err { IfErr result (λ stop. UnlessWriting stop (Keeps (O.contents out.old) (O.contents out.new))) }
-    {
-        if line.is_empty() {
-            return Ok(());
-        }
-        self.take_line(alloc, line, out, err)
     }
 }

@@ -5,6 +5,7 @@ pub mod KeptPaths
 pub mod Counts
 pub mod Fits
 pub mod Sound
+pub mod Forbidding
 pub mod Runs
 pub mod OpeningValues
 pub mod Opened

@@ -1,5 +1,5 @@
 -- What contracts see of a gate, and at which history a gate is.
-use Rattle.std.specs.Prelude.{◌≡◌, ◌+◌, ℕ, List, [], ◌∷◌, ◌++◌, slice_index, MatchResult, Result, refl}
+use Rattle.std.specs.Prelude.{◌≡◌, ◌+◌, ◌↔◌, ℕ, Bool, IsTrue, List, [], ◌∷◌, ◌++◌, slice_index, MatchResult, Result, refl}
 use Rattle.std.specs.Coded.{Coded, code_by, coded×, coded_ℕ, coded_list}
 use Rattle.path_model.specs.declared.ids.OpId.{OpId}
 use Rattle.path_model.specs.declared.ids.PathId.{PathId}
@@ -9,7 +9,7 @@ use Rattle.path_model.specs.Trees.{Tree, Names}
 use Rattle.path_model.specs.Histories.{begun, ended}
 use Rattle.path_model.specs.Legal as legal
 use Rattle.path_model.specs.Machine.{opening}
-use Rattle.path_model.specs.Trimmed.{lean_among}
+use Rattle.path_model.specs.Trimmed.{kept, lean_among}
 use Rattle.path_decl.specs.Inner.Stored.{tree_code}
 use Rattle.path_gate.specs.Levels.{Levels, levels}
 use Rattle.path_gate.specs.Inner.Sites.{kept_paths, Shows}
@@ -47,6 +47,16 @@ abbrev pub Judges : {E : Type 0} → Standing → OpId → Result E PathId → T
 Judges g a result =
     (h : List Event) → legal.Legal g.paths h → IsAt g h
     → MatchResult result (λ ok. legal.Legal g.paths (h ++ Began a ∷ [])) (λ p. legal.First (legal.Forbids h a) g.paths p.0)
+
+-- P holds of what has this number
+abbrev pub AtNumber : {A : Type 0} → (A → Type 0) → ℕ → List (ℕ × A) → Type 0
+AtNumber P p [] = Unit {0}
+AtNumber P p (x ∷ xs) = (x.0 ≡ p → P x.1) × AtNumber P p xs
+
+-- of a path whose tree no earlier path has: whether it forbids a start after each legal history at which the gate is
+abbrev pub Tells : Standing → ℕ → OpId → Bool → Type 0
+Tells g p a told =
+    (h : List Event) → legal.Legal g.paths h → IsAt g h → AtNumber (λ s. IsTrue told ↔ legal.Forbids h a s) p (kept [] g.paths)
 
 -- the gate after an admitted start
 pub record Admitted (old : Standing) (a : OpId) (new : Standing) : Type 0 where

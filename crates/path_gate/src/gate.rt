@@ -7,9 +7,10 @@
 ghost use Rattle.std.specs.Prelude.{◌≡◌, ◌≢◌, ◌+◌, ◌<◌, length, All, IfOk, OnOk, OnErr, MatchResult, slice_index, slice_index_or, []};
 ghost use Rattle.path_model.specs.Trees.{Names};
 ghost use Rattle.path_model.specs.Legal as legal;
-ghost use Rattle.path_gate.specs.Standings.{IsNamed, IsAt, Judges, Admitted, BlocksStay, Released};
+ghost use Rattle.path_gate.specs.Standings.{IsNamed, IsAt, Judges, Tells, Admitted, BlocksStay, Released};
 ghost use Rattle.path_gate.specs.Levels.{levels_in};
-ghost use Rattle.path_gate.specs.Inner.Terms.{IsWithin, blocking, all_started, all_finished, CanStartAll, CanFinishAll, one_more, one_less};
+ghost use Rattle.path_gate.specs.Inner.Terms.{IsWithin, blocking, is_blocked_at, all_started, all_finished};
+ghost use Rattle.path_gate.specs.Inner.Terms.{CanStartAll, CanFinishAll, one_more, one_less};
 ghost use Rattle.path_gate.specs.Inner.Soundness.{IsLaidOut, runs_of};
 
 mod levels;
@@ -48,6 +49,19 @@ fn first_blocked<A: Allocator + Copy>(levels: &Levels<A>, terms: &[Term]) -> Res
         }
     }
     Ok(())
+}
+
+/// Whether a term of the path can't pass. Writes nothing.
+fn is_blocked<A: Allocator + Copy>(levels: &Levels<A>, terms: &[Term], path: PathId) -> bool
+    requires { All (IsWithin (length levels.now.semaphores.items) (length levels.now.counters.items)) terms.now }
+    ensures { result ≡ is_blocked_at path.0 terms.now (levels_in levels.now) }
+{
+    for term in terms {
+        if term.path == path && !levels.can_pass(term.prologue) {
+            return true;
+        }
+    }
+    false
 }
 
 /// Does the prologues of all terms.
@@ -179,6 +193,17 @@ impl<A: Allocator + Copy> Gate<A> {
     {
         let terms = run_of(&self.terms, &self.ranges, op);
         first_blocked(&self.levels, terms)
+    }
+
+    /// Whether this path forbids a start of the operation now: it names the operation, and the start would leave its behaviour. The path
+    /// is one whose tree no earlier path has; for any other, which the earlier one makes useless, the answer is `false`.
+    ///
+    /// Changes nothing and allocates nothing. The cost is one look at each path that names the operation.
+    pub fn forbids(&self, path: PathId, op: OpId) -> bool
+        ensures { Tells self.now path.0 op result }
+    {
+        let terms = run_of(&self.terms, &self.ranges, op);
+        is_blocked(&self.levels, terms, path)
     }
 
     /// Admits a start of the operation; the error is the first path in the file that forbids it.

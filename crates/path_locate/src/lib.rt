@@ -10,14 +10,14 @@ mod near;
 mod places;
 mod records;
 mod scripts;
+mod texts;
 mod wording;
 
 pub use declarations::declaration_finding;
 pub use finding::{Finding, push_finding};
 pub use likely::Likely;
-pub use lines::attempts_finding;
 pub use near::nearest;
 pub use places::{Spot, columns, spot_at};
-pub use records::journal_finding;
 pub use scripts::script_finding;
+pub use texts::{TextKind, text_finding};
 pub use wording::Wrong;

@@ -1,8 +1,7 @@
-//! Texts of attempts.
+//! Lines of attempts, and what is found in a line.
 
-ghost use Rattle.std.specs.Prelude.{◌≡◌, IfNone, IfOk, IfSome};
-ghost use Rattle.path_lines.specs.declared.texts.TextFault.TheVariants as faults;
-ghost use Rattle.path_locate.specs.Places.{IsLineSpot, IsSpotBehind, number_of};
+ghost use Rattle.std.specs.Prelude.{IfOk};
+ghost use Rattle.path_locate.specs.Places.{IsSpotBehind};
 
 use crate::finding::Finding;
 use crate::likely::likely_at;
@@ -12,7 +11,7 @@ use crate::places::{Spot, behind, spot_at, spot_behind};
 use crate::wording::Wrong;
 use path_decl::{Decl, counts, op_name};
 use path_fields::{number, strip, until};
-use path_lines::{LIMIT, TextFault, declared};
+use path_lines::declared;
 use path_model::{OpId, OutOfMemory};
 use std::alloc::Allocator;
 
@@ -142,29 +141,4 @@ pub fn too_long<A: Allocator + Copy>(
         nearest: String::new(alloc),
         likely: None,
     }
-}
-
-/// Where a text of attempts has this fault, which [`read_attempts`](path_lines::read_attempts) found in it; `None` if memory was
-/// wanting then. Fails only if allocation fails. The cost is two passes over the text up to the end of the fault's line, and a look at each
-/// declared name.
-pub fn attempts_finding<'a, A: Allocator + Copy>(
-    alloc: A,
-    decl: &Decl<A>,
-    text: &'a [u8],
-    fault: TextFault,
-) -> Result<Option<Finding<'a, A>>, OutOfMemory>
-    ensures spot { IfOk result (λ found. IfSome found (λ finding. IsLineSpot text.now (number_of fault) finding.spot)) }
-    ensures none { IfOk result (λ found. IfNone found (fault ≡ faults.OutOfMemory)) }
-{
-    let (number, wrong) = match fault {
-        TextFault::OutOfMemory => return Ok(None),
-        TextFault::TooLong => return Ok(Some(too_long(alloc, text, LIMIT, Wrong::TooLong))),
-        TextFault::BadLine(number) => (number, Wrong::Line),
-        TextFault::Undeclared(number) => (number, Wrong::Undeclared),
-    };
-    let line = line_of(text, number);
-    let miss = attempt(decl, line)
-        .err()
-        .unwrap_or(missing(b"", Wanted::End));
-    Ok(Some(found(alloc, decl, text, number, miss, wrong)?))
 }

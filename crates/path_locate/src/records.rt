@@ -1,17 +1,10 @@
-//! Texts of journals.
+//! Lines of journals.
 
-ghost use Rattle.std.specs.Prelude.{◌≡◌, IfNone, IfOk, IfSome};
-ghost use Rattle.path_lines.specs.declared.texts.TextFault.TheVariants as faults;
-ghost use Rattle.path_locate.specs.Places.{IsLineSpot, number_of};
-
-use crate::finding::Finding;
-use crate::lines::{attempt, found, line_of, too_long};
+use crate::lines::attempt;
 use crate::miss::{Miss, Wanted, after, after_number, at_end, missing, word};
-use crate::wording::Wrong;
 use path_decl::Decl;
 use path_fields::{strip, until};
-use path_lines::{LIMIT, TextFault};
-use path_model::{MOST_LINES, OutOfMemory};
+use path_model::MOST_LINES;
 use std::alloc::Allocator;
 
 /// The replies without a number.
@@ -71,7 +64,7 @@ fn in_front(miss: Miss, behind: usize) -> Miss {
     }
 }
 
-/// A line of a journal.
+/// An attempt with its reply.
 fn journal_line<A: Allocator + Copy>(decl: &Decl<A>, line: &[u8]) -> Result<(), Miss> {
     let (front, rest) = until(line, b':');
     if let Err(miss) = attempt(decl, front) {
@@ -89,30 +82,11 @@ fn head(line: &[u8]) -> Result<(), Miss> {
     Err(missing(rest, Wanted::Head))
 }
 
-/// Where the text of a journal has this fault, which [`read_journal`](path_journal::read_journal) found in it; `None` if memory was
-/// wanting then. Fails only if allocation fails. The cost is two passes over the text up to the end of the fault's line, and a look at each
-/// declared name.
-pub fn journal_finding<'a, A: Allocator + Copy>(
-    alloc: A,
-    decl: &Decl<A>,
-    text: &'a [u8],
-    fault: TextFault,
-) -> Result<Option<Finding<'a, A>>, OutOfMemory>
-    ensures spot { IfOk result (λ found. IfSome found (λ finding. IsLineSpot text.now (number_of fault) finding.spot)) }
-    ensures none { IfOk result (λ found. IfNone found (fault ≡ faults.OutOfMemory)) }
-{
-    let (number, wrong) = match fault {
-        TextFault::OutOfMemory => return Ok(None),
-        TextFault::TooLong => return Ok(Some(too_long(alloc, text, LIMIT, Wrong::TooLong))),
-        TextFault::BadLine(number) => (number, Wrong::Line),
-        TextFault::Undeclared(number) => (number, Wrong::Undeclared),
-    };
-    let line = line_of(text, number);
-    let read = if number == 0 && line.starts_with(b"j") {
+/// The line of this number, counted from 0, of a journal. The first may be the head of version 2.
+pub fn record<A: Allocator + Copy>(decl: &Decl<A>, number: u32, line: &[u8]) -> Result<(), Miss> {
+    if number == 0 && line.starts_with(b"j") {
         head(line)
     } else {
         journal_line(decl, line)
-    };
-    let miss = read.err().unwrap_or(missing(b"", Wanted::End));
-    Ok(Some(found(alloc, decl, text, number, miss, wrong)?))
+    }
 }

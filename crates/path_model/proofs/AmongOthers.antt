@@ -68,7 +68,7 @@ still_may (burst bd s) nr nn h a b {p} {q} f m x = still_may s nr (flat_fits s n
 pub project_named : (s : Tree) (h : List Event) (e : Event) → Names s (op_of e) → projection s (h ++ e ∷ []) ≡ projection s h ++ e ∷ []
 project_named s h e k = projection_append s h (e ∷ []) ∙ ap (λ u. projection s h ++ u) (cond-true (has s (op_of e)) (e ∷ []) [] (has_names s (op_of e) k))
 
-project_other : (s : Tree) (h : List Event) (e : Event) → (Names s (op_of e) → ⊥) → projection s (h ++ e ∷ []) ≡ projection s h
+pub project_other : (s : Tree) (h : List Event) (e : Event) → (Names s (op_of e) → ⊥) → projection s (h ++ e ∷ []) ≡ projection s h
 project_other s h e n = projection_append s h (e ∷ []) ∙ ap (λ u. projection s h ++ u) (cond-false (has s (op_of e)) (e ∷ []) [] (has_not s (op_of e) n)) ∙ append-nil (projection s h)
 
 pub among : (s : Tree) (v : Values) (h : List Event) → values_among s v h ≡ values_from s v (projection s h)

@@ -16,6 +16,7 @@ pub use Rattle.path_model.proofs.MachineOwes.{the_machine_owes_the_same, honest_
 pub use Rattle.path_model.proofs.Progress.{legal_kept as each_honest_journal_is_legal, room_kept as each_honest_journal_has_room, progress_counts as live_activations_are_in_progress}
 pub use Rattle.path_model.proofs.OwedReplies.{each_attempt_is_owed_a_reply, one_reply_is_owed}
 pub use Rattle.path_model.proofs.StuckStates.{frozen_stays_frozen, startables_may_start, live_activations_may_finish, finishes_come_between}
+pub use Rattle.path_model.proofs.StuckResources.{stuck_stays_stuck}
 pub use Rattle.path_model.proofs.Unasked.{unasked_devices_may_be_replaced}
 pub use Rattle.path_model.proofs.Segments.{one_segment_is_a_journal, more_room_keeps_honest, segments_are_one_journal, each_segment_has_room, each_attempt_is_owed_a_reply_behind, one_reply_is_owed_behind}
 pub use Rattle.path_model.proofs.TreeTests.{well_formed_trees_pass}

@@ -34,6 +34,7 @@ pub mod HonestJournals
 pub mod Progress
 pub mod OwedReplies
 pub mod StuckStates
+pub mod StuckResources
 pub mod MachineOwes
 pub mod Admission
 pub mod Examples

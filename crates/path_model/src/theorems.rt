@@ -18,7 +18,7 @@ ghost use Rattle.path_model.specs.Owed.{OneReplyIsOwed};
 ghost use Rattle.path_model.specs.Asked.{UnaskedDevicesMayBeReplaced};
 ghost use Rattle.path_model.specs.Segments.{OneSegmentIsAJournal, MoreRoomKeepsHonest, SegmentsAreOneJournal, EachSegmentHasRoom};
 ghost use Rattle.path_model.specs.Segments.{EachAttemptIsOwedAReplyBehind, OneReplyIsOwedBehind};
-ghost use Rattle.path_model.specs.Stuck.{FrozenStaysFrozen, StartablesMayStart, LiveActivationsMayFinish, FinishesComeBetween};
+ghost use Rattle.path_model.specs.Stuck.{FrozenStaysFrozen, StuckStaysStuck, StartablesMayStart, LiveActivationsMayFinish, FinishesComeBetween};
 ghost use Rattle.path_model.specs.TreeTests.{WellFormedTreesPass};
 ghost use Rattle.path_model.specs.Guarantees.{EachFrontIsLegal, EachFrontIsLegalOnAll, CountsAddUp};
 ghost use Rattle.path_model.specs.Guarantees.{EachPathKeepsItsCounts, EachValueIsACount, EnteredPartsAreUnderway, EachEndWasBegun};
@@ -196,6 +196,11 @@ pub fn unasked_devices_may_be_replaced()
 /// After a journal with nothing live and nothing to start, nothing is ever admitted again.
 pub fn frozen_stays_frozen()
     ensures { FrozenStaysFrozen }
+{}
+
+/// After a journal with nothing of a resource live and nothing of it to start, nothing of that resource is ever admitted again.
+pub fn stuck_stays_stuck()
+    ensures { StuckStaysStuck }
 {}
 
 /// An operation that can be started is owed its start if there is room.

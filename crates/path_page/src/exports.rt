@@ -6,11 +6,11 @@
 //! The page owes, unchecked: what [`Memory`] says; buffers and texts that overlap neither each other nor the memory; no null address,
 //! also for an empty text; and 0 or 1 for a `bool`.
 
-ghost use Rattle.path_answers.specs.Answers.{IsAuditAnswer, IsCheckAnswer, IsCompileAnswer, IsTraceAnswer};
+ghost use Rattle.path_answers.specs.Answers.{IsAuditAnswer, IsCheckAnswer, IsCompileAnswer, IsPictureAnswer, IsTraceAnswer};
 ghost use Rattle.path_page.specs.Told.{IsTold};
 
 use crate::tell::{Lengths, tell};
-use path_answers::{audit, check, compile, trace};
+use path_answers::{audit, check, compile, picture, trace};
 use path_arena::{Arena, Memory};
 
 /// The trace of attempts in a journal with room for so many lines, and behind it the report if `report` is set.
@@ -81,5 +81,24 @@ pub extern "C" fn path_page_audit(
 {
     let arena = Arena::new(memory);
     let answer = audit(&arena, declaration, room, journal);
+    tell(&answer, out, err, lengths)
+}
+
+/// The picture of attempts and their replies in a journal with room for so many lines.
+#[unsafe(no_mangle)]
+pub extern "C" fn path_page_picture(
+    memory: Memory,
+    declaration: &[u8],
+    room: u32,
+    attempts: &[u8],
+    out: &mut [u8],
+    err: &mut [u8],
+    lengths: &mut Lengths,
+) -> u32
+    ensures { IsTold (IsPictureAnswer declaration.now room attempts.now) result lengths.new.out lengths.new.err
+        out.old out.new err.old err.new }
+{
+    let arena = Arena::new(memory);
+    let answer = picture(&arena, declaration, room, attempts);
     tell(&answer, out, err, lengths)
 }

@@ -1,5 +1,5 @@
 -- Which texts are drawn, and why others aren't.
-use Rattle.std.specs.Prelude.{ℕ, ◌<◌, List, length, Option, ◌⊎◌}
+use Rattle.std.specs.Prelude.{◌≡◌, ℕ, ◌<◌, List, ◌++◌, length, codes, Option, ◌⊎◌}
 use Rattle.path_model.specs.declared.journal.Line.{Line}
 use Rattle.path_model.specs.Declarations.{Declaration}
 use Rattle.path_model.specs.Rooms.{IsBadRoom}
@@ -9,6 +9,11 @@ use Rattle.path_streams.specs.declared.status.Status.{Status}
 use Rattle.path_streams.specs.declared.status.Status.TheVariants as statuses
 use Rattle.path_streams.specs.Refusals.{IsNoDeclaration}
 use Rattle.path_trace.specs.Traces.{HasAttempts, IsBadText, IsBadTextUnder, LacksRoomUnder}
+
+-- an SVG: from its first mark to its last
+abbrev pub IsPicture : List ℕ → Type 0
+IsPicture bytes =
+    (inside : List ℕ) × (bytes ≡ codes "<svg xmlns=\"http://www.w3.org/2000/svg\" " ++ (inside ++ codes "</svg>\n"))
 
 -- the text is a list of attempts, under the declaration in another text
 abbrev pub HasAttemptsUnder : List ℕ → List ℕ → Type 0

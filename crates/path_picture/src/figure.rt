@@ -1,5 +1,9 @@
 //! The picture of a journal.
 
+ghost use Rattle.std.specs.Prelude.{IfOk};
+ghost use Rattle.std.specs.String.{string_bytes};
+ghost use Rattle.path_picture.specs.Pictures.{IsPicture};
+
 use crate::layout::{Bar, Layout, Mark};
 use crate::shapes::{
     LEFT, ROW, STEP, STRIP, STYLE, TOP, across, down, push_cause, push_name, push_title,
@@ -10,6 +14,12 @@ use std::alloc::Allocator;
 
 /// The most lines that a picture shows.
 pub const LINES: usize = 2_000;
+
+/// What each picture begins with.
+const BEGIN: &str = "<svg xmlns=\"http://www.w3.org/2000/svg\" ";
+
+/// What each picture ends with.
+const END: &str = "</svg>\n";
 
 /// What a picture is made of.
 #[derive(Drop)]
@@ -53,7 +63,7 @@ fn push_caption<A: Allocator + Copy>(
     Ok(())
 }
 
-/// Appends the head of a picture of this size, and what it says of its lines.
+/// Appends the size of a picture, its style, and what it says of its lines.
 fn push_head<A: Allocator + Copy>(
     out: &mut String<A>,
     (width, height): (u64, u64),
@@ -62,9 +72,8 @@ fn push_head<A: Allocator + Copy>(
 ) -> Result<(), OutOfMemory> {
     write!(
         out,
-        "<svg xmlns=\"http://www.w3.org/2000/svg\" width=\"{width}\" height=\"{height}\" "
+        "width=\"{width}\" height=\"{height}\" viewBox=\"0 0 {width} {height}\" role=\"img\">\n"
     )?;
-    write!(out, "viewBox=\"0 0 {width} {height}\" role=\"img\">\n")?;
     out.push_str(STYLE)?;
     write!(
         out,
@@ -217,6 +226,17 @@ impl<A: Allocator + Copy> Figure<'_, A> {
     }
 }
 
+/// A picture with this between what each begins with and what each ends with.
+fn framed<A: Allocator + Copy>(alloc: A, inside: &str) -> Result<String<A>, OutOfMemory>
+    ensures { IfOk result (λ text. IsPicture (string_bytes text)) }
+{
+    let mut out = String::new(alloc);
+    out.push_str(BEGIN)?;
+    out.push_str(inside)?;
+    out.push_str(END)?;
+    Ok(out)
+}
+
 /// The lines that a picture of these shows: the first [`LINES`].
 fn shown_of(lines: &[Line]) -> &[Line] {
     &lines[..lines.len().min(LINES)]
@@ -234,7 +254,9 @@ pub fn draw<A: Allocator + Copy>(
     decl: &Decl<A>,
     lines: &[Line],
     all: usize,
-) -> Result<String<A>, OutOfMemory> {
+) -> Result<String<A>, OutOfMemory>
+    ensures { IfOk result (λ text. IsPicture (string_bytes text)) }
+{
     let lines = shown_of(lines);
     let layout = Layout::of(alloc, lines)?;
     let (tops, bottom) = tops_of(alloc, &layout)?;
@@ -246,14 +268,13 @@ pub fn draw<A: Allocator + Copy>(
         tops: &tops,
         right,
     };
-    let mut out = String::new(alloc);
+    let mut inside = String::new(alloc);
     let size = (right.max(LEFT + 20 * STEP), bottom.saturating_add(30));
-    push_head(&mut out, size, lines.len(), all)?;
-    figure.push_grid(&mut out, bottom)?;
-    figure.push_lanes(&mut out)?;
-    figure.push_bars(alloc, &mut out)?;
-    figure.push_marks(alloc, &mut out)?;
-    push_legend(&mut out, bottom.saturating_add(18))?;
-    out.push_str("</svg>\n")?;
-    Ok(out)
+    push_head(&mut inside, size, lines.len(), all)?;
+    figure.push_grid(&mut inside, bottom)?;
+    figure.push_lanes(&mut inside)?;
+    figure.push_bars(alloc, &mut inside)?;
+    figure.push_marks(alloc, &mut inside)?;
+    push_legend(&mut inside, bottom.saturating_add(18))?;
+    framed(alloc, &inside)
 }

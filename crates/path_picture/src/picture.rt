@@ -2,12 +2,14 @@
 
 ghost use Rattle.std.specs.Prelude.{◌≡◌, ◌≢◌, map, IfOk, IfErr, OnOk};
 ghost use Rattle.std.specs.Io.KnownBytes.{Keeps};
+ghost use Rattle.std.specs.String.{string_bytes};
 ghost use Rattle.path_model.specs.Rooms.{IsBadRoom};
 ghost use Rattle.path_shelf.specs.Own.{own_state};
 ghost use Rattle.path_streams.specs.Refusals.{IsNoDeclaration};
 ghost use Rattle.path_streams.specs.Statuses.{status_of};
+ghost use Rattle.path_streams.specs.Writes.{AppendsSome};
 ghost use Rattle.path_trace.specs.Traces.{own_states, HasAttempts, IsBadTextUnder, LacksRoomUnder};
-ghost use Rattle.path_picture.specs.Pictures.{HasAttemptsUnder, IsUndrawn, IsUndrawnOf};
+ghost use Rattle.path_picture.specs.Pictures.{HasAttemptsUnder, IsPicture, IsUndrawn, IsUndrawnOf};
 ghost use Rattle.path_picture.specs.Pictures.{IsBadJournalUnder, IsJournalUnder, IsUndrawnJournal};
 
 use crate::figure::{LINES, draw};
@@ -46,7 +48,9 @@ fn drawn_of<D: Device, A: Allocator + Copy>(
     alloc: A,
     system: &mut Controller<D, A>,
     attempts: &[(u32, Attempt)],
-) -> Result<String<A>, OutOfMemory> {
+) -> Result<String<A>, OutOfMemory>
+    ensures { IfOk result (λ text. IsPicture (string_bytes text)) }
+{
     let lines = lines_of(alloc, system, attempts)?;
     draw(alloc, system.decl(), &lines, attempts.len())
 }
@@ -61,6 +65,7 @@ fn drawn<A: Allocator + Copy>(
 ) -> Result<String<A>, Fault<'static>>
     requires { map own_state devices.items ≡ own_states decl.declaration }
     ensures ok { IfOk result (λ _. HasAttempts decl.declaration text.now) }
+    ensures picture { IfOk result (λ text. IsPicture (string_bytes text)) }
     ensures opened { OnOk result (IsBadRoom room → ⊥) }
     ensures err { IfErr result (λ fault. IsUndrawnOf decl.declaration room text.now (status_of fault)) }
 {
@@ -86,6 +91,7 @@ fn picture<A: Allocator + Copy>(
     attempts: &[u8],
 ) -> Result<String<A>, Fault<'static>>
     ensures ok { IfOk result (λ _. HasAttemptsUnder declaration.now attempts.now) }
+    ensures picture { IfOk result (λ text. IsPicture (string_bytes text)) }
     ensures opened { OnOk result (IsBadRoom room → ⊥) }
     ensures err { IfErr result (λ fault. IsUndrawn declaration.now room attempts.now (status_of fault)) }
 {
@@ -100,6 +106,7 @@ fn journal_picture<A: Allocator + Copy>(
     journal: &[u8],
 ) -> Result<String<A>, Fault<'static>>
     ensures ok { IfOk result (λ _. IsJournalUnder declaration.now journal.now) }
+    ensures picture { IfOk result (λ text. IsPicture (string_bytes text)) }
     ensures err { IfErr result (λ fault. IsUndrawnJournal declaration.now journal.now (status_of fault)) }
 {
     let decl = match read(alloc, declaration) {
@@ -129,6 +136,8 @@ pub fn picture_bytes<A: Allocator + Copy, O: Write, E: Write>(
 ) -> Status
     // The texts are a declaration and a list of attempts.
     ensures done { result ≡ Status.Done → HasAttemptsUnder declaration.now attempts.now }
+    // A picture was written, and nothing else.
+    ensures picture { result ≡ Status.Done → AppendsSome (O.contents out.old) (O.contents out.new) IsPicture }
     // Done means that a system can have the room.
     ensures room { IsBadRoom room → result ≢ Status.Done }
     // The text isn't a declaration, and nothing was written.
@@ -163,6 +172,8 @@ pub fn picture_journal_bytes<A: Allocator + Copy, O: Write, E: Write>(
 ) -> Status
     // The texts are a declaration and a journal.
     ensures done { result ≡ Status.Done → IsJournalUnder declaration.now journal.now }
+    // A picture was written, and nothing else.
+    ensures picture { result ≡ Status.Done → AppendsSome (O.contents out.old) (O.contents out.new) IsPicture }
     // The text isn't a declaration, and nothing was written.
     ensures undeclared { result ≡ Status.DeclarationRefused
         → Keeps (O.contents out.old) (O.contents out.new) × IsNoDeclaration declaration.now }

@@ -33,3 +33,6 @@ spaced-path out os t = simp (append_assoc, spaced-append) refl
 
 -- what the code writes of a tree
 pub ruleset tree_texts = (spaced-wrapped, spaced-braces, spaced-counted)
+
+-- and of a path
+pub ruleset path_texts = (spaced-path)

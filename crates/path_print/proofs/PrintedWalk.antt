@@ -1,14 +1,13 @@
 -- The operation and the path at an index, and what follows them.
-use Rattle.std.proofs.Common.{◌≡◌, ℕ, zero, suc, ◌+◌, ◌<◌, ◌≤◌, ◌==◌, Bool, true, false, List, [], ◌∷◌, ◌++◌, length, drop, nat_lt, Option, Some, None, slice_get, option_map, unwrap_or, refl, sym, ap, ◌∙◌, subst, arith, add-one, append_assoc, append-nil, codes, inl, inr, if◌then◌else◌}
+use Rattle.std.proofs.Common.{◌≡◌, ℕ, zero, suc, ◌+◌, ◌<◌, ◌≤◌, ◌==◌, Bool, true, false, List, [], ◌∷◌, ◌++◌, length, drop, nat_lt, Option, Some, None, slice_get, option_map, unwrap_or, refl, sym, ap, ◌∙◌, subst, arith, add-one, append_assoc, append-nil, inl, inr, if◌then◌else◌}
 use Rattle.std.proofs.Math.Seq.{drop-nil}
 use Rattle.std.proofs.lemmas.List.{drop_all}
 use Rattle.std.proofs.lemmas.Bool.{lt-ltb, le-ltb, ltb-true, ltb-false, cases_Bool}
 use Rattle.path_model.specs.Trees.{Tree}
 use Rattle.path_model.specs.Declarations.{Resource, Operation, Path}
 use Rattle.path_lex.specs.Spelling.{Piece}
-use Rattle.path_print.specs.Printed.{spaced, resource_pieces, names_pieces, more_names, paths_pieces, path_pieces, tree_pieces}
-use Rattle.path_print.specs.declared.printer.Place.TheVariants.{InSeq}
-use Rattle.path_print.proofs.PrintedBytes.{spaced-append, spaced-path}
+use Rattle.path_print.specs.Printed.{spaced, resource_pieces, names_pieces, more_names, paths_pieces, path_pieces}
+use Rattle.path_print.proofs.PrintedBytes.{spaced-append}
 use Rattle.path_print.specs.Inner.PrintedSteps.{here, after, names_here, operations_after, trees_here, paths_after}
 
 some_is : {X : Type 0} {m n : X} → Some m ≡ Some n → m ≡ n
@@ -158,9 +157,8 @@ pub pathed_first : (before : List ℕ) (k : ℕ) (os : List Operation) (ps : Lis
 pathed_first before k os ps first = record { reached = omega arith; text = refl; left = refl }
 
 pub pathed_more : (before out next : List ℕ) (tree : Tree) (k : ℕ) (os : List Operation) (ps : List Path) (first i : ℕ) → Pathed before out k os ps first i → Some tree ≡ slice_get (trees_here k (drop i ps)) 0 →
-    next ≡ ((out ++ codes " path") ++ spaced (tree_pieces os tree InSeq)) ++ codes " end" → Pathed before next k os ps first (i + 1)
-pathed_more before out next tree k os ps first i n e ended =
-    let is : next ≡ out ++ spaced (path_pieces os tree) = ended ∙ spaced-path out os tree in
+    next ≡ out ++ spaced (path_pieces os tree) → Pathed before next k os ps first (i + 1)
+pathed_more before out next tree k os ps first i n e is =
     let s = steps_at (λ p. p.resource) (λ p. p.tree) k ps i tree e in
     let was : spaced (paths_pieces os (trees_here k (drop i ps))) ≡ spaced (path_pieces os tree) ++ spaced (paths_pieces os (trees_here k (drop (i + 1) ps))) = rw s.shown (spaced-append (path_pieces os tree) (paths_pieces os (trees_here k (drop (i + 1) ps)))) in
     record {

@@ -1,7 +1,8 @@
 -- The printed text of a declaration.
-use Rattle.std.specs.Prelude.{ℕ, ◌+◌, ◌==◌, Bool, true, false, List, [], ◌∷◌, ◌++◌, map, filter, slice_get, option_map, unwrap_or, codes}
+use Rattle.std.specs.Prelude.{ℕ, ◌+◌, ◌==◌, Bool, true, false, List, [], ◌∷◌, ◌++◌, map, filter, slice_get, option_map, unwrap_or, codes, Option, Some, None}
 use Rattle.std.specs.Fmt.{decimal}
 use Rattle.path_model.specs.declared.ids.OpId.{OpId}
+use Rattle.path_model.specs.declared.ids.PathId.{PathId}
 use Rattle.path_model.specs.declared.resource.Law.{Law}
 use Rattle.path_model.specs.declared.resource.Law.TheVariants as laws
 use Rattle.path_model.specs.Trees.{Bound, any, most, Tree, op, seq, alt, burst}
@@ -104,6 +105,15 @@ tree_pieces os (burst b s) place = sign signs.OpenBrace ∷ (tree_pieces os s In
 -- the tokens of a path
 abbrev pub path_pieces : List Operation → Tree → List Piece
 path_pieces os t = reserved words.Path ∷ (tree_pieces os t InSeq ++ reserved words.End ∷ [])
+
+-- the text of a path after a space, if there is one
+abbrev pub tree_text : List Operation → Option Tree → List ℕ
+tree_text os None = []
+tree_text os (Some t) = spaced (path_pieces os t)
+
+-- the text of the path of this number after a space
+abbrev pub path_text : Declaration → PathId → List ℕ
+path_text d p = tree_text d.operations (option_map (λ p. p.tree) (slice_get d.paths p.0))
 
 -- the tokens of paths, in order
 abbrev pub paths_pieces : List Operation → List Tree → List Piece

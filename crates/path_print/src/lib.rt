@@ -3,4 +3,4 @@
 
 mod printer;
 
-pub use printer::print;
+pub use printer::{print, push_path};

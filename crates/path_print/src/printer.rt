@@ -5,7 +5,7 @@ ghost use Rattle.std.specs.String.{string_bytes};
 ghost use Rattle.path_model.specs.Trees.{shape};
 ghost use Rattle.path_model.specs.Declarations.{Resource};
 ghost use Rattle.path_decl.specs.Text.{IsDeclarationText};
-ghost use Rattle.path_print.specs.Printed.{head_pieces, law_pieces, names_pieces, tree_pieces, paths_pieces, printed};
+ghost use Rattle.path_print.specs.Printed.{head_pieces, law_pieces, names_pieces, tree_pieces, path_pieces, paths_pieces, path_text, printed};
 ghost use Rattle.path_print.specs.Inner.PrintedSteps.{names_here, operations_after, trees_here, paths_after, Writes, joined};
 
 use path_decl::{
@@ -138,6 +138,37 @@ fn put_names<A: Allocator + Copy, B: Allocator + Copy>(
     Ok(total)
 }
 
+/// Writes the tokens of a path with this tree, from `path` to `end`.
+#[tactic(auto, using(crate::proofs::PrintedBytes::path_texts))]
+fn put_path<A: Allocator + Copy, B: Allocator + Copy>(
+    out: &mut String<B>,
+    decl: &Decl<A>,
+    tree: &Expr<A>,
+) -> Result<(), OutOfMemory>
+    ensures { OnOk result (Writes out.old out.new (path_pieces decl.now.declaration.operations (shape tree.now))) }
+{
+    out.push_str(" path")?;
+    put_tree(out, decl, tree, Place::InSeq)?;
+    out.push_str(" end")?;
+    Ok(())
+}
+
+/// Appends the text of one declared path as it stands in the print of the declaration: its tokens from `path` to `end`, each after a
+/// space but `,`, `;` and `:`. Appends nothing for a path that isn't declared. If allocation fails, what the text contains then isn't
+/// specified. The cost is that of the text.
+pub fn push_path<A: Allocator + Copy, B: Allocator + Copy>(
+    out: &mut String<B>,
+    decl: &Decl<A>,
+    path: PathId,
+) -> Result<(), OutOfMemory>
+    ensures { OnOk result (string_bytes out.new ≡ string_bytes out.old ++ path_text decl.now.declaration path) }
+{
+    match tree_of(decl, path) {
+        Some(tree) => put_path(out, decl, tree),
+        None => Ok(()),
+    }
+}
+
 /// Writes the resource's paths; the first one is `first`. Returns the first path of the next resource.
 fn put_paths<A: Allocator + Copy, B: Allocator + Copy>(
     out: &mut String<B>,
@@ -155,9 +186,7 @@ fn put_paths<A: Allocator + Copy, B: Allocator + Copy>(
         let Some(tree) = own_tree(decl, resource, PathId(path)) else {
             return Ok(path);
         };
-        out.push_str(" path")?;
-        put_tree(out, decl, tree, Place::InSeq)?;
-        out.push_str(" end")?;
+        put_path(out, decl, tree)?;
     }
     Ok(total)
 }

@@ -1,5 +1,5 @@
 -- What a run writes: the journal of an honest system, whose lines are what the processes of the script did.
-use Rattle.std.specs.Prelude.{◌≡◌, ℕ, ◌<◌, ◌⊎◌, List, length, Some}
+use Rattle.std.specs.Prelude.{◌≡◌, ℕ, ◌<◌, ◌⊎◌, List, length, Option, Some}
 use Rattle.path_model.specs.declared.journal.Line.{Line}
 use Rattle.path_model.specs.Declarations.{Declaration}
 use Rattle.path_model.specs.Honest.{IsHonest}
@@ -16,6 +16,7 @@ use Rattle.path_run.specs.Runs.{EachRuns}
 use Rattle.path_run.specs.Lines.{EachIsOrderly, EachIsBlockedNow}
 use Rattle.path_streams.specs.declared.status.Status.{Status}
 use Rattle.path_streams.specs.declared.status.Status.TheVariants.{CommandRefused, NoMemory, Unsound}
+use Rattle.path_streams.specs.Writes.{AppendsSome}
 use Rattle.path_trace.specs.Traces.{IsUnopened, own_states}
 
 -- The plans were run over devices in these states, in a journal of this room: it has these lines then, and the processes ended so.
@@ -56,6 +57,10 @@ IsUnrun d states room status = ⊥
 abbrev pub IsRunOfTexts : List ℕ → ℕ → List ℕ → (List End → Type 0) → List ℕ → Type 0
 IsRunOfTexts declaration room script ended bytes =
     (d : Declaration) × IsDeclarationText declaration d × IsRunText d (own_states d) room script ended bytes
+
+-- such a text was written
+abbrev pub WroteRun : Option (List ℕ) → Option (List ℕ) → List ℕ → ℕ → List ℕ → (List End → Type 0) → Type 0
+WroteRun old new declaration room script ended = AppendsSome old new (IsRunOfTexts declaration room script ended)
 
 -- a script is too long, or is none of the declaration that another text is
 abbrev pub IsBadScriptUnder : List ℕ → List ℕ → Type 0

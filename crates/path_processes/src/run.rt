@@ -11,7 +11,7 @@ ghost use Rattle.path_streams.specs.Statuses.{status_of};
 ghost use Rattle.path_streams.specs.Writes.{AppendsSome, IsFrontOf};
 ghost use Rattle.path_trace.specs.Traces.{IsUnopened};
 ghost use Rattle.path_processes.specs.Ends.{AllDone, AnyEnds, NotAllDone, IsStatusOf};
-ghost use Rattle.path_processes.specs.RunTexts.{IsBadScript, IsBadScriptUnder, IsRunOf, IsRunOfTexts, IsRunText, IsUnrun};
+ghost use Rattle.path_processes.specs.RunTexts.{IsBadScript, IsBadScriptUnder, IsRunOf, IsRunOfTexts, IsRunText, IsUnrun, WroteRun};
 
 use crate::ends::{ends_text, status_of_ends};
 use path_decl::Decl;
@@ -199,11 +199,10 @@ pub fn run_bytes<A: Allocator + Copy + Send + Sync, R: Threads + Wait + Sync, O:
     err: &mut E,
 ) -> Status
     // All processes are done, and the journal of their run was written.
-    ensures done { result ≡ Status.Done → AppendsSome (O.contents out.old) (O.contents out.new)
-        (IsRunOfTexts declaration.now room script.now AllDone) }
+    ensures done { result ≡ Status.Done → WroteRun (O.contents out.old) (O.contents out.new) declaration.now room script.now AllDone }
     // Nothing was written, or the journal of a run after which some process isn't done.
     ensures unsound { result ≡ Status.Unsound → Keeps (O.contents out.old) (O.contents out.new)
-        ⊎ AppendsSome (O.contents out.old) (O.contents out.new) (IsRunOfTexts declaration.now room script.now NotAllDone) }
+        ⊎ WroteRun (O.contents out.old) (O.contents out.new) declaration.now room script.now NotAllDone }
     // The text isn't a declaration, and nothing was written.
     ensures undeclared { result ≡ Status.DeclarationRefused
         → Keeps (O.contents out.old) (O.contents out.new) × IsNoDeclaration declaration.now }

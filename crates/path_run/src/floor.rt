@@ -1,9 +1,8 @@
 //! What the processes of a run share, under one lock.
 
-ghost use Rattle.std.specs.Prelude.{◌≡◌, ◌≢◌, ◌+◌, ◌-◌, min, [], ◌++◌, List, true, false, IsOk, MatchResult};
+ghost use Rattle.std.specs.Prelude.{◌≡◌, ◌≢◌, ◌+◌, ◌-◌, min, true, false, IsOk};
 ghost use Rattle.path_workers.specs.Attempts.{finishes_open};
-ghost use Rattle.path_workers.specs.declared.answer.Receipt.{Receipt as Note};
-ghost use Rattle.path_run.specs.Inner.Parts.{Gains};
+ghost use Rattle.path_run.specs.Inner.Parts.{HasGained};
 ghost use Rattle.path_run.specs.Waiting.{IsMarked};
 
 use path_model::{Attempt, OutOfMemory, Reply};
@@ -132,8 +131,7 @@ pub fn told<L: Opening, S: Steps, A: Allocator + Copy>(
     attempt: Attempt,
 ) -> Result<Reply, OutOfMemory>
     ensures worker { pass.new.worker ≡ pass.old.worker }
-    ensures run { (gained : List Note) × (pass.new.receipts ≡ pass.old.receipts ++ gained)
-        × MatchResult result (λ reply. Gains attempt reply gained) (λ _. gained ≡ []) }
+    ensures run { HasGained attempt result pass.old.receipts pass.new.receipts }
     ensures finish { finishes_open attempt pass.old.receipts ≡ true → IsOk result }
 {
     let answer = pass.make(hall, attempt)?;

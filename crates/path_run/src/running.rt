@@ -88,11 +88,11 @@ fn outcome<L: Opening, S: Steps, A: Allocator + Copy>(
 
 /// The same over a desk that the caller names.
 fn run_at<
-    L: Opening + Send + Sync,
     S: Steps + Send,
     T: Turnstile,
     A: Allocator + Copy + Send + Sync,
     R: Threads + Wait + Sync,
+    L: Opening + Send + Sync,
 >(
     rt: &R,
     alloc: A,
@@ -174,18 +174,21 @@ pub fn run<
         × (vec_len o.ends ≡ length script.now.processes)) }
     ensures settled { IfOk result (λ o. IsSettled (length (S.account system).journal) (S.account o.system).journal o.passes.items) }
     ensures runs { IfOk result (λ o. EachRuns script.now.processes o.passes.items o.ends.items) }
+    // The places of a process's receipts rise, and between two refusals in a row something was finished.
     ensures orderly { IfOk result (λ o. EachIsOrderly (S.account o.system).journal o.passes.items o.ends.items) }
+    // A process that stalled is blocked there still.
     ensures blocked { IfOk result (λ o. EachIsBlockedNow (S.account o.system).declaration (all_lines (S.account o.system)) o.ends.items) }
     ensures system { IfOk result (λ o. IsSystem (S.account o.system)) }
     // The system that comes back is the one that was handed in, with the lines of the run after those that it had.
     ensures later { IfOk result (λ o. IsLater (S.account system) (S.account o.system)) }
+    // In each fault the system comes back, too.
     ensures memory { IfErr result (λ e. (left : _) → e ≡ faults.OutOfMemory left → IsLater (S.account system) (S.account left)) }
     ensures left { IfErr result (λ e. (fault : Fault) (left : _) → e ≡ faults.Unsettled fault left
         → IsLater (S.account system) (S.account left)) }
     ensures unsettled { IfErr result (λ e. (fault : Fault) (left : _) → e ≡ faults.Unsettled fault left
         → IsUnsettledRun script.now.processes (length (S.account system).journal) (S.account left).journal fault) }
 {
-    run_at::<Brand, S, T, A, R>(
+    run_at::<S, T, A, R, Brand>(
         rt,
         alloc,
         system,

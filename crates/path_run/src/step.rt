@@ -1,12 +1,12 @@
 //! One step of a process.
 
-ghost use Rattle.std.specs.Prelude.{◌≡◌, [], ◌∷◌, ◌++◌, List, length, true, IsOk, MatchResult, OnOk, OnErr};
+ghost use Rattle.std.specs.Prelude.{◌≡◌, ◌∷◌, ◌++◌, List, length, true, IsOk, MatchResult, OnOk, OnErr};
 ghost use Rattle.path_workers.specs.Attempts.{finishes_open};
 ghost use Rattle.path_model.specs.declared.ids.ActId.{ActId as Act};
 ghost use Rattle.path_script.specs.declared.script.Step.TheVariants as steps;
 ghost use Rattle.path_script.specs.Scripts.{MayStep, entered_after};
 ghost use Rattle.path_workers.specs.declared.answer.Receipt.{Receipt as Note};
-ghost use Rattle.path_run.specs.Inner.Parts.{Gains, Adds, Closes};
+ghost use Rattle.path_run.specs.Inner.Parts.{Adds, Closes, HasGained};
 
 use crate::enter::enter;
 use crate::entered::Entered;
@@ -26,8 +26,7 @@ pub fn attempt<L: Opening, S: Steps, A: Allocator + Copy, R: Wait>(
     attempt: Attempt,
 ) -> Result<Reply, OutOfMemory>
     ensures worker { pass.new.worker ≡ pass.old.worker }
-    ensures run { (gained : List Note) × (pass.new.receipts ≡ pass.old.receipts ++ gained)
-        × MatchResult result (λ reply. Gains attempt reply gained) (λ _. gained ≡ []) }
+    ensures run { HasGained attempt result pass.old.receipts pass.new.receipts }
     ensures finish { finishes_open attempt pass.old.receipts ≡ true → IsOk result }
 {
     let mut shift = floor.shift.lock(rt);

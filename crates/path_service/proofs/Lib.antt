@@ -1,4 +1,3 @@
 pub mod Threads
-pub mod Own
 pub mod Refused
 pub mod CallerLemmas

@@ -3,8 +3,11 @@
 ghost use Rattle.std.specs.Prelude.{◌≡◌, ◌+◌, length, is_some, IfErr};
 ghost use Rattle.path_model.specs.declared.journal.Attempt.TheVariants as attempts;
 ghost use Rattle.path_model.specs.Asked.{resource_asked};
+ghost use Rattle.path_model.specs.Declarations.{paths_of};
+ghost use Rattle.path_model.specs.Legal.{Legal};
 ghost use Rattle.path_model.specs.Journals.{activation_of, admitted_history, live, with_line};
 ghost use Rattle.path_model.specs.Segments.{OwedBehind, joined, taken_behind};
+ghost use Rattle.path_gate.specs.Standings.{IsAt};
 ghost use Rattle.path_shelf.specs.States.{MayFail};
 ghost use Rattle.path_system.specs.declared.calls.UseRefusal.TheVariants as uses;
 ghost use Rattle.path_system.specs.Accounts.{all_lines, HasFailed, IsSystem, StayBut};
@@ -12,6 +15,7 @@ ghost use Rattle.path_system.specs.Calls.{finish_reply, start_reply, use_reply, 
 
 use crate::controller::Controller;
 use crate::system::System;
+use path_gate::Gate;
 use path_model::{ActId, Activation, Attempt, OpId, PathId, Reply, Verb};
 use path_shelf::Device;
 use std::alloc::Allocator;
@@ -171,6 +175,15 @@ impl<D: Device, A: Allocator + Copy> Controller<D, A> {
         self.parts.can_start(op)
     }
 
+    /// The gate, which is at the history of all lines: it can be asked what each path forbids now. Takes constant time.
+    pub fn gate(&self) -> &Gate<A>
+        ensures paths { result.now.paths ≡ paths_of self.now.declaration }
+        ensures at { IsAt result.now (admitted_history (all_lines self.now)) }
+        ensures legal { Legal (paths_of self.now.declaration) (admitted_history (all_lines self.now)) }
+    {
+        self.parts.gate()
+    }
+
     /// The live activations, in the order of their starts. Takes constant time.
     pub fn live(&self) -> &[Activation]
         ensures { result.now ≡ live (all_lines self.now) }
@@ -206,6 +219,15 @@ impl<D: Device, A: Allocator + Copy> System<D, A> {
         ensures { AllowsStart self.now.declaration (admitted_history (all_lines self.now)) op result }
     {
         self.controller().can_start(op)
+    }
+
+    /// As [`Controller::gate`].
+    pub fn gate(&self) -> &Gate<A>
+        ensures paths { result.now.paths ≡ paths_of self.now.declaration }
+        ensures at { IsAt result.now (admitted_history (all_lines self.now)) }
+        ensures legal { Legal (paths_of self.now.declaration) (admitted_history (all_lines self.now)) }
+    {
+        self.controller().gate()
     }
 
     /// As [`Controller::live`].

@@ -154,6 +154,13 @@ impl<D: Device, A: Allocator + Copy> Parts<D, A> {
         self.ledger.find(act)
     }
 
+    /// The gate.
+    pub fn gate(&self) -> &Gate<A>
+        ensures { result.now ≡ self.now.standing }
+    {
+        &self.gate
+    }
+
     /// Whether a start of the operation would be admitted; the error is the first path that forbids it.
     pub fn can_start(&self, op: OpId) -> Result<(), PathId>
         ensures { Judges self.now.standing op result }

@@ -16,7 +16,7 @@ use crate::report::push_report;
 use path_decl::Decl;
 use path_fields::after_line;
 use path_lines::{LIMIT, TextFault, fault_at, first_entry, push_told, read_attempts};
-use path_model::{Attempt, OutOfMemory};
+use path_model::{Attempt, MOST_LINES, OutOfMemory, Reply};
 use path_shelf::Device;
 use path_streams::{Fault, Status, put_text, tell};
 use path_system::{Controller, open_fault};
@@ -37,6 +37,13 @@ fn longest_trace(attempts: &[u8]) -> usize {
         .saturating_add(attempts.len())
 }
 
+/// Counts an attempt that got this reply, if it had no room.
+fn count_roomless(roomless: &mut u32, reply: Reply) {
+    if let Reply::NoRoom = reply {
+        *roomless = roomless.saturating_add(1);
+    }
+}
+
 /// Steps the system, and appends the attempt's own line with its reply and a line feed. Fails only if allocation fails.
 fn answer<D: Device, A: Allocator + Copy>(
     system: &mut Controller<D, A>,
@@ -44,23 +51,26 @@ fn answer<D: Device, A: Allocator + Copy>(
     attempt: Attempt,
     line: &[u8],
     trace: &mut Vec<u8, A>,
+    roomless: &mut u32,
 ) -> Result<(), Fault<'static>>
     requires { system.old.earlier ≡ [] }
     ensures ok { OnOk result (IsAnswered (MayFail D.state) system.old system.new worker attempt line.now trace.old.items trace.new.items) }
     ensures memory { IfErr result (λ fault. fault ≡ Fault.OutOfMemory) }
 {
     let reply = system.step(worker, attempt);
+    count_roomless(roomless, reply);
     trace.extend_from_slice(line)?;
     push_told(trace, reply)?;
     Ok(())
 }
 
-/// The system's replies to the attempts of a text, one line each. One pass over the text: each line is read, stepped and
-/// copied.
+/// The system's replies to the attempts of a text, one line each; those without room are counted. One pass over the text: each line is
+/// read, stepped and copied.
 fn answers<D: Device, A: Allocator + Copy>(
     alloc: A,
     system: &mut Controller<D, A>,
     attempts: &[u8],
+    roomless: &mut u32,
 ) -> Result<Vec<u8, A>, Fault<'static>>
     requires short { length attempts.now ≤ LIMIT }
     requires whole { system.old.earlier ≡ [] }
@@ -79,7 +89,14 @@ fn answers<D: Device, A: Allocator + Copy>(
             Err(fault) => return Err(Fault::Text(fault_at(number, fault))),
         };
         let line = &rest[..first.length];
-        answer(system, first.worker, first.attempt, line, &mut trace)?;
+        answer(
+            system,
+            first.worker,
+            first.attempt,
+            line,
+            &mut trace,
+            roomless,
+        )?;
         rest = after_line(rest, first.length);
         number += 1;
     }
@@ -109,13 +126,14 @@ fn replies_and_report<D: Device, A: Allocator + Copy>(
     system: &mut Controller<D, A>,
     report: bool,
     attempts: &[u8],
+    roomless: &mut u32,
 ) -> Result<Vec<u8, A>, Fault<'static>>
     requires short { length attempts.now ≤ LIMIT }
     requires whole { system.old.earlier ≡ [] }
     ensures ok { IfOk result (λ bytes. IsToldBy (MayFail D.state) system.old report attempts.now bytes.items) }
     ensures err { IfErr result (λ fault. IsBadAttempts system.old.declaration attempts.now (status_of fault)) }
 {
-    let mut trace = answers(alloc, system, attempts)?;
+    let mut trace = answers(alloc, system, attempts, roomless)?;
     push_report_if(alloc, system, report, &mut trace)?;
     Ok(trace)
 }
@@ -150,8 +168,9 @@ fn traced<D: Device, A: Allocator + Copy>(
     decl: Decl<A>,
     devices: Vec<D, A>,
     room: u32,
-    report: bool,
     attempts: &[u8],
+    report: bool,
+    roomless: &mut u32,
 ) -> Result<Vec<u8, A>, Fault<'static>>
     ensures ok { IfOk result (λ bytes.
         IsTraceOf decl.declaration (map D.state devices.items) (MayFail D.state) room report attempts.now bytes.items) }
@@ -165,12 +184,43 @@ fn traced<D: Device, A: Allocator + Copy>(
     }
     match Controller::open(alloc, decl, devices, room) {
         Ok(mut system) => {
-            let trace = replies_and_report(alloc, &mut system, report, attempts);
+            let trace = replies_and_report(alloc, &mut system, report, attempts, roomless);
             drop(system);
             trace
         }
         Err((fault, _)) => Err(Fault::Open(fault)),
     }
+}
+
+/// How many lines the text has.
+fn lines_in(text: &[u8]) -> usize {
+    let ended = text.iter().filter(|byte| **byte == b'\n').count();
+    if text.ends_with(b"\n") {
+        ended
+    } else {
+        ended.saturating_add(1)
+    }
+}
+
+/// Says on `err`, in one line, how many attempts of the text had no room, if some had none, and which room is large enough for all of
+/// them: two places for each, since a start has a place for its finish. What `err` doesn't take is lost.
+fn hint_at_room<E: Write>(err: &mut E, roomless: u32, attempts: &[u8]) {
+    if roomless == 0 {
+        return;
+    }
+    let room = lines_in(attempts).saturating_mul(2);
+    let hint = if room <= MOST_LINES as usize {
+        writeln!(
+            err,
+            "hint: attempts without room: {roomless}; --room {room} has room for all"
+        )
+    } else {
+        writeln!(
+            err,
+            "hint: attempts without room: {roomless}; --room {MOST_LINES} is the largest"
+        )
+    };
+    drop(hint);
 }
 
 /// Reads attempts, steps a system over the devices through them, and writes each with its reply, one line each; then, if `report` is
@@ -181,7 +231,8 @@ fn traced<D: Device, A: Allocator + Copy>(
 /// `CommandRefused`: the room is 0 or above [`MOST_LINES`](path_model::MOST_LINES), or the devices aren't those of the declaration,
 /// one for each resource and of its law; nothing was written. `TextRefused`: the text is refused, which counts first; nothing was written.
 /// `StreamFailed`: a writer failed, and what it took is unknown. `NoMemory`: allocation failed, and a front of all this was written. A
-/// fault is one line on `err`.
+/// fault is one line on `err`. If attempts had no room, a line on `err` says how many, and names a room with more; if that can't be
+/// written, it is left out.
 pub fn trace_to<D: Device, A: Allocator + Copy, O: Write, E: Write>(
     alloc: A,
     decl: Decl<A>,
@@ -210,8 +261,12 @@ pub fn trace_to<D: Device, A: Allocator + Copy, O: Write, E: Write>(
         (IsFrontOf (IsTraceOf decl.declaration (map D.state devices.items) (MayFail D.state) room report attempts.now)) }
     ensures statuses { (result ≢ Status.DeclarationRefused) × (result ≢ Status.Unsound) }
 {
-    match traced(alloc, decl, devices, room, report, attempts) {
-        Ok(trace) => put_text(out, err, trace.as_slice()),
+    let mut roomless = 0;
+    match traced(alloc, decl, devices, room, attempts, report, &mut roomless) {
+        Ok(trace) => {
+            hint_at_room(err, roomless, attempts);
+            put_text(out, err, trace.as_slice())
+        }
         Err(fault) => tell(err, fault),
     }
 }

@@ -89,7 +89,8 @@ impl<L: Opening, S: Steps> Desk<L, S> {
         ensures kept { OnErr result (pass.new ≡ pass.old) }
         ensures finish { finishes_open attempt pass.old.receipts ≡ true → IsOk result }
     {
-        pass.attempt(rt, &self.hall, attempt)
+        pass.reserve(attempt)?;
+        pass.make(&mut self.hall.lock(rt), attempt)
     }
 
     /// Closes the desk, and compares the lines since it was opened with the receipts of these passes, which may be of any desk.

@@ -93,32 +93,7 @@ impl<L: Opening, S: Steps> Hall<L, S> {
         system
     }
 
-    /// Makes one step. The stake gains a line exactly when the journal does.
-    fn step(&mut self, stake: &mut Stake<L>, worker: u32, attempt: Attempt) -> Answer
-        ensures owed { OwedBehind self.old.declaration self.old.room self.old.openings (joined self.old.earlier) self.old.journal
-            worker attempt result.reply }
-        ensures journal { self.new ≡ record self.old {
-          journal = with_line self.old.journal worker attempt result.reply;
-          failures = self.new.failures;
-        } }
-        ensures place { result.place ≡ place_of (length self.old.journal) result.reply }
-        ensures stake { stake.new ≡ stake.old + lines_of result.reply }
-        ensures here { IfSome result.place (λ p. (length L.opened.journal ≤ p) × (p < 2 ^ 63)) }
-    {
-        let place = self.system.journal().len() as u64;
-        let reply = self.system.step(worker, attempt);
-        if let Reply::NoRoom = reply {
-            return Answer { place: None, reply };
-        }
-        stake.gain(&mut self.book, &mut self.rest);
-        self.count += 1;
-        Answer {
-            place: Some(place),
-            reply,
-        }
-    }
-
-    /// Makes one step, and appends its receipt if the journal gained a line.
+    /// Makes one step. If the journal gains a line, so does the stake, and its receipt is appended.
     pub(crate) fn stamp<A: Allocator + Copy>(
         &mut self,
         receipts: &mut Vec<Receipt, A>,
@@ -140,14 +115,21 @@ impl<L: Opening, S: Steps> Hall<L, S> {
         ensures stake { stake.new ≡ stake.old + lines_of result.reply }
         ensures here { IfSome result.place (λ p. (length L.opened.journal ≤ p) × (p < 2 ^ 63)) }
     {
-        let answer = self.step(stake, worker, attempt);
-        if let Some(place) = answer.place {
-            receipts.push_reserved(Receipt {
-                place,
-                attempt,
-                reply: answer.reply,
-            });
+        let place = self.system.journal().len() as u64;
+        let reply = self.system.step(worker, attempt);
+        if let Reply::NoRoom = reply {
+            return Answer { place: None, reply };
         }
-        answer
+        stake.gain(&mut self.book, &mut self.rest);
+        self.count += 1;
+        receipts.push_reserved(Receipt {
+            place,
+            attempt,
+            reply,
+        });
+        Answer {
+            place: Some(place),
+            reply,
+        }
     }
 }

@@ -20,7 +20,6 @@ use path_model::{ActId, Attempt, Line, OutOfMemory, Reply};
 use std::alloc::{Allocator, Global};
 use std::marker::Model;
 use std::sync::ledger::Ledger;
-use std::sync::{Mutex, Wait};
 
 /// The receipts of one worker at one desk: one for each line that the attempts through this pass wrote.
 ///
@@ -139,6 +138,15 @@ impl<L: Ledger, A: Allocator + Copy> Pass<L, A> {
         is_next
     }
 
+    /// Reserves memory for the receipts that this attempt may bring. Fails only if allocation fails, and never for a finish that is
+    /// owed.
+    pub(crate) fn reserve(&mut self, attempt: Attempt) -> Result<(), OutOfMemory>
+        ensures same { self.new ≡ self.old }
+        ensures finish { finishes_open attempt self.old.receipts ≡ true → IsOk result }
+    {
+        take_places(&mut self.receipts, self.starts, attempt)
+    }
+
     /// The receipts without the desk, and the stake.
     pub(crate) fn into_slip(self) -> (Slip<A>, Stake<L>)
         ensures slip { result.0 ≡ self }
@@ -158,24 +166,6 @@ impl<L: Ledger, A: Allocator + Copy> Pass<L, A> {
 }
 
 impl<L: Opening, A: Allocator + Copy> Pass<L, A> {
-    /// Reserves memory for the receipts, and then makes one step of the system under the lock. Fails only if allocation fails.
-    pub fn attempt<S: Steps, R: Wait>(
-        &mut self,
-        rt: &R,
-        hall: &Mutex<Hall<L, S>>,
-        attempt: Attempt,
-    ) -> Result<Answer, OutOfMemory>
-        ensures worker { self.new.worker ≡ self.old.worker }
-        ensures gained { IfOk result (λ a. self.new.receipts ≡ receipts_then self.old.receipts attempt a.place a.reply) }
-        ensures no_room { IfOk result (λ a. (a.place ≡ None) ↔ (a.reply ≡ replies.NoRoom)) }
-        ensures here { IfOk result (λ a. IfSome a.place (λ p. length L.opened.journal ≤ p)) }
-        ensures kept { OnErr result (self.new ≡ self.old) }
-        ensures finish { finishes_open attempt self.old.receipts ≡ true → IsOk result }
-    {
-        take_places(&mut self.receipts, self.starts, attempt)?;
-        self.make(&mut hall.lock(rt), attempt)
-    }
-
     /// Reserves memory for the receipts, and then makes one step while the caller holds the lock. Fails only if allocation fails. Waits
     /// for nobody.
     pub fn make<S: Steps>(

@@ -28,17 +28,17 @@ impl<A: Allocator + Copy> Slip<A> {
         Slip { worker, receipts }
     }
 
-    /// The worker whose receipts these are.
-    pub fn worker(&self) -> u32
-        ensures { result ≡ self.now.worker }
-    {
-        self.worker
-    }
-
     /// All receipts, in the order of the attempts.
     pub fn receipts(&self) -> &[Receipt]
         ensures { result.now ≡ self.now.receipts }
     {
         self.receipts.as_slice()
+    }
+
+    /// The worker whose receipts these are.
+    pub fn worker(&self) -> u32
+        ensures { result ≡ self.now.worker }
+    {
+        self.worker
     }
 }

@@ -9,7 +9,8 @@ const MORE_HELP: &str = "\
 A declaration lists the operations of each resource, and paths that say in which order they may run.
 Workers attempt to start, use and finish operations; each attempt gets a reply, one line each.
 
-Without a command, standard input is a declaration, a line %, and attempts:
+Without a command, standard input is a declaration, a line %, and attempts, for which --room and --report
+stand as with trace. A file named - is standard input.
 
 pathsys <<'END'
 resource slot cell operation deposit, remove path deposit ; remove end end
@@ -77,6 +78,24 @@ Exit statuses:
   6  out of memory
 
 See docs/language.md for declarations, docs/attempts.md for attempts, replies and reports.";
+
+/// What help says of `explain` below its options.
+const EXPLAIN_HELP: &str = "\
+Examples:
+  pathsys explain examples/slot/declaration
+  pathsys explain examples/slot/declaration examples/slot/attempts
+  pathsys explain examples/till/declaration --journal examples/till/journal
+
+Exit statuses:
+  0  done
+  1  the declaration is refused
+  2  the command line is refused
+  3  a file or stream failed
+  4  the attempts or the journal are refused
+  5  a line of the journal is wrong
+  6  out of memory
+
+See docs/explaining.md for worked cases.";
 
 /// What help says of `follow` below its options.
 const FOLLOW_HELP: &str = "\
@@ -155,6 +174,14 @@ fn room<'a>(alloc: Global, help: &'a str) -> Arg<'a> {
         .help(help)
 }
 
+/// The file of a journal, in place of attempts.
+fn journal<'a>(alloc: Global) -> Arg<'a> {
+    Arg::new(alloc, "journal")
+        .long("journal")
+        .value_name("JOURNAL")
+        .help("the file of a journal, in place of attempts")
+}
+
 /// The flag that asks for a report.
 fn report<'a>(alloc: Global) -> Arg<'a> {
     Arg::new(alloc, "report")
@@ -195,6 +222,25 @@ fn trace<'a>(alloc: Global) -> Result<Command<'a>, AllocError> {
         .arg(report(alloc))
 }
 
+/// The command that explains.
+fn explain<'a>(alloc: Global) -> Result<Command<'a>, AllocError> {
+    let attempts = Arg::new(alloc, "ATTEMPTS").help(
+        "the file of the attempts; without it and a journal, the paths that each operation obeys are written",
+    );
+    Command::new(alloc, "explain")
+        .about(
+            "Says why attempts were refused, what a journal's first wrong line was owed, or where a file is at fault",
+        )
+        .after_help(EXPLAIN_HELP)
+        .arg(file(alloc, "DECL", "the file of the declaration"))?
+        .arg(attempts)?
+        .arg(journal(alloc).conflicts_with("ATTEMPTS")?)?
+        .arg(room(
+            alloc,
+            "how many lines the journal has room for, 1 to 1048576, unless its text says so",
+        ))
+}
+
 /// The command that answers attempts as they come.
 fn follow<'a>(alloc: Global) -> Result<Command<'a>, AllocError> {
     Command::new(alloc, "follow")
@@ -210,16 +256,12 @@ fn follow<'a>(alloc: Global) -> Result<Command<'a>, AllocError> {
 /// The command that draws a picture.
 fn picture<'a>(alloc: Global) -> Result<Command<'a>, AllocError> {
     let attempts = Arg::new(alloc, "ATTEMPTS").help("the file of the attempts");
-    let journal = Arg::new(alloc, "journal")
-        .long("journal")
-        .value_name("JOURNAL")
-        .help("the file of a journal, in place of attempts");
     Command::new(alloc, "picture")
         .about("Draws attempts with their replies, or a journal, as an SVG: who ran when")
         .after_help(PICTURE_HELP)
         .arg(file(alloc, "DECL", "the file of the declaration"))?
         .arg(attempts.required_unless_present("journal")?)?
-        .arg(journal.conflicts_with("ATTEMPTS")?)?
+        .arg(journal(alloc).conflicts_with("ATTEMPTS")?)?
         .arg(room(
             alloc,
             "how many lines the journal of the attempts has room for, 1 to 1048576",
@@ -273,10 +315,17 @@ pub fn command<'a>(alloc: Global) -> Result<Command<'a>, AllocError> {
     let program = Command::new(alloc, "pathsys")
         .version("0.1.0")
         .about("Enforces path expressions")
-        .after_help(MORE_HELP);
+        .after_help(MORE_HELP)
+        .args_conflicts_with_subcommands(true)
+        .arg(room(
+            alloc,
+            "how many lines the journal has room for, 1 to 1048576",
+        ))?
+        .arg(report(alloc))?;
     let program = with(program, check(alloc))?;
     let program = with(program, compile(alloc))?;
     let program = with(program, trace(alloc))?;
+    let program = with(program, explain(alloc))?;
     let program = with(program, follow(alloc))?;
     let program = with(program, picture(alloc))?;
     let program = with(program, audit(alloc))?;

@@ -37,3 +37,17 @@ pub fn read_stdin<R: Input + AllocGlobal>(rt: &R) -> Result<Vec<u8>, Fault<'stat
 {
     read_all(rt.alloc(), rt.reader(), 0, LIMIT, "standard input")
 }
+
+/// Reads the file of this name, or standard input if the name is `-`. Fails as [`read_file`] and [`read_stdin`] do.
+pub fn read_named<'a, R: Files + Input + AllocGlobal>(
+    rt: &R,
+    name: &'a str,
+) -> Result<Vec<u8>, Fault<'a>>
+    ensures { IfOk result (λ bytes. length bytes.items ≤ LIMIT) }
+{
+    if name == "-" {
+        read_stdin(rt)
+    } else {
+        read_file(rt, name)
+    }
+}

@@ -4,10 +4,11 @@ ghost use Rattle.std.specs.Prelude.{◌≢◌};
 ghost use Rattle.clap.specs.Words.{kind_of};
 
 use crate::command::command;
-use crate::files::{read_file, read_stdin};
+use crate::files::{read_named, read_stdin};
 use clap::error::ErrorKind;
-use clap::{ArgMatches, Error};
+use clap::{ArgMatches, Command, Error};
 use path_commands::{JournalFile, audit_bytes, audit_files, check_to, compile_to};
+use path_explain::{FileNames, explain_attempts, explain_declaration, explain_journal};
 use path_follow::follow_bytes;
 use path_picture::{picture_bytes, picture_journal_bytes};
 use path_processes::run_bytes;
@@ -39,12 +40,12 @@ fn tell_words<O: Write, E: Write>(error: &Error, out: &mut O, err: &mut E) -> St
 }
 
 /// The bytes of the file under this id.
-fn file<'a, R: Files + AllocGlobal>(
+fn file<'a, R: Files + Input + AllocGlobal>(
     rt: &R,
     words: &ArgMatches<'a>,
     id: &str,
 ) -> Result<Vec<u8>, Fault<'a>> {
-    read_file(rt, words.get_str(id).unwrap_or(""))
+    read_named(rt, words.get_str(id).unwrap_or(""))
 }
 
 /// The room that the words name, or else the usual one.
@@ -53,7 +54,7 @@ fn room_in(words: &ArgMatches<'_>) -> u32 {
 }
 
 /// Prints the declaration of a file.
-fn check<'a, R: Files + AllocGlobal, O: Write, E: Write>(
+fn check<'a, R: Files + Input + AllocGlobal, O: Write, E: Write>(
     rt: &R,
     words: &ArgMatches<'a>,
     out: &mut O,
@@ -64,7 +65,7 @@ fn check<'a, R: Files + AllocGlobal, O: Write, E: Write>(
 }
 
 /// Prints the semaphores of the declaration of a file.
-fn compile<'a, R: Files + AllocGlobal, O: Write, E: Write>(
+fn compile<'a, R: Files + Input + AllocGlobal, O: Write, E: Write>(
     rt: &R,
     words: &ArgMatches<'a>,
     out: &mut O,
@@ -75,7 +76,7 @@ fn compile<'a, R: Files + AllocGlobal, O: Write, E: Write>(
 }
 
 /// Traces the attempts of one file under the declaration of another.
-fn trace<'a, R: Files + AllocGlobal, O: Write, E: Write>(
+fn trace<'a, R: Files + Input + AllocGlobal, O: Write, E: Write>(
     rt: &R,
     words: &ArgMatches<'a>,
     out: &mut O,
@@ -85,6 +86,32 @@ fn trace<'a, R: Files + AllocGlobal, O: Write, E: Write>(
     let attempts = file(rt, words, "ATTEMPTS")?;
     let (room, report) = (room_in(words), words.get_flag("report"));
     Ok(trace_bytes(rt.alloc(), &declaration, room, report, &attempts, out, err))
+}
+
+/// Explains the attempts or the journal of one file under the declaration of another, or that declaration.
+fn explain<'a, R: Files + Input + AllocGlobal, O: Write, E: Write>(
+    rt: &R,
+    words: &ArgMatches<'a>,
+    out: &mut O,
+    err: &mut E,
+) -> Result<Status, Fault<'a>> {
+    let declaration = file(rt, words, "DECL")?;
+    let (alloc, room) = (rt.alloc(), room_in(words));
+    let mut names = FileNames {
+        declaration: words.get_str("DECL").unwrap_or(""),
+        text: "",
+    };
+    if let Some(name) = words.get_str("journal") {
+        let journal = read_named(rt, name)?;
+        names.text = name;
+        return Ok(explain_journal(alloc, &declaration, room, &journal, names, out, err));
+    }
+    if let Some(name) = words.get_str("ATTEMPTS") {
+        let attempts = read_named(rt, name)?;
+        names.text = name;
+        return Ok(explain_attempts(alloc, &declaration, room, &attempts, names, out, err));
+    }
+    Ok(explain_declaration(alloc, &declaration, names, out, err))
 }
 
 /// Answers attempts from standard input under the declaration of a file.
@@ -107,7 +134,7 @@ fn follow<'a, R: Files + Input + AllocGlobal, O: Write, E: Write>(
 }
 
 /// Draws the attempts or the journal of one file under the declaration of another.
-fn picture<'a, R: Files + AllocGlobal, O: Write, E: Write>(
+fn picture<'a, R: Files + Input + AllocGlobal, O: Write, E: Write>(
     rt: &R,
     words: &ArgMatches<'a>,
     out: &mut O,
@@ -116,7 +143,7 @@ fn picture<'a, R: Files + AllocGlobal, O: Write, E: Write>(
     let declaration = file(rt, words, "DECL")?;
     let (alloc, room) = (rt.alloc(), room_in(words));
     if let Some(name) = words.get_str("journal") {
-        let journal = read_file(rt, name)?;
+        let journal = read_named(rt, name)?;
         return Ok(picture_journal_bytes(alloc, &declaration, &journal, out, err));
     }
     let attempts = file(rt, words, "ATTEMPTS")?;
@@ -124,7 +151,7 @@ fn picture<'a, R: Files + AllocGlobal, O: Write, E: Write>(
 }
 
 /// The files of a journal's segments, in order.
-fn journal_files<'a, R: Files + AllocGlobal>(
+fn journal_files<'a, R: Files + Input + AllocGlobal>(
     rt: &R,
     words: &ArgMatches<'a>,
 ) -> Result<Vec<JournalFile>, Fault<'a>> {
@@ -132,7 +159,7 @@ fn journal_files<'a, R: Files + AllocGlobal>(
     let mut files = Vec::new(alloc);
     if let Some(names) = words.get_strs("JOURNAL") {
         for name in names {
-            let text = read_file(rt, name)?;
+            let text = read_named(rt, name)?;
             let name = format!(in alloc; "{name}")?;
             files.push(JournalFile { name, text })?;
         }
@@ -140,8 +167,17 @@ fn journal_files<'a, R: Files + AllocGlobal>(
     Ok(files)
 }
 
+/// Says on `err`, in one line, which command shows why a line of a journal is wrong. What `err` doesn't take is lost.
+fn hint_at_explain<E: Write>(words: &ArgMatches<'_>, journal: &str, err: &mut E) {
+    let (declaration, room) = (words.get_str("DECL").unwrap_or(""), room_in(words));
+    drop(writeln!(
+        err,
+        "hint: pathsys explain {declaration} --journal {journal} --room {room} shows why"
+    ));
+}
+
 /// Audits the journal of one file, or its segments in several, under the declaration of another.
-fn audit<'a, R: Files + AllocGlobal, O: Write, E: Write>(
+fn audit<'a, R: Files + Input + AllocGlobal, O: Write, E: Write>(
     rt: &R,
     words: &ArgMatches<'a>,
     out: &mut O,
@@ -150,14 +186,18 @@ fn audit<'a, R: Files + AllocGlobal, O: Write, E: Write>(
     let declaration = file(rt, words, "DECL")?;
     let files = journal_files(rt, words)?;
     let (alloc, room) = (rt.alloc(), room_in(words));
-    Ok(match files.as_slice() {
-        [file] => audit_bytes(alloc, &declaration, room, &file.text, out, err),
-        files => audit_files(alloc, &declaration, room, files, out, err),
-    })
+    let [file] = files.as_slice() else {
+        return Ok(audit_files(alloc, &declaration, room, &files, out, err));
+    };
+    let status = audit_bytes(alloc, &declaration, room, &file.text, out, err);
+    if status == Status::Unsound {
+        hint_at_explain(words, &file.name, err);
+    }
+    Ok(status)
 }
 
 /// Runs the script of one file under the declaration of another.
-fn run<'a, R: Files + AllocGlobal + Threads + Wait + Sync, O: Write, E: Write>(
+fn run<'a, R: Files + Input + AllocGlobal + Threads + Wait + Sync, O: Write, E: Write>(
     rt: &R,
     words: &ArgMatches<'a>,
     out: &mut O,
@@ -179,12 +219,14 @@ fn run<'a, R: Files + AllocGlobal + Threads + Wait + Sync, O: Write, E: Write>(
 /// Traces standard input.
 fn without_words<'a, R: Input + AllocGlobal, O: Write, E: Write>(
     rt: &R,
+    words: &ArgMatches<'_>,
     out: &mut O,
     err: &mut E,
 ) -> Result<Status, Fault<'a>> {
     let input = read_stdin(rt)?;
     let (declaration, attempts) = whole(&input);
-    Ok(trace_bytes(rt.alloc(), declaration, ROOM, false, attempts, out, err))
+    let (room, report) = (room_in(words), words.get_flag("report"));
+    Ok(trace_bytes(rt.alloc(), declaration, room, report, attempts, out, err))
 }
 
 /// Runs the command that clap matched.
@@ -197,16 +239,44 @@ fn matched<R: Files + Input + AllocGlobal + Threads + Wait + Sync, O: Write, E: 
     let ended = match matches.subcommand() {
         Some(("check", words)) => check(rt, words, out, err),
         Some(("compile", words)) => compile(rt, words, out, err),
+        Some(("explain", words)) => explain(rt, words, out, err),
         Some(("follow", words)) => follow(rt, words, out, err),
         Some(("picture", words)) => picture(rt, words, out, err),
         Some(("audit", words)) => audit(rt, words, out, err),
         Some(("run", words)) => run(rt, words, out, err),
         Some((_, words)) => trace(rt, words, out, err),
-        None => without_words(rt, out, err),
+        None => without_words(rt, matches, out, err),
     };
     match ended {
         Ok(status) => status,
         Err(fault) => tell(err, fault),
+    }
+}
+
+/// How many files these words read from standard input: each that is named `-`, and the attempts of a follow.
+fn files_from_stdin(words: &[String]) -> usize {
+    let follows = words.get(1).is_some_and(|word| word.as_str() == "follow");
+    let named = words.iter().filter(|word| word.as_str() == "-").count();
+    named.saturating_add(usize::from(follows))
+}
+
+/// Refuses words that read standard input twice.
+fn refuse_twice<O: Write, E: Write>(command: Command<'_>, out: &mut O, err: &mut E) -> Status {
+    let mut command = command;
+    match command.error(
+        ErrorKind::ArgumentConflict,
+        "standard input can be read only once",
+    ) {
+        Ok(error) => tell_words(&error, out, err),
+        Err(_) => tell(err, Fault::OutOfMemory),
+    }
+}
+
+/// The words that clap reads for these: `help --help` is `help`.
+fn words_for_clap(words: &[String]) -> &[String] {
+    match words {
+        [_, help, flag] if help.as_str() == "help" && flag.as_str() == "--help" => &words[..2],
+        _ => words,
     }
 }
 
@@ -220,7 +290,10 @@ fn asked<R: Files + Input + AllocGlobal + Threads + Wait + Sync, O: Write, E: Wr
     let Ok(command) = command(rt.alloc()) else {
         return tell(err, Fault::OutOfMemory);
     };
-    match command.try_get_matches_from(words) {
+    if files_from_stdin(words) > 1 {
+        return refuse_twice(command, out, err);
+    }
+    match command.try_get_matches_from(words_for_clap(words)) {
         Ok(matches) => matched(rt, &matches, out, err),
         Err(error) => tell_words(&error, out, err),
     }

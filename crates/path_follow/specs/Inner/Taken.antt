@@ -41,7 +41,8 @@ pub record Passes (may_fail : Type 0) (start now : Account) (text left : List �
 abbrev pub Stopped : Type 0 → Account → List ℕ → Bool → Option (List ℕ) → Option (List ℕ) → Type 0
 Stopped may_fail start text before wrote writes =
     (bytes : List ℕ) × (end : List Line) × (e : Bool)
-    × Follows start.declaration start.room start.openings may_fail false start.journal before text end e bytes × Appends wrote writes bytes
+    × Follows start.declaration start.room start.openings may_fail false start.journal before text end e bytes
+    × Appends wrote writes bytes
 
 -- all lines of a text were answered or refused, and the answers written
 abbrev pub Through : Type 0 → Account → List ℕ → Bool → Bool → Option (List ℕ) → Option (List ℕ) → Type 0

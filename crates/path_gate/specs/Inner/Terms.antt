@@ -1,5 +1,6 @@
 -- The terms of a gate: what an operation does in the paths that name it, in the order of the file.
-use Rattle.std.specs.Prelude.{◌+◌, ◌-◌, if◌then◌else◌, ℕ, List, [], ◌∷◌, Option, Some, None, slice_index, slice_set}
+use Rattle.std.specs.Prelude.{◌==◌, ◌+◌, ◌-◌, ◌&&◌, ◌||◌, not, if◌then◌else◌, ℕ, Bool, false, List, [], ◌∷◌, Option, Some, None}
+use Rattle.std.specs.Prelude.{slice_index, slice_set}
 use Rattle.path_model.specs.declared.ids.OpId.{OpId}
 use Rattle.path_model.specs.declared.ids.PathId.{PathId}
 use Rattle.path_model.specs.Trees.{has}
@@ -27,6 +28,11 @@ terms_at (x ∷ xs) a = if has x.1.tree a then (term_at x a ∷ terms_at xs a) e
 abbrev pub blocking : List Term → Levels → Option PathId
 blocking [] v = None
 blocking (t ∷ terms) v = if can_pass t.prologue v then blocking terms v else Some t.path
+
+-- whether a term of the path numbered p can't pass
+abbrev pub is_blocked_at : ℕ → List Term → Levels → Bool
+is_blocked_at p [] v = false
+is_blocked_at p (t ∷ terms) v = ((t.path.0 == p) && not (can_pass t.prologue v)) || is_blocked_at p terms v
 
 -- the values after each term has done its prologue
 abbrev pub all_started : List Term → Levels → Levels

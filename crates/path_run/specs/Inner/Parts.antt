@@ -1,5 +1,6 @@
 -- What one step adds to the receipts of a process.
-use Rattle.std.specs.Prelude.{◌≡◌, ◌≢◌, ◌⊎◌, ℕ, List, [], ◌∷◌, ◌++◌}
+use Rattle.std.specs.Prelude.{◌≡◌, ◌≢◌, ◌⊎◌, ℕ, List, [], ◌∷◌, ◌++◌, MatchResult}
+use Rattle.std.specs.declared.result.Result.{Result}
 use Rattle.path_model.specs.declared.ids.OpId.{OpId}
 use Rattle.path_model.specs.declared.ids.ActId.{ActId}
 use Rattle.path_model.specs.declared.journal.Attempt.{Attempt}
@@ -18,6 +19,11 @@ use Rattle.path_run.specs.Runs.{note, Finishes, IsRun}
 abbrev pub Gains : Attempt → Reply → List Receipt → Type 0
 Gains attempt reply gained =
     ((reply ≡ NoRoom) × (gained ≡ [])) ⊎ ((reply ≢ NoRoom) × ((place : ℕ) × (gained ≡ note place attempt reply ∷ [])))
+
+-- the receipts after an attempt with this result: those before it, and then what it gains
+abbrev pub HasGained : {E : Type 0} → Attempt → Result Reply E → List Receipt → List Receipt → Type 0
+HasGained attempt result old new =
+    (gained : List Receipt) × (new ≡ old ++ gained) × MatchResult result (λ reply. Gains attempt reply gained) (λ _. gained ≡ [])
 
 -- the step is taken, and these receipts are its own
 abbrev pub Adds : Step → List ActId → List ActId → List Receipt → Type 0

@@ -6,14 +6,14 @@ use path_trace::{ROOM, trace_bytes};
 use std::alloc::{Allocator, Global};
 use std::io::Write;
 use std::process::Abort;
+use test_support::{LONE_BURST, LONE_BURST_COMPILED, in_bytes};
 
 /// How a call ends: its status, its output, and its standard error.
-pub type Ending<'a> = (Status, &'a str, &'a str);
+pub type Ending<'a> = test_support::Ending<'a, Status>;
 
 /// Checks that the call on this text ended as wanted.
 pub fn check_ending(rt: &impl Abort, text: &str, ended: (Status, &[u8], &[u8]), want: Ending<'_>) {
-    let want = (want.0, want.1.as_bytes(), want.2.as_bytes());
-    assert_eq!(rt; ended, want, "for {text:?}");
+    assert_eq!(rt; ended, in_bytes(want), "for {text:?}");
 }
 
 #[derive(Clone, Copy)]
@@ -38,11 +38,10 @@ pub const COMMANDS: &[Row] = &[
     ),
     (
         Command::Compile,
-        "resource r cell operation a path { a } end end",
+        LONE_BURST,
         "",
         Status::Done,
-        "path 0 of r\ns0 = 1\nc0 = 0\nm0 = 1\na: PP(c0,m0,P(s0)) | VV(c0,m0,V(s0))\ntrimmed\n\
-         path 0 of r\nremoved s0 c0 m0\na: - | -\n",
+        LONE_BURST_COMPILED,
     ),
     (
         Command::Trace,

@@ -2,20 +2,13 @@
 
 use crate::tests::commands::{Command, Named, check_ending_into, check_endings};
 use path_streams::Status;
-use test_support::FullWriter;
-
-const LONE_BURST: &str = "resource r cell operation a path { a } end end";
+use test_support::{FullWriter, LONE_BURST, LONE_BURST_COMPILED};
 
 const COMPILED: &[Named<'static>] = &[
     (
         "lone burst",
-        "resource r cell operation a path { a } end end",
-        (
-            Status::Done,
-            "path 0 of r\ns0 = 1\nc0 = 0\nm0 = 1\na: PP(c0,m0,P(s0)) | VV(c0,m0,V(s0))\ntrimmed\n\
-         path 0 of r\nremoved s0 c0 m0\na: - | -\n",
-            "",
-        ),
+        LONE_BURST,
+        (Status::Done, LONE_BURST_COMPILED, ""),
     ),
     (
         "crossing",

@@ -6,7 +6,7 @@ use path_streams::Status;
 use std::alloc::{Allocator, Global};
 use std::io::Read;
 use std::process::Abort;
-use test_support::{Refusing, refuse_in_turn};
+use test_support::{Refusing, in_bytes, refuse_in_turn};
 
 /// The room of all follows but one.
 pub(crate) const ROOM: u32 = 100;
@@ -16,21 +16,10 @@ pub(crate) const SLOT: &str =
     "resource slot cell operation deposit, remove path deposit ; remove end end";
 
 /// How a call ends: its status, its output, and its standard error.
-pub(crate) type Ending<'a> = (Status, &'a str, &'a str);
+pub(crate) type Ending<'a> = test_support::Ending<'a, Status>;
 
 /// The name of a row, a declaration, a room and an input, and how their follow ends.
 pub(crate) type Row<'a> = (&'a str, (&'a str, u32, &'a str), Ending<'a>);
-
-/// Checks that the call of this name ended as wanted.
-pub(crate) fn check_ending(
-    rt: &impl Abort,
-    name: &str,
-    ended: (Status, &[u8], &[u8]),
-    want: Ending<'_>,
-) {
-    let want = (want.0, want.1.as_bytes(), want.2.as_bytes());
-    assert_eq!(rt; ended, want, "{name}");
-}
 
 /// Checks that a follow of what this reader gives ends so.
 pub(crate) fn check_follow<R: Read>(
@@ -50,7 +39,7 @@ pub(crate) fn check_follow<R: Read>(
         &mut out,
         &mut err,
     );
-    check_ending(rt, "a follow", (status, &out, &err), want);
+    assert_eq!(rt; (status, out.as_slice(), err.as_slice()), in_bytes(want));
 }
 
 // Whether a follow passed, and so ended this way; fails if memory ran out, when whole answers were written.
@@ -83,7 +72,8 @@ fn follows<A: Allocator + Copy>(
         );
         return Err(status);
     }
-    check_ending(rt, row.0, (status, &out, &err), row.2);
+    let ended = (status, out.as_slice(), err.as_slice());
+    assert_eq!(rt; ended, in_bytes(row.2), "{}", row.0);
     Ok(true)
 }
 

@@ -85,7 +85,8 @@ const RULES: &[Row<'static>] = &[
     (
         "an operation twice",
         "resource r cell operation a end\nresource s cell operation a end",
-        "F:2:27: an earlier operation has this name\nresource s cell operation a end\n                          ^\nexpected a name of its own\n",
+        "F:2:27: an earlier operation has this name\nresource s cell operation a end\n                          ^\n\
+         expected a name of its own\n",
     ),
     (
         "an undeclared name",

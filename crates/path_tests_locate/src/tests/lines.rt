@@ -153,7 +153,8 @@ const SCRIPTS: &[Row<'static>] = &[
     (
         "an undeclared name",
         "process p\nenter remov\nleave\nend\n",
-        "F:2:7: this isn't a declared operation\nenter remov\n      ^^^^^\nexpected the name of a declared operation\nnearest name: remove\n",
+        "F:2:7: this isn't a declared operation\nenter remov\n      ^^^^^\nexpected the name of a declared operation\n\
+         nearest name: remove\n",
     ),
     (
         "a step in capitals",

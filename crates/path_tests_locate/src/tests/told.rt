@@ -5,7 +5,7 @@ use path_journal::read_journal;
 use path_lex::DeclFault;
 use path_lines::{TextFault, read_attempts};
 use path_locate::{
-    Finding, attempts_finding, declaration_finding, journal_finding, push_finding, script_finding,
+    Finding, TextKind, declaration_finding, push_finding, script_finding, text_finding,
 };
 use path_model::OutOfMemory;
 use path_read::read;
@@ -67,12 +67,12 @@ fn finding<'a, A: Allocator + Copy>(
         Kind::Attempts => match read_attempts(alloc, decl, text) {
             Ok(_) => Ok(None),
             Err(TextFault::OutOfMemory) => Err(OutOfMemory),
-            Err(fault) => attempts_finding(alloc, decl, text, fault),
+            Err(fault) => text_finding(alloc, decl, TextKind::Attempts, text, fault),
         },
         Kind::Journal => match read_journal(alloc, decl, text) {
             Ok(_) => Ok(None),
             Err(TextFault::OutOfMemory) => Err(OutOfMemory),
-            Err(fault) => journal_finding(alloc, decl, text, fault),
+            Err(fault) => text_finding(alloc, decl, TextKind::Journal, text, fault),
         },
         Kind::Script => match read_script(alloc, decl, text) {
             Ok(_) => Ok(None),

@@ -1,10 +1,10 @@
 //! Each command once, and each with every request for memory refused in turn.
 
-use path_answers::{Answer, audit, check, compile, trace};
+use path_answers::{Answer, audit, check, compile, picture, trace};
 use path_streams::Status;
 use std::alloc::{Allocator, Global};
 use std::process::Abort;
-use test_support::{Refusing, refuse_in_turn};
+use test_support::{LONE_BURST, LONE_BURST_COMPILED, Refusing, refuse_in_turn};
 
 #[derive(Clone, Copy)]
 enum Command {
@@ -13,6 +13,7 @@ enum Command {
     /// A trace with its report.
     Trace,
     Audit,
+    Picture,
 }
 
 /// A command, its declaration and its other text, how it ends, and its two texts.
@@ -36,11 +37,10 @@ const ROWS: &[Row] = &[
     ),
     (
         Command::Compile,
-        "resource r cell operation a path { a } end end",
+        LONE_BURST,
         "",
         Status::Done,
-        "path 0 of r\ns0 = 1\nc0 = 0\nm0 = 1\na: PP(c0,m0,P(s0)) | VV(c0,m0,V(s0))\ntrimmed\n\
-         path 0 of r\nremoved s0 c0 m0\na: - | -\n",
+        LONE_BURST_COMPILED,
         "",
     ),
     (
@@ -58,6 +58,14 @@ const ROWS: &[Row] = &[
         Status::Unsound,
         "wrong line 1\n",
         "",
+    ),
+    (
+        Command::Picture,
+        "resource r cell operation a end",
+        "1 start b\n",
+        Status::TextRefused,
+        "",
+        "text: undeclared in line 0\n",
     ),
     (
         Command::Check,
@@ -84,6 +92,7 @@ fn answer<A: Allocator + Copy>(alloc: A, row: &Row) -> Answer<A> {
         Command::Compile => compile(alloc, declaration),
         Command::Trace => trace(alloc, declaration, 9, true, text),
         Command::Audit => audit(alloc, declaration, 9, text),
+        Command::Picture => picture(alloc, declaration, 9, text),
     }
 }
 

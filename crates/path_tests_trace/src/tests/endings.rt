@@ -4,10 +4,10 @@ use path_streams::Status;
 use path_trace::{ROOM, trace_bytes};
 use std::alloc::{Allocator, Global};
 use std::process::Abort;
-use test_support::{Refusing, refuse_in_turn};
+use test_support::{Refusing, in_bytes, refuse_in_turn};
 
 /// How a call ends: its status, its output, and its standard error.
-pub(crate) type Ending<'a> = (Status, &'a str, &'a str);
+pub(crate) type Ending<'a> = test_support::Ending<'a, Status>;
 
 /// Checks that the call of this name ended as wanted.
 pub(crate) fn check_ending(
@@ -16,8 +16,7 @@ pub(crate) fn check_ending(
     ended: (Status, &[u8], &[u8]),
     want: Ending<'_>,
 ) {
-    let want = (want.0, want.1.as_bytes(), want.2.as_bytes());
-    assert_eq!(rt; ended, want, "{name}");
+    assert_eq!(rt; ended, in_bytes(want), "{name}");
 }
 
 // Whether a trace of attempts over the program's own devices passed, and so ended this way; fails if memory ran out, when nothing

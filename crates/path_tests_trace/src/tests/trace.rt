@@ -190,7 +190,15 @@ fn answers_past_the_room(rt: &impl Abort, heap: Global) -> String {
 fn room_ends(rt: HostRuntime) {
     let attempts = attempts_past_the_room(&rt, rt.alloc());
     let want = answers_past_the_room(&rt, rt.alloc());
-    check_answers(&rt, rt.alloc(), SLOT, &attempts, &want);
+    let hint = "hint: attempts without room: 3; --room 8198 has room for all\n";
+    check_trace(
+        &rt,
+        rt.alloc(),
+        SLOT,
+        ROOM,
+        &attempts,
+        (Status::Done, &want, hint),
+    );
 }
 
 const BAD_FIRST_LINE: Ending<'static> = (Status::TextRefused, "", "text: bad line 0\n");
@@ -281,7 +289,7 @@ const LEAST_AND_MOST_ROOM: &[Roomed<'static>] = &[
         (
             Status::Done,
             "1 start deposit: no room\n1 finish 0: stale\n1 finish 0: no room\n",
-            "",
+            "hint: attempts without room: 2; --room 6 has room for all\n",
         ),
     ),
     (

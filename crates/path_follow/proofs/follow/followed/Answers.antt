@@ -1,7 +1,8 @@
 -- Each block is read and its lines taken, and it stops behind those that were.
 use Rattle.std.proofs.Common.{[], take, arith, refl}
-use Rattle.std.proofs.lemmas.Result.{IfOk-weaker, IfErr-weaker}
+use Rattle.std.proofs.lemmas.Result.{on_ok_weaker, IfErr-weaker}
 use Rattle.path_shelf.specs.States.{MayFail}
+use Rattle.path_follow.proofs.Passing.{none_left, some_left, through_last, through_none}
 use Rattle.path_follow.proofs.Reading.{gave_first, gave_kept, gave_block, gave_all, read_more, read_nothing, read_part}
 use Rattle.path_follow.proofs.Stopping.{stops_with, stops_as, unless_so}
 use Rattle.path_follow.proofs.follow.followed.Goals as goal
@@ -25,21 +26,30 @@ returns-in_err-count-clause-err g c =
     (gave_first (MayFail g.D.Device.state) c.args.follower.now.system c.loop.follower.system (g.R.Read.remaining c.args.input.now) (g.R.Read.remaining c.loop.input) c.loop.pending.items c.args.follower.now.refused c.loop.follower.refused (g.O.Write.contents c.args.out.now) (g.O.Write.contents c.loop.out)
     c.loop.invariant.passes)
 
+pub returns-then-is_empty-clause-ok : goal.returns-then-is_empty-clause-ok
+returns-then-is_empty-clause-ok g c =
+    gave_all (MayFail g.D.Device.state) c.args.follower.now.system c.loop.follower.system (g.R.Read.remaining c.args.input.now) (g.R.Read.remaining c.loop.input) c.loop.pending.items c.args.follower.now.refused c.loop.follower.refused (g.O.Write.contents c.args.out.now) (g.O.Write.contents c.loop.out)
+    c.loop.invariant.passes (g.R.Read.remaining c.read_block.new.input) (take c.in_ok-count.count c.read_block.new.block) c.loop.follower.refused (g.O.Write.contents c.loop.out)
+    (rw c.if-count-eq0.true refl) c.in_ok-count.ensures.bytes (c.in_ok-count.ensures.end c.if-count-eq0.true)
+    (through_none (MayFail g.D.Device.state) c.loop.follower.system c.loop.pending.items c.loop.follower.refused (g.O.Write.contents c.loop.out) (none_left c.loop.pending.items _ _ c.loop.pending.ok.0 c.is_empty.ensures c.if-is_empty.true))
+
 pub returns-then-count-eq0-clause-ok : goal.returns-then-count-eq0-clause-ok
 returns-then-count-eq0-clause-ok g c =
-    IfOk-weaker c.take_last.result _ _
-    (λ done t. gave_all (MayFail g.D.Device.state) c.args.follower.now.system c.loop.follower.system (g.R.Read.remaining c.args.input.now) (g.R.Read.remaining c.loop.input) c.loop.pending.items c.args.follower.now.refused c.loop.follower.refused (g.O.Write.contents c.args.out.now) (g.O.Write.contents c.loop.out)
-    c.loop.invariant.passes (g.R.Read.remaining c.read_block.new.input) (take c.in_ok-count.count c.read_block.new.block) c.take_last.new.self.refused (g.O.Write.contents c.take_last.new.out)
-    (rw c.if-count-eq0.true refl) c.in_ok-count.ensures.bytes (c.in_ok-count.ensures.end c.if-count-eq0.true) (rw c.deref.ensures.value at t))
-    c.take_last.ensures.ok
+    on_ok_weaker c.take_line.result
+    (λ takes. gave_all (MayFail g.D.Device.state) c.args.follower.now.system c.loop.follower.system (g.R.Read.remaining c.args.input.now) (g.R.Read.remaining c.loop.input) c.loop.pending.items c.args.follower.now.refused c.loop.follower.refused (g.O.Write.contents c.args.out.now) (g.O.Write.contents c.loop.out)
+    c.loop.invariant.passes (g.R.Read.remaining c.read_block.new.input) (take c.in_ok-count.count c.read_block.new.block) c.take_line.new.self.refused (g.O.Write.contents c.take_line.new.out)
+    (rw c.if-count-eq0.true refl) c.in_ok-count.ensures.bytes (c.in_ok-count.ensures.end c.if-count-eq0.true)
+    (through_last (MayFail g.D.Device.state) c.loop.follower.system c.take_line.new.self.system c.loop.pending.items c.loop.follower.refused c.take_line.new.self.refused (g.O.Write.contents c.loop.out) (g.O.Write.contents c.take_line.new.out)
+    c.loop.invariant.one (some_left c.loop.pending.items _ _ c.loop.pending.ok.0 c.is_empty.ensures c.if-is_empty.false) (rw c.deref.ensures.value at takes)))
+    c.take_line.ensures.ok
 
 pub returns-then-count-eq0-clause-err : goal.returns-then-count-eq0-clause-err
 returns-then-count-eq0-clause-err g c =
-    IfErr-weaker c.take_last.result _ _
+    IfErr-weaker c.take_line.result _ _
     (λ stop. unless_so _ _ stop
     (gave_kept (MayFail g.D.Device.state) c.args.follower.now.system c.loop.follower.system (g.R.Read.remaining c.args.input.now) (g.R.Read.remaining c.loop.input) c.loop.pending.items c.args.follower.now.refused c.loop.follower.refused (g.O.Write.contents c.args.out.now) (g.O.Write.contents c.loop.out)
-    c.loop.invariant.passes (g.O.Write.contents c.take_last.new.out)))
-    c.take_last.ensures.err
+    c.loop.invariant.passes (g.O.Write.contents c.take_line.new.out)))
+    c.take_line.ensures.err
 
 pub returns-in_err-take_block-clause-err : goal.returns-in_err-take_block-clause-err
 returns-in_err-take_block-clause-err g c =

@@ -1,12 +1,15 @@
 -- The picture is written, or why there is none.
 use Rattle.path_streams.specs.declared.status.Status.TheVariants.{Done, DeclarationRefused, CommandRefused, TextRefused, Unsound}
 use Rattle.path_streams.specs.Statuses.{status_of}
-use Rattle.path_streams.proofs.CallerLemmas.{ends_write, keeps_same, told}
-use Rattle.path_picture.specs.Pictures.{IsUndrawnJournal}
+use Rattle.path_streams.proofs.CallerLemmas.{appends_some, ends_write, keeps_same, told}
+use Rattle.path_picture.specs.Pictures.{IsPicture, IsUndrawnJournal}
 use Rattle.path_picture.proofs.picture.picture_journal_bytes.Goals as goal
 
 pub returns-in-Ok-clause-done : goal.returns-in-Ok-clause-done
 returns-in-Ok-clause-done g c = λ e. c.in-Ok.ensures.ok
+
+pub returns-in-Ok-clause-picture : goal.returns-in-Ok-clause-picture
+returns-in-Ok-clause-picture g c = λ e. appends_some _ _ IsPicture _ _ c.as_bytes.ensures.value c.in-Ok.ensures.picture (c.put_text.ensures.done e)
 
 pub returns-in-Ok-clause-undeclared : goal.returns-in-Ok-clause-undeclared
 returns-in-Ok-clause-undeclared g c = λ e. absurd (ends_write _ DeclarationRefused c.put_text.ensures.statuses e)
@@ -19,6 +22,9 @@ returns-in-Ok-clause-statuses g c = (λ e. ends_write _ CommandRefused c.put_tex
 
 pub returns-in-Err-clause-done : goal.returns-in-Err-clause-done
 returns-in-Err-clause-done g c = λ e. absurd (told (IsUndrawnJournal c.args.declaration.now c.args.journal.now) (status_of c.in-Err.fault) _ Done c.in-Err.ensures.err c.tell.ensures (λ h. cc) e)
+
+pub returns-in-Err-clause-picture : goal.returns-in-Err-clause-picture
+returns-in-Err-clause-picture g c = λ e. absurd (told (IsUndrawnJournal c.args.declaration.now c.args.journal.now) (status_of c.in-Err.fault) _ Done c.in-Err.ensures.err c.tell.ensures (λ h. cc) e)
 
 pub returns-in-Err-clause-undeclared : goal.returns-in-Err-clause-undeclared
 returns-in-Err-clause-undeclared g c = λ e. (keeps_same (g.O.Write.contents c.args.out.now), told (IsUndrawnJournal c.args.declaration.now c.args.journal.now) (status_of c.in-Err.fault) _ DeclarationRefused c.in-Err.ensures.err c.tell.ensures (λ h. cc) e)

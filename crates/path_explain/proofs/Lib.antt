@@ -1,0 +1,7 @@
+pub mod Kept
+pub mod Gathered
+pub mod StuckHere
+mod Explaining
+mod Judging
+mod Unexplained
+mod Unjudged

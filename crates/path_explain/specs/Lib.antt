@@ -1,0 +1,3 @@
+pub mod Explanations
+pub mod Judgements
+pub mod Standing

@@ -1,0 +1,323 @@
+//! A journal in words: its first wrong line, and the reply that was owed to it.
+
+ghost use Rattle.std.specs.Prelude.{◌≡◌, ◌≢◌, ◌⊎◌, ◌<◌, ◌++◌, [], length, slice_get, is_some, Some, IfOk, IfErr, OnOk};
+ghost use Rattle.std.specs.String.{string_bytes};
+ghost use Rattle.std.specs.Io.KnownBytes.{Appends, Keeps};
+ghost use Rattle.path_model.specs.declared.journal.Line.{Line};
+ghost use Rattle.path_model.specs.Declarations.{paths_of};
+ghost use Rattle.path_model.specs.Rooms.{IsRoom};
+ghost use Rattle.path_audit.specs.Judged.{IsExamined};
+ghost use Rattle.path_commands.specs.Audits as audits;
+ghost use Rattle.path_commands.specs.Audits.{IsUnaudited, Under};
+ghost use Rattle.path_streams.specs.Statuses.{status_of};
+ghost use Rattle.path_streams.specs.Writes.{AppendsSome, IsFrontOf};
+ghost use Rattle.path_explain.specs.Judgements.{Begins, IsJudgedText, IsRoomless, IsUnjudged, TellsJudgement, owed_lines, sound_line};
+
+use crate::faults::{FileNames, Subject, tell_place};
+use crate::standing::{Moment, push_standing};
+use crate::why::push_why;
+use path_audit::{Auditor, Examined, Wrong};
+use path_commands::own_openings;
+use path_decl::Decl;
+use path_journal::read_journal;
+use path_lines::{push_line, push_reply};
+use path_locate::TextKind;
+use path_model::{JournalText, Line, MOST_LINES, OutOfMemory, Reply};
+use path_read::read;
+use path_streams::{Fault, Status, put_text};
+use std::alloc::Allocator;
+use std::io::Write;
+
+/// Appends the wrong line with its number in the text, where a head is line 1, and the reply that was owed to it.
+fn push_owed<A: Allocator + Copy>(
+    text: &mut String<A>,
+    decl: &Decl<A>,
+    head: bool,
+    line: &Line,
+    wrong: Wrong,
+) -> Result<(), OutOfMemory>
+    ensures { OnOk result (string_bytes text.new
+        ≡ string_bytes text.old ++ owed_lines decl.now.declaration head wrong.line line.now wrong.owed) }
+{
+    let before = if head { 2 } else { 1 };
+    let number = u64::from(wrong.line) + before;
+    write!(text, "line {number} is wrong: ")?;
+    push_line(text, decl, line)?;
+    text.push_str("\n   owed: ")?;
+    push_reply(text, wrong.owed)?;
+    text.push_str("\n")?;
+    Ok(())
+}
+
+/// Replays the lines of a journal, in a room of so many lines if its text names none.
+fn examined<A: Allocator + Copy>(
+    alloc: A,
+    decl: &Decl<A>,
+    room: u32,
+    lines: &[Line],
+) -> Result<Examined<A>, Fault<'static>>
+    ensures ok { IfOk result (λ x. IsExamined x decl.now.declaration (audits.own_openings decl.now.declaration) [] lines.now) }
+    ensures room { IfOk result (λ x. x.room ≡ room) }
+    ensures good_room { OnOk result (IsRoom room) }
+    ensures err { IfErr result (λ fault. IsRoomless room (status_of fault)) }
+{
+    let openings = own_openings(alloc, decl)?;
+    match Auditor::open(alloc, decl, room, &openings) {
+        Ok(auditor) => {
+            let examined = auditor.examine(decl, lines)?;
+            Ok(examined)
+        }
+        Err(fault) => Err(Fault::Audit(fault)),
+    }
+}
+
+/// How each resource stands behind the lines that were replayed; before that, if `owed` is there, why its reply was owed behind so many
+/// lines.
+fn behind<A: Allocator + Copy>(
+    alloc: A,
+    decl: &Decl<A>,
+    examined: &Examined<A>,
+    lines: u32,
+    owed: Option<Line>,
+) -> Result<String<A>, OutOfMemory>
+    requires { examined.now.replay.standing.paths ≡ paths_of decl.now.declaration }
+{
+    let mut text = String::new(alloc);
+    let live = examined.live(alloc)?;
+    let moment = Moment {
+        decl,
+        gate: examined.gate(),
+        live: &live,
+        lines,
+    };
+    if let Some(line) = owed {
+        push_why(alloc, &mut text, &moment, &line)?;
+    }
+    push_standing(alloc, &mut text, &moment)?;
+    Ok(text)
+}
+
+/// How many of the lines are right.
+fn right_lines<A: Allocator + Copy>(examined: &Examined<A>, lines: &[Line]) -> usize {
+    match examined.wrong() {
+        Some(wrong) => wrong.line as usize,
+        None => lines.len(),
+    }
+}
+
+/// The least room in which more than `right` lines are right, and as many as in the largest; `None` if there is none. Each line but a
+/// finish takes a place, and what is live does, so few rooms have to be tried.
+fn least_room<A: Allocator + Copy>(
+    alloc: A,
+    decl: &Decl<A>,
+    lines: &[Line],
+    right: usize,
+) -> Result<Option<u32>, OutOfMemory> {
+    let Ok(largest) = examined(alloc, decl, MOST_LINES, lines) else {
+        return Err(OutOfMemory);
+    };
+    let most = right_lines(&largest, lines);
+    if most <= right {
+        return Ok(None);
+    }
+    let taken = u32::try_from(most.saturating_add(largest.live(alloc)?.len())).unwrap_or(
+        MOST_LINES,
+    );
+    let least = taken.saturating_sub(2).max(1);
+    for room in least..MOST_LINES.min(taken.saturating_add(2)) {
+        let Ok(tried) = examined(alloc, decl, room, lines) else {
+            return Err(OutOfMemory);
+        };
+        if right_lines(&tried, lines) == most {
+            return Ok(Some(room));
+        }
+    }
+    Ok(Some(MOST_LINES))
+}
+
+/// In which room a wrong line that lacked a place would be right; nothing of any other line.
+fn room_hint<A: Allocator + Copy>(
+    alloc: A,
+    decl: &Decl<A>,
+    lines: &[Line],
+    wrong: Wrong,
+) -> Result<String<A>, OutOfMemory> {
+    let mut text = String::new(alloc);
+    if let Reply::NoRoom = wrong.owed {
+        match least_room(alloc, decl, lines, wrong.line as usize)? {
+            Some(room) => writeln!(
+                text,
+                "   right with --room {room}, or with that room in its head"
+            )?,
+            None => text.push_str("   wrong in any room\n")?,
+        }
+    }
+    Ok(text)
+}
+
+/// The line with the reply that was owed to it, if more is to be said of that than its room.
+fn line_owed(line: Line, owed: Reply) -> Option<Line> {
+    match owed {
+        Reply::NoRoom => None,
+        reply => Some(Line { reply, ..line }),
+    }
+}
+
+/// What is said of a journal, and the status with which that ends.
+#[derive(Drop)]
+struct Judged<A: Allocator + Copy> {
+    text: String<A>,
+    status: Status,
+}
+
+/// What is said of a journal whose lines are all right.
+fn sound<A: Allocator + Copy>(
+    alloc: A,
+    decl: &Decl<A>,
+    examined: &Examined<A>,
+    lines: &[Line],
+) -> Result<String<A>, OutOfMemory>
+    requires { examined.now.replay.standing.paths ≡ paths_of decl.now.declaration }
+    ensures { IfOk result (λ text. Begins (sound_line (length lines.now)) (string_bytes text)) }
+{
+    let mut text = String::new(alloc);
+    let count = lines.len();
+    write!(text, "sound: {count} lines\n")?;
+    let rest = behind(alloc, decl, examined, 0, None)?;
+    text.push_str(&rest)?;
+    Ok(text)
+}
+
+/// What is said of a journal with this first wrong line.
+fn unsound<A: Allocator + Copy>(
+    alloc: A,
+    decl: &Decl<A>,
+    examined: &Examined<A>,
+    journal: &JournalText<A>,
+    wrong: Wrong,
+) -> Result<String<A>, OutOfMemory>
+    requires paths { examined.now.replay.standing.paths ≡ paths_of decl.now.declaration }
+    requires within { wrong.line < length journal.now.lines.items }
+    ensures { IfOk result (λ text. (l : Line) → slice_get journal.now.lines.items wrong.line ≡ Some l
+        → Begins (owed_lines decl.now.declaration (is_some journal.now.room) wrong.line l wrong.owed) (string_bytes text)) }
+{
+    let line = journal.lines[wrong.line as usize];
+    let mut text = String::new(alloc);
+    push_owed(&mut text, decl, journal.room.is_some(), &line, wrong)?;
+    let hint = room_hint(alloc, decl, &journal.lines, wrong)?;
+    text.push_str(&hint)?;
+    let owed = line_owed(line, wrong.owed);
+    let rest = behind(alloc, decl, examined, wrong.line, owed)?;
+    text.push_str(&rest)?;
+    Ok(text)
+}
+
+/// What is said of the journal in a text.
+fn judge_text<A: Allocator + Copy>(
+    alloc: A,
+    decl: &Decl<A>,
+    room: u32,
+    text: &[u8],
+) -> Result<Judged<A>, Fault<'static>>
+    ensures ok { IfOk result (λ told. IsJudgedText decl.now.declaration room text.now told.status (string_bytes told.text)) }
+    ensures err { IfErr result (λ fault. IsUnaudited decl.now.declaration room text.now (status_of fault)) }
+{
+    let journal = match read_journal(alloc, decl, text) {
+        Ok(journal) => journal,
+        Err(fault) => return Err(Fault::Text(fault)),
+    };
+    let room = journal.room.unwrap_or(room);
+    let examined = examined(alloc, decl, room, &journal.lines)?;
+    match examined.wrong() {
+        None => Ok(Judged {
+            text: sound(alloc, decl, &examined, &journal.lines)?,
+            status: Status::Done,
+        }),
+        Some(wrong) => Ok(Judged {
+            text: unsound(alloc, decl, &examined, &journal, wrong)?,
+            status: Status::Unsound,
+        }),
+    }
+}
+
+/// What is said of the journal in a text, under the declaration in another.
+fn judge_under<A: Allocator + Copy>(
+    alloc: A,
+    declaration: &[u8],
+    room: u32,
+    text: &[u8],
+) -> Result<Judged<A>, Fault<'static>>
+    ensures ok { IfOk result (λ told. Under declaration.now (λ d. IsJudgedText d room text.now told.status (string_bytes told.text))) }
+    ensures err { IfErr result (λ fault. IsUnjudged declaration.now room text.now (status_of fault)) }
+{
+    match read(alloc, declaration) {
+        Ok(decl) => judge_text(alloc, &decl, room, text),
+        Err(fault) => Err(Fault::Declaration(fault)),
+    }
+}
+
+/// Writes what is said of a journal, and returns the status with which that ends.
+fn put_judged<A: Allocator + Copy, O: Write, E: Write>(
+    told: &Judged<A>,
+    out: &mut O,
+    err: &mut E,
+) -> Status
+    ensures told { result ≡ told.now.status → (told.now.status ≢ Status.StreamFailed) → (told.now.status ≢ Status.NoMemory)
+        → Appends (O.contents out.old) (O.contents out.new) (string_bytes told.now.text) }
+    ensures memory { result ≡ Status.NoMemory → (told.now.status ≢ Status.NoMemory)
+        → AppendsSome (O.contents out.old) (O.contents out.new) (IsFrontOf (λ all. all ≡ string_bytes told.now.text)) }
+    ensures statuses { (result ≡ told.now.status) ⊎ (result ≡ Status.StreamFailed) ⊎ (result ≡ Status.NoMemory) }
+{
+    match put_text(out, err, told.text.as_bytes()) {
+        Status::Done => told.status,
+        status => status,
+    }
+}
+
+/// Reads a declaration and the text of a journal, replays it over the program's own devices as
+/// [`audit_bytes`](path_commands::audit_bytes) does, and writes whether it is sound: either how many lines it has, or the first wrong
+/// line with its number in the text, counted from 1, the reply that was owed to its attempt, and why that was so. Then stands, for each
+/// resource, what can start, what is blocked, what is live, and whether nothing of it can ever be admitted again; behind a wrong line
+/// as if it had got the owed reply. Where that reply is `no room`, one line says in which room the line would have had a place.
+///
+/// `Unsound`: a line is wrong. `DeclarationRefused`: the declaration is refused. `TextRefused`: the text isn't a journal, or is too long.
+/// `CommandRefused`: the text names no room, and `room` is out of range. In these last three cases, which count in this order, nothing
+/// was written. `StreamFailed`: a writer failed, and what it took is unknown. `NoMemory`: allocation failed, and a front of all this was
+/// written. A fault is told on `err`: that of a text with the name of its file, its line and column, the token, what could stand there, and
+/// the likely cause.
+///
+/// The cost is that of an audit, and of a look at each path for each operation; where the owed reply is `no room`, that of four audits more.
+pub fn explain_journal<A: Allocator + Copy, O: Write, E: Write>(
+    alloc: A,
+    declaration: &[u8],
+    room: u32,
+    journal: &[u8],
+    names: FileNames<'_>,
+    out: &mut O,
+    err: &mut E,
+) -> Status
+    // The text is an honest journal, and that was written.
+    ensures done { result ≡ Status.Done → AppendsSome (O.contents out.old) (O.contents out.new)
+        (λ bytes. Under declaration.now (λ d. IsJudgedText d room journal.now Status.Done bytes)) }
+    // It isn't, and its first wrong line was written, with the reply that was owed.
+    ensures unsound { result ≡ Status.Unsound → AppendsSome (O.contents out.old) (O.contents out.new)
+        (λ bytes. Under declaration.now (λ d. IsJudgedText d room journal.now Status.Unsound bytes)) }
+    // The declaration, the journal or its room is refused, and nothing was written.
+    ensures undeclared { result ≡ Status.DeclarationRefused
+        → Keeps (O.contents out.old) (O.contents out.new) × IsUnjudged declaration.now room journal.now Status.DeclarationRefused }
+    ensures refused { result ≡ Status.TextRefused
+        → Keeps (O.contents out.old) (O.contents out.new) × IsUnjudged declaration.now room journal.now Status.TextRefused }
+    ensures bad_room { result ≡ Status.CommandRefused
+        → Keeps (O.contents out.old) (O.contents out.new) × IsUnjudged declaration.now room journal.now Status.CommandRefused }
+    // Only a front of that was written.
+    ensures memory { result ≡ Status.NoMemory → AppendsSome (O.contents out.old) (O.contents out.new)
+        (IsFrontOf (λ bytes. Under declaration.now (λ d. TellsJudgement d room journal.now bytes))) }
+{
+    match judge_under(alloc, declaration, room, journal) {
+        Ok(told) => put_judged(&told, out, err),
+        Err(fault) => {
+            let subject = Subject::Text(TextKind::Journal, journal);
+            tell_place(alloc, names, declaration, subject, fault, err)
+        }
+    }
+}

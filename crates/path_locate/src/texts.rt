@@ -1,0 +1,56 @@
+//! Texts of attempts and of journals.
+
+ghost use Rattle.std.specs.Prelude.{◌≡◌, IfNone, IfOk, IfSome};
+ghost use Rattle.path_lines.specs.declared.texts.TextFault.TheVariants as faults;
+ghost use Rattle.path_locate.specs.Places.{IsLineSpot, number_of};
+
+use crate::finding::Finding;
+use crate::lines::{attempt, found, line_of, too_long};
+use crate::miss::{Miss, Wanted, missing};
+use crate::records::record;
+use crate::wording::Wrong;
+use path_decl::Decl;
+use path_lines::{LIMIT, TextFault};
+use path_model::OutOfMemory;
+use std::alloc::Allocator;
+
+/// What the lines of a text are.
+#[derive(Clone, Copy, Debug, PartialEq, Eq)]
+pub enum TextKind {
+    /// Attempts.
+    Attempts,
+    /// Attempts with their replies.
+    Journal,
+}
+
+/// Where the line of this number, counted from 0, stops being one of such a text; its end if it is one.
+fn miss_of<A: Allocator + Copy>(decl: &Decl<A>, kind: TextKind, number: u32, line: &[u8]) -> Miss {
+    let read = match kind {
+        TextKind::Attempts => attempt(decl, line),
+        TextKind::Journal => record(decl, number, line),
+    };
+    read.err().unwrap_or(missing(b"", Wanted::End))
+}
+
+/// Where a text of this kind has this fault, which [`read_attempts`](path_lines::read_attempts) or
+/// [`read_journal`](path_journal::read_journal) found in it; `None` if memory was wanting then. Fails only if allocation fails. The
+/// cost is two passes over the text up to the end of the fault's line, and a look at each declared name.
+pub fn text_finding<'a, A: Allocator + Copy>(
+    alloc: A,
+    decl: &Decl<A>,
+    kind: TextKind,
+    text: &'a [u8],
+    fault: TextFault,
+) -> Result<Option<Finding<'a, A>>, OutOfMemory>
+    ensures spot { IfOk result (λ found. IfSome found (λ finding. IsLineSpot text.now (number_of fault) finding.spot)) }
+    ensures none { IfOk result (λ found. IfNone found (fault ≡ faults.OutOfMemory)) }
+{
+    let (number, wrong) = match fault {
+        TextFault::OutOfMemory => return Ok(None),
+        TextFault::TooLong => return Ok(Some(too_long(alloc, text, LIMIT, Wrong::TooLong))),
+        TextFault::BadLine(number) => (number, Wrong::Line),
+        TextFault::Undeclared(number) => (number, Wrong::Undeclared),
+    };
+    let miss = miss_of(decl, kind, number, line_of(text, number));
+    Ok(Some(found(alloc, decl, text, number, miss, wrong)?))
+}

@@ -1,0 +1,8 @@
+//! The tests of explanations.
+
+mod attempts;
+mod declarations;
+mod endings;
+mod hostile;
+mod journals;
+mod refusals;
