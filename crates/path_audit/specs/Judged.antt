@@ -48,10 +48,12 @@ pub record IsOwedInstead (replay : ReplayValue) (d : Declaration) (room : ℕ) (
   pub at : slice_get lines n ≡ Some (record { worker = worker; attempt = attempt; reply = told })
   pub first : IsFirstWrongBehind d room openings segments lines n
   pub owed : OwedBehind d room openings (joined segments) (take n lines) worker attempt reply
-  pub replayed : IsReplayOf replay d (room_behind (joined segments) room) openings (joined segments ++ with_line (take n lines) worker attempt reply)
+  pub replayed : IsReplayOf replay d (room_behind (joined segments) room) openings
+      (joined segments ++ with_line (take n lines) worker attempt reply)
 
 abbrev pub IsExaminedAs : Option Wrong → ReplayValue → Declaration → ℕ → List (List ℕ) → List (List Line) → List Line → Type 0
-IsExaminedAs None replay d room openings segments lines = HasJudged (record { replay = replay; room = room }) d openings (segments ++ lines ∷ [])
+IsExaminedAs None replay d room openings segments lines =
+    HasJudged (record { replay = replay; room = room }) d openings (segments ++ lines ∷ [])
 IsExaminedAs (Some wrong) replay d room openings segments lines = IsOwedInstead replay d room openings segments lines wrong.line wrong.owed
 
 -- the segment was replayed behind these, to its end or up to its first wrong line

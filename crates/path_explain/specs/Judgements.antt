@@ -1,5 +1,6 @@
 -- What is said of a journal: that it is sound, or its first wrong line with the reply that was owed.
-use Rattle.std.specs.Prelude.{◌≡◌, ◌+◌, ℕ, Bool, true, false, List, [], ◌∷◌, ◌++◌, length, take, slice_get, codes, decimal, is_some, Option, Some}
+use Rattle.std.specs.Prelude.{◌≡◌, ◌+◌, ℕ, Bool, true, false, List, [], ◌∷◌, ◌++◌, length, take, slice_get, codes, decimal, is_some}
+use Rattle.std.specs.Prelude.{Option, Some}
 use Rattle.std.specs.Option.{unwrap_or}
 use Rattle.path_model.specs.declared.journal.Reply.{Reply}
 use Rattle.path_model.specs.declared.journal.Line.{Line}
@@ -22,7 +23,8 @@ number_in true n = n + 2
 -- a wrong line with its number, and the reply that was owed to it
 abbrev pub owed_lines : Declaration → Bool → ℕ → Line → Reply → List ℕ
 owed_lines d head n l owed =
-    codes "line " ++ (decimal (number_in head n) ++ (codes " is wrong: " ++ (journal_line_text d l ++ (codes "\n   owed: " ++ (reply_text owed ++ 10 ∷ [])))))
+    codes "line " ++ (decimal (number_in head n) ++ (codes " is wrong: " ++ (journal_line_text d l
+    ++ (codes "\n   owed: " ++ (reply_text owed ++ 10 ∷ [])))))
 
 -- a sound journal of so many lines
 abbrev pub sound_line : ℕ → List ℕ

@@ -286,7 +286,8 @@ fn put_judged<A: Allocator + Copy, O: Write, E: Write>(
 /// written. A fault is told on `err`: that of a text with the name of its file, its line and column, the token, what could stand there, and
 /// the likely cause.
 ///
-/// The cost is that of an audit, and of a look at each path for each operation; where the owed reply is `no room`, that of four audits more.
+/// The cost is that of an audit, and of a look at each path for each operation; where the owed reply is `no room`, that of four audits
+/// more.
 pub fn explain_journal<A: Allocator + Copy, O: Write, E: Write>(
     alloc: A,
     declaration: &[u8],

@@ -69,7 +69,7 @@ impl<A: Allocator + Copy> Row<A> {
     }
 
     /// Removes and returns the activation at this index. The others keep their order. The cost is that of moving those before it or
-    /// those behind it, whichever are fewer.
+    /// those behind it, whichever are fewer; so the last one moves none.
     pub fn remove(&mut self, index: usize) -> Activation
         requires { index < length self.old.items }
         ensures value { result ≡ slice_index_or self.old.items index result }
@@ -78,6 +78,9 @@ impl<A: Allocator + Copy> Row<A> {
         ensures room { self.new.room ≡ self.old.room }
     {
         let place = self.gap + index;
+        if place + 1 == self.places.len() {
+            return self.places.pop().unwrap();
+        }
         if index < self.places.len() - place {
             let removed = self.places[place];
             self.places.copy_within(self.gap..place, self.gap + 1);

@@ -5,7 +5,8 @@ ghost use Rattle.std.specs.String.{string_bytes};
 ghost use Rattle.path_model.specs.Trees.{shape};
 ghost use Rattle.path_model.specs.Declarations.{Resource};
 ghost use Rattle.path_decl.specs.Text.{IsDeclarationText};
-ghost use Rattle.path_print.specs.Printed.{head_pieces, law_pieces, names_pieces, tree_pieces, path_pieces, paths_pieces, path_text, printed};
+ghost use Rattle.path_print.specs.Printed.{head_pieces, law_pieces, names_pieces, tree_pieces, path_pieces, paths_pieces};
+ghost use Rattle.path_print.specs.Printed.{path_text, printed};
 ghost use Rattle.path_print.specs.Inner.PrintedSteps.{names_here, operations_after, trees_here, paths_after, Writes, joined};
 
 use path_decl::{

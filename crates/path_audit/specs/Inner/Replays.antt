@@ -95,7 +95,8 @@ Moves d old w (Finish n) fails reply new = MovesFinish old w n (activation_of n 
 
 -- whether there is room for the attempt after this number of lines, and a number if it is a start
 abbrev pub can_take : ReplayValue → ℕ → ℕ → ℕ → Attempt → Bool
-can_take replay room lines w attempt = has_room room lines replay.register.live w attempt && not (lacks_number replay.register.begun attempt)
+can_take replay room lines w attempt =
+    has_room room lines replay.register.live w attempt && not (lacks_number replay.register.begun attempt)
 
 -- the replay moves if it can take the attempt, and stays as it was if not; the device fails if `fails` says so
 pub record Answers (d : Declaration) (old : ReplayValue) (room lines w : ℕ) (attempt : Attempt) (fails : Bool) (reply : Reply)

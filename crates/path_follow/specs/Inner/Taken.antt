@@ -48,7 +48,8 @@ Stopped may_fail start text before wrote writes =
 abbrev pub Through : Type 0 → Account → List ℕ → Bool → Bool → Option (List ℕ) → Option (List ℕ) → Type 0
 Through may_fail start text before after wrote writes =
     (bytes : List ℕ) × (end : List Line)
-    × Follows start.declaration start.room start.openings may_fail true start.journal before text end after bytes × Appends wrote writes bytes
+    × Follows start.declaration start.room start.openings may_fail true start.journal before text end after bytes
+    × Appends wrote writes bytes
 
 -- a reader gave a text, whose first lines were taken, and this is left of it
 abbrev pub PassesRead : Type 0 → Account → Account → Option (List ℕ) → Option (List ℕ) → List ℕ → Bool → Bool

@@ -74,7 +74,7 @@ fn each_request_is_refused(rt: HostRuntime) {
     refuse_each_request(&rt, rt.alloc(), JOURNALS);
 }
 
-// Checks that a text is refused as its row says if this request is refused, unless memory is wanting before; a fault is told in one line
+// Checks that a text is refused as its row says if this request is refused, unless an allocation fails earlier; a fault is told in one line
 // where there is no memory for its place.
 fn check_refused(rt: &impl Abort, heap: Global, row: &Row, number: u64) {
     let refusing = Refusing::new(heap, number);
