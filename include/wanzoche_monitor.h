@@ -14,9 +14,9 @@
 **
 ** WAITING. A thread that may not start gives way WANZOCHE_YIELDS times, since
 ** most operations are short, and then sleeps. Each leave looks which waiting
-** operations may start now, and wakes one thread of each. Who comes next among those that may start isn't said: a
-** monitor is not fair. A thread that waits for what never comes waits for
-** ever, unless it has a time limit.
+** operations may start now, and wakes one thread of each. Who comes next among
+** those that may start isn't said: a monitor is not fair. A thread that waits
+** for what never comes waits for ever, unless it has a time limit.
 **
 ** CANCELLING. wanzoche_enter is a cancellation point while it waits, and
 ** only then. A thread that is cancelled there has started nothing, and holds
