@@ -105,8 +105,11 @@ fn right_lines<A: Allocator + Copy>(examined: &Examined<A>, lines: &[Line]) -> u
     }
 }
 
-/// The least room in which more than `right` lines are right, and as many as in the largest; `None` if there is none. Each line but a
-/// finish takes a place, and what is live does, so few rooms have to be tried.
+/// The least room in which more than `right` lines are right, and as many as in the largest; `None` if there is none.
+///
+/// It has a place for each of these lines and for each activation that is live behind them, and one more if the last line that wanted
+/// places is a blocked start, which wants two and takes one. The replay has gone on past the first wrong line, where one activation more
+/// or less may be live. So there are four rooms to try.
 fn least_room<A: Allocator + Copy>(
     alloc: A,
     decl: &Decl<A>,
@@ -123,8 +126,8 @@ fn least_room<A: Allocator + Copy>(
     let taken = u32::try_from(most.saturating_add(largest.live(alloc)?.len())).unwrap_or(
         MOST_LINES,
     );
-    let least = taken.saturating_sub(2).max(1);
-    for room in least..MOST_LINES.min(taken.saturating_add(2)) {
+    let least = taken.saturating_sub(1).max(1);
+    for room in least..MOST_LINES.min(taken.saturating_add(3)) {
         let Ok(tried) = examined(alloc, decl, room, lines) else {
             return Err(OutOfMemory);
         };
@@ -286,8 +289,8 @@ fn put_judged<A: Allocator + Copy, O: Write, E: Write>(
 /// written. A fault is told on `err`: that of a text with the name of its file, its line and column, the token, what could stand there, and
 /// the likely cause.
 ///
-/// The cost is that of an audit, and of a look at each path for each operation; where the owed reply is `no room`, that of four audits
-/// more.
+/// The cost is that of an audit, and of a look at each path for each operation; where the owed reply is `no room`, that of five audits
+/// more at most.
 pub fn explain_journal<A: Allocator + Copy, O: Write, E: Write>(
     alloc: A,
     declaration: &[u8],

@@ -6,7 +6,7 @@ use path_streams::Status;
 /// The paths of a slot.
 const SLOT: &str = "resource slot cell operation deposit, remove path deposit ; remove end end";
 
-/// A sound journal; one whose second line started too early; and one that lacks room, as its head or as the command line has it.
+/// A sound journal; one whose second line started too early; and some that lack room, as their heads or as the command line have it.
 pub const JOURNALS: &[Row] = &[
     (
         SLOT,
@@ -48,6 +48,20 @@ pub const JOURNALS: &[Row] = &[
         ),
         Status::Unsound,
         "line 2 is wrong: 1 start deposit: blocked 0\n   owed: no room\n   right with --room 4, or with that room in its head\n\
+         \nslot\n   can start: nothing\n   blocked: deposit by path 0, remove by path 0\n   live: deposit (activation 0, worker 1)\n   \
+         stuck for ever: no\n",
+        "",
+    ),
+    // In a room that has enough, the third line is wrong, and finishes what was live. The blocked start wants room for four, and the two
+    // right lines and what is live behind the third take two.
+    (
+        SLOT,
+        Asked::Journal(
+            3,
+            "1 start deposit: started 0\n2 start remove: blocked 0\n1 finish 0: stale\n",
+        ),
+        Status::Unsound,
+        "line 2 is wrong: 2 start remove: blocked 0\n   owed: no room\n   right with --room 4, or with that room in its head\n\
          \nslot\n   can start: nothing\n   blocked: deposit by path 0, remove by path 0\n   live: deposit (activation 0, worker 1)\n   \
          stuck for ever: no\n",
         "",
