@@ -29,6 +29,13 @@ pub const ROOM: u32 = 4096;
 /// The most bytes that a reply adds to its attempt: `: used `, twenty digits and a line feed.
 const LONGEST_REPLY: usize = 28;
 
+/// How many attempts were made, and how many of these had no room.
+#[derive(Clone, Copy)]
+struct Made {
+    attempts: u32,
+    roomless: u32,
+}
+
 /// The most bytes that the trace of these attempts can have: each line has at least ten bytes with its line feed.
 fn longest_trace(attempts: &[u8]) -> usize {
     let lines = attempts.len() / 10 + 1;
@@ -37,10 +44,11 @@ fn longest_trace(attempts: &[u8]) -> usize {
         .saturating_add(attempts.len())
 }
 
-/// Counts an attempt that got this reply, if it had no room.
-fn count_roomless(roomless: &mut u32, reply: Reply) {
+/// Counts an attempt that got this reply.
+fn count_made(made: &mut Made, reply: Reply) {
+    made.attempts = made.attempts.saturating_add(1);
     if let Reply::NoRoom = reply {
-        *roomless = roomless.saturating_add(1);
+        made.roomless = made.roomless.saturating_add(1);
     }
 }
 
@@ -51,26 +59,26 @@ fn answer<D: Device, A: Allocator + Copy>(
     attempt: Attempt,
     line: &[u8],
     trace: &mut Vec<u8, A>,
-    roomless: &mut u32,
+    made: &mut Made,
 ) -> Result<(), Fault<'static>>
     requires { system.old.earlier ≡ [] }
     ensures ok { OnOk result (IsAnswered (MayFail D.state) system.old system.new worker attempt line.now trace.old.items trace.new.items) }
     ensures memory { IfErr result (λ fault. fault ≡ Fault.OutOfMemory) }
 {
     let reply = system.step(worker, attempt);
-    count_roomless(roomless, reply);
+    count_made(made, reply);
     trace.extend_from_slice(line)?;
     push_told(trace, reply)?;
     Ok(())
 }
 
-/// The system's replies to the attempts of a text, one line each; those without room are counted. One pass over the text: each line is
+/// The system's replies to the attempts of a text, one line each; they are counted. One pass over the text: each line is
 /// read, stepped and copied.
 fn answers<D: Device, A: Allocator + Copy>(
     alloc: A,
     system: &mut Controller<D, A>,
     attempts: &[u8],
-    roomless: &mut u32,
+    made: &mut Made,
 ) -> Result<Vec<u8, A>, Fault<'static>>
     requires short { length attempts.now ≤ LIMIT }
     requires whole { system.old.earlier ≡ [] }
@@ -89,14 +97,7 @@ fn answers<D: Device, A: Allocator + Copy>(
             Err(fault) => return Err(Fault::Text(fault_at(number, fault))),
         };
         let line = &rest[..first.length];
-        answer(
-            system,
-            first.worker,
-            first.attempt,
-            line,
-            &mut trace,
-            roomless,
-        )?;
+        answer(system, first.worker, first.attempt, line, &mut trace, made)?;
         rest = after_line(rest, first.length);
         number += 1;
     }
@@ -126,14 +127,14 @@ fn replies_and_report<D: Device, A: Allocator + Copy>(
     system: &mut Controller<D, A>,
     report: bool,
     attempts: &[u8],
-    roomless: &mut u32,
+    made: &mut Made,
 ) -> Result<Vec<u8, A>, Fault<'static>>
     requires short { length attempts.now ≤ LIMIT }
     requires whole { system.old.earlier ≡ [] }
     ensures ok { IfOk result (λ bytes. IsToldBy (MayFail D.state) system.old report attempts.now bytes.items) }
     ensures err { IfErr result (λ fault. IsBadAttempts system.old.declaration attempts.now (status_of fault)) }
 {
-    let mut trace = answers(alloc, system, attempts, roomless)?;
+    let mut trace = answers(alloc, system, attempts, made)?;
     push_report_if(alloc, system, report, &mut trace)?;
     Ok(trace)
 }
@@ -170,7 +171,7 @@ fn traced<D: Device, A: Allocator + Copy>(
     room: u32,
     attempts: &[u8],
     report: bool,
-    roomless: &mut u32,
+    made: &mut Made,
 ) -> Result<Vec<u8, A>, Fault<'static>>
     ensures ok { IfOk result (λ bytes.
         IsTraceOf decl.declaration (map D.state devices.items) (MayFail D.state) room report attempts.now bytes.items) }
@@ -184,7 +185,7 @@ fn traced<D: Device, A: Allocator + Copy>(
     }
     match Controller::open(alloc, decl, devices, room) {
         Ok(mut system) => {
-            let trace = replies_and_report(alloc, &mut system, report, attempts, roomless);
+            let trace = replies_and_report(alloc, &mut system, report, attempts, made);
             drop(system);
             trace
         }
@@ -192,24 +193,15 @@ fn traced<D: Device, A: Allocator + Copy>(
     }
 }
 
-/// How many lines the text has.
-fn lines_in(text: &[u8]) -> usize {
-    let ended = text.iter().filter(|byte| **byte == b'\n').count();
-    if text.ends_with(b"\n") {
-        ended
-    } else {
-        ended.saturating_add(1)
-    }
-}
-
-/// Says on `err`, in one line, how many attempts of the text had no room, if some had none, and which room is large enough for all of
-/// them: two places for each, since a start has a place for its finish. What `err` doesn't take is lost.
-fn hint_at_room<E: Write>(err: &mut E, roomless: u32, attempts: &[u8]) {
+/// Says on `err`, in one line, how many of the attempts that were made had no room, if some had none, and which room is large enough for
+/// all of them: two places for each, since a start has a place for its finish. What `err` doesn't take is lost.
+fn hint_at_room<E: Write>(err: &mut E, made: Made) {
+    let roomless = made.roomless;
     if roomless == 0 {
         return;
     }
-    let room = lines_in(attempts).saturating_mul(2);
-    let hint = if room <= MOST_LINES as usize {
+    let room = made.attempts.saturating_mul(2);
+    let hint = if room <= MOST_LINES {
         writeln!(
             err,
             "hint: attempts without room: {roomless}; --room {room} has room for all"
@@ -261,10 +253,13 @@ pub fn trace_to<D: Device, A: Allocator + Copy, O: Write, E: Write>(
         (IsFrontOf (IsTraceOf decl.declaration (map D.state devices.items) (MayFail D.state) room report attempts.now)) }
     ensures statuses { (result ≢ Status.DeclarationRefused) × (result ≢ Status.Unsound) }
 {
-    let mut roomless = 0;
-    match traced(alloc, decl, devices, room, attempts, report, &mut roomless) {
+    let mut made = Made {
+        attempts: 0,
+        roomless: 0,
+    };
+    match traced(alloc, decl, devices, room, attempts, report, &mut made) {
         Ok(trace) => {
-            hint_at_room(err, roomless, attempts);
+            hint_at_room(err, made);
             put_text(out, err, trace.as_slice())
         }
         Err(fault) => tell(err, fault),
