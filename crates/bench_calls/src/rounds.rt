@@ -92,15 +92,19 @@ fn nanos_since(rt: &impl Clock, start: Instant) -> io::Result<u64> {
     Ok(u64::try_from(start.elapsed(rt)?.as_nanos()).unwrap_or(u64::MAX))
 }
 
-/// Measures these rounds by attempts, and then by calls, on one system of a slot that rotates whenever its room is full.
-pub fn timed<R: Clock>(rt: &R, alloc: Global, rounds: u32) -> Result<Times> {
-    let mut system = slot(alloc)?;
+// Measures rounds by attempts, and then by calls.
+fn measured<R: Clock>(
+    rt: &R,
+    alloc: Global,
+    system: &mut System<Cell>,
+    rounds: u32,
+) -> Result<Times> {
     let spare = Vec::with_capacity(alloc, ROOM as usize)?;
     let start = Instant::now(rt)?;
-    let (stepped, spare) = rounds_by_steps(&mut system, spare, rounds);
+    let (stepped, spare) = rounds_by_steps(system, spare, rounds);
     let steps = nanos_since(rt, start)?;
     let start = Instant::now(rt)?;
-    let (called, _spare) = rounds_by_calls(&mut system, spare, rounds);
+    let (called, _spare) = rounds_by_calls(system, spare, rounds);
     let calls = nanos_since(rt, start)?;
     let admitted = stepped.saturating_add(called);
     Ok(Times {
@@ -108,4 +112,10 @@ pub fn timed<R: Clock>(rt: &R, alloc: Global, rounds: u32) -> Result<Times> {
         steps,
         calls,
     })
+}
+
+/// Measures these rounds by attempts, and then by calls, on one system of a slot that rotates whenever its room is full.
+pub fn timed<R: Clock>(rt: &R, alloc: Global, rounds: u32) -> Result<Times> {
+    let mut system = slot(alloc)?;
+    measured(rt, alloc, &mut system, rounds)
 }
