@@ -1,5 +1,5 @@
 -- Those before it move up, or those behind it move down.
-use Rattle.std.proofs.Common.{◌∙◌, ap, drop, refl, ◌+◌, ℕ, List, arith}
+use Rattle.std.proofs.Common.{◌∙◌, ap, drop, refl, ◌+◌, arith}
 use Rattle.path_ledger.proofs.Gaps.{left_in_front, left_behind}
 use Rattle.path_ledger.proofs.row.Row.remove.Goals as goal
 
