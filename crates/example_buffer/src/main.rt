@@ -124,7 +124,7 @@ fn main(rt: HostRuntime) -> Result<()> {
         Ok(system) => system,
         Err(fault) => return Err(anyhow!("{fault}")),
     };
-    let _system = shared::<Queue, Global, HostRuntime>(&rt, rt.alloc(), system)?;
+    drop(shared::<Queue, Global, HostRuntime>(&rt, rt.alloc(), system)?);
     println!(rt; "each line has one receipt, and no number was taken before it was put in")?;
     Ok(())
 }

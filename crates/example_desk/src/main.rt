@@ -84,6 +84,8 @@ fn served<D: Device + Send, A: Allocator + Copy + Send + Sync, R: Threads + Wait
 fn main(rt: HostRuntime) -> Result<()> {
     let system = opened(rt.alloc())?;
     let system = served::<Tally, Global, HostRuntime>(&rt, rt.alloc(), system)?;
-    println!(rt; "{} lines, each with one receipt", system.journal().len())?;
+    let lines = system.journal().len();
+    drop(system);
+    println!(rt; "{lines} lines, each with one receipt")?;
     Ok(())
 }
