@@ -1,6 +1,6 @@
 -- A run is put at the end.
 use Rattle.std.proofs.Common.{◌≡◌, ◌<◌, ◌∙◌, [], length, get_or, refl, sym, ap, subst, arith}
-use Rattle.std.proofs.lemmas.List.{get_or-map, length-map}
+use Rattle.std.proofs.lemmas.List.{get_or-map, length-map, take_all}
 use Rattle.std.proofs.lemmas.List.Elements.{All-nil}
 use Rattle.path_gate.specs.Inner.Opening.{rows_of}
 use Rattle.path_gate.proofs.Runs.{run_joined}
@@ -23,3 +23,8 @@ loop-run-preserved g c =
 
 pub returns-clause-laid_out : goal.returns-clause-laid_out
 returns-clause-laid_out g c = c.loop-run.invariant.laid_out
+
+pub returns-clause-runs : goal.returns-clause-runs
+returns-clause-runs g c =
+    let rows = rows_of c.args.by_op.now in
+    c.loop-run.invariant.runs ∙ take_all c.loop-run.run-index rows (omega (arith, length-map c.args.by_op.now (λ terms. terms.items)))
