@@ -6,7 +6,7 @@ ghost use Rattle.path_locate.specs.Places.{IsDeclarationSpot, IsSpotAt, offset_o
 
 use crate::finding::Finding;
 use crate::likely::{Likely, likely_at};
-use crate::near::nearest;
+use crate::near::nearest_name;
 use crate::places::{Spot, spot_at};
 use crate::wording::Wrong;
 use path_lex::{DeclFault, Reserved, Token, tokens};
@@ -37,17 +37,27 @@ const KINDS: &[(&str, &[u8])] = &[
     ("`}`", b"}"),
 ];
 
+/// These bytes, a space and a token.
+fn with_token<A: Allocator + Copy>(
+    alloc: A,
+    before: &[u8],
+    token: &[u8],
+) -> Result<Vec<u8, A>, OutOfMemory> {
+    let mut text = Vec::new(alloc);
+    text.extend_from_slice(before)?;
+    text.push(b' ')?;
+    text.extend_from_slice(token)?;
+    Ok(text)
+}
+
 /// Whether a token can go on behind these bytes: a text that ends with it isn't at fault there or before, by the grammar.
 fn goes_on<A: Allocator + Copy>(
     alloc: A,
     before: &[u8],
     token: &[u8],
 ) -> Result<bool, OutOfMemory> {
-    let mut text = Vec::new(alloc);
-    text.extend_from_slice(before)?;
-    text.extend_from_slice(b" ")?;
-    let place = text.len();
-    text.extend_from_slice(token)?;
+    let text = with_token(alloc, before, token)?;
+    let place = text.len().saturating_sub(token.len());
     match read(alloc, &text) {
         Err(DeclFault::OutOfMemory) => Err(OutOfMemory),
         Err(DeclFault::Unexpected(at) | DeclFault::TooDeep(at)) => Ok(at as usize > place),
@@ -143,14 +153,17 @@ fn operations_before<'a, A: Allocator + Copy>(
 ) -> Result<Vec<&'a str, A>, OutOfMemory> {
     let mut names = Vec::new(alloc);
     let mut declares = false;
-    for token in tokens.iter().take_while(|token| token.at() < offset) {
+    for token in tokens {
+        if token.at() >= offset {
+            break;
+        }
         match token {
-            Token::Reserved(_, Reserved::Resource) => {
-                names.clear();
-                declares = false;
+            Token::Reserved(_, word) => {
+                if *word == Reserved::Resource {
+                    names.clear();
+                }
+                declares = *word == Reserved::Operation;
             }
-            Token::Reserved(_, Reserved::Operation) => declares = true,
-            Token::Reserved(_, _) => declares = false,
             Token::Name(_, name) if declares => names.push(*name)?,
             _ => {}
         }
@@ -166,28 +179,31 @@ fn name_at<'a>(tokens: &[Token<'a>], offset: u32) -> Option<&'a str> {
     })
 }
 
+/// The operation that is nearest to the name at this offset, of the resource in which that stands; empty if none is near.
+fn nearest_operation<A: Allocator + Copy>(
+    alloc: A,
+    tokens: &[Token<'_>],
+    offset: u32,
+) -> Result<String<A>, OutOfMemory> {
+    let names = operations_before(alloc, tokens, offset)?;
+    let name = name_at(tokens, offset).unwrap_or("");
+    nearest_name(alloc, name, &names)
+}
+
 /// The operation of the resource that is nearest to an undeclared one; empty if none is near.
 fn nearest_to<A: Allocator + Copy>(
     alloc: A,
     text: &[u8],
     fault: DeclFault,
 ) -> Result<String<A>, OutOfMemory> {
-    let mut near = String::new(alloc);
     let DeclFault::Undeclared(offset) = fault else {
-        return Ok(near);
+        return Ok(String::new(alloc));
     };
-    let tokens = match tokens(alloc, text) {
-        Ok(tokens) => tokens,
-        Err(DeclFault::OutOfMemory) => return Err(OutOfMemory),
-        Err(_) => return Ok(near),
-    };
-    let names = operations_before(alloc, &tokens, offset)?;
-    if let Some(name) = name_at(&tokens, offset) {
-        if let Some(name) = nearest(alloc, name, &names)? {
-            near.push_str(name)?;
-        }
+    match tokens(alloc, text) {
+        Ok(tokens) => nearest_operation(alloc, &tokens, offset),
+        Err(DeclFault::OutOfMemory) => Err(OutOfMemory),
+        Err(_) => Ok(String::new(alloc)),
     }
-    Ok(near)
 }
 
 /// The offset of a fault.

@@ -103,6 +103,18 @@ fn push_line<A: Allocator + Copy>(out: &mut String<A>, spot: &Spot<'_>) -> Resul
     Ok(())
 }
 
+/// Appends a line with a text and what it is; nothing if the text is empty.
+fn push_told<A: Allocator + Copy>(
+    out: &mut String<A>,
+    what: &str,
+    text: &str,
+) -> Result<(), OutOfMemory> {
+    if !text.is_empty() {
+        write!(out, "{what}{text}\n")?;
+    }
+    Ok(())
+}
+
 /// Appends what a finding says, in three lines and up to three more: `FILE:LINE:COLUMN: ` and what is wrong; the line; a caret below each
 /// character of the token; what could stand there; the nearest name; the likely cause. Lines and columns count from 1, and columns are
 /// characters: bytes that don't go on with one. A tab leads on to the carets as a tab; other control characters, and what isn't
@@ -117,18 +129,10 @@ pub fn push_finding<A: Allocator + Copy>(
     let (line, column, wrong) = (finding.spot.line, finding.spot.column(), finding.wrong);
     write!(out, "{name}:{line}:{column}: {wrong}\n")?;
     push_line(out, &finding.spot)?;
-    if !finding.wanted.is_empty() {
-        out.push_str("expected ")?;
-        out.push_str(&finding.wanted)?;
-        out.push('\n')?;
+    push_told(out, "expected ", &finding.wanted)?;
+    push_told(out, "nearest name: ", &finding.nearest)?;
+    match finding.likely {
+        Some(likely) => push_told(out, "likely: ", likely.words()),
+        None => Ok(()),
     }
-    if !finding.nearest.is_empty() {
-        out.push_str("nearest name: ")?;
-        out.push_str(&finding.nearest)?;
-        out.push('\n')?;
-    }
-    if let Some(likely) = finding.likely {
-        write!(out, "likely: {likely}\n")?;
-    }
-    Ok(())
 }

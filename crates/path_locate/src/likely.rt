@@ -25,9 +25,10 @@ pub enum Likely {
     PastAscii,
 }
 
-impl Display for Likely {
-    fn fmt<W: fmt::Write>(&self, f: &mut fmt::Formatter<W>) -> fmt::Result {
-        f.write_str(match self {
+impl Likely {
+    /// The cause, and what to do about it.
+    pub fn words(self) -> &'static str {
+        match self {
             Likely::ByteOrderMark => "the file begins with a byte order mark; save it without one",
             Likely::CarriageReturn => "a carriage return; save the file with line feeds alone",
             Likely::Tab => "a tab; write one space",
@@ -36,7 +37,13 @@ impl Display for Likely {
             Likely::LeadingZero => "a number with a leading zero; write it without",
             Likely::Space => "a space too many",
             Likely::PastAscii => "a character that isn't ASCII",
-        })
+        }
+    }
+}
+
+impl Display for Likely {
+    fn fmt<W: fmt::Write>(&self, f: &mut fmt::Formatter<W>) -> fmt::Result {
+        f.write_str(self.words())
     }
 }
 

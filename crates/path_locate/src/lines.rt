@@ -6,7 +6,7 @@ ghost use Rattle.path_locate.specs.Places.{IsSpotBehind};
 use crate::finding::Finding;
 use crate::likely::likely_at;
 use crate::miss::{Miss, Wanted, after, after_number, at_end, last, missing, verb, word};
-use crate::near::nearest;
+use crate::near::nearest_name;
 use crate::places::{Spot, behind, spot_at, spot_behind};
 use crate::wording::Wrong;
 use path_decl::{Decl, counts, op_name};
@@ -88,15 +88,10 @@ fn nearest_at<A: Allocator + Copy>(
 ) -> Result<String<A>, OutOfMemory> {
     let rest = spot.text.get(spot.at..).unwrap_or(&[]);
     let (name, _) = word(rest);
-    let mut near = String::new(alloc);
-    let Ok(name) = std::str::from_utf8(name) else {
-        return Ok(near);
-    };
-    let names = names_of(alloc, decl)?;
-    if let Some(name) = nearest(alloc, name, &names)? {
-        near.push_str(name)?;
+    match std::str::from_utf8(name) {
+        Ok(name) => nearest_name(alloc, name, &names_of(alloc, decl)?),
+        Err(_) => Ok(String::new(alloc)),
     }
-    Ok(near)
 }
 
 /// The finding of a miss in the line of this number, counted from 0.

@@ -28,3 +28,13 @@ pub fn nearest<'n, A: Allocator + Copy>(
     }
     Ok(best)
 }
+
+/// The first of the names with the fewest edits from this one, as [`nearest`] finds it; empty if none is near.
+pub fn nearest_name<A: Allocator + Copy>(
+    alloc: A,
+    name: &str,
+    names: &[&str],
+) -> Result<String<A>, OutOfMemory> {
+    let near = nearest(alloc, name, names)?.unwrap_or("");
+    Ok(String::from_str(alloc, near)?)
+}
