@@ -128,73 +128,122 @@ fn a_rotation_wants_places_for_all_lines(rt: HostRuntime) {
     drop(system);
 }
 
+// Checks that worker 1 starts the operation, or is refused for this.
+fn starts(rt: &impl Abort, system: &mut System<Cell>, op: OpId, want: Result<ActId, StartRefusal>) {
+    assert_eq!(rt; system.start(1, op), want);
+}
+
+// Checks that the worker's use gets this number, or is refused for this.
+fn uses(
+    rt: &impl Abort,
+    system: &mut System<Cell>,
+    worker: u32,
+    act: ActId,
+    verb: Verb,
+    want: Result<u64, UseRefusal>,
+) {
+    assert_eq!(rt; system.use_device(worker, act, verb), want);
+}
+
+// Checks that the worker finishes the activation, or is refused for this.
+fn finishes(
+    rt: &impl Abort,
+    system: &mut System<Cell>,
+    worker: u32,
+    act: ActId,
+    want: Result<(), FinishRefusal>,
+) {
+    assert_eq!(rt; system.finish(worker, act), want);
+}
+
+// Checks how many activations are live, and how much room is left.
+fn has_live(rt: &impl Abort, system: &System<Cell>, live: u32, room_left: u32) {
+    assert_eq!(rt; system.live_count(), live);
+    assert_eq!(rt; system.live().len(), live as usize);
+    assert_eq!(rt; system.room_left(), room_left);
+}
+
+// Checks what is refused before anything is live, and starts a deposit.
+fn refuses_starts(rt: &impl Abort, system: &mut System<Cell>) {
+    assert_eq!(rt; system.can_start(DEPOSIT), Ok(()));
+    assert_eq!(rt; system.can_start(REMOVE), Err(PathId(0)));
+    starts(rt, system, OpId(9), Err(StartRefusal::UnknownOperation));
+    starts(rt, system, REMOVE, Err(StartRefusal::Blocked(PathId(0))));
+    starts(rt, system, DEPOSIT, Ok(ActId(0)));
+}
+
+// Checks what is refused while the deposit is live and after its finish.
+fn refuses_others_and_the_stale(rt: &impl Abort, system: &mut System<Cell>) {
+    let act = ActId(0);
+    uses(rt, system, 1, act, Verb::Put(7), Ok(3));
+    uses(rt, system, 1, act, Verb::Take, Err(UseRefusal::NotOffered));
+    uses(rt, system, 2, act, Verb::Look, Err(UseRefusal::NotYours));
+    finishes(rt, system, 2, act, Err(FinishRefusal::NotYours));
+    has_live(rt, system, 1, 4);
+    finishes(rt, system, 1, act, Ok(()));
+    finishes(rt, system, 1, act, Err(FinishRefusal::Stale));
+    uses(rt, system, 1, act, Verb::Look, Err(UseRefusal::Stale));
+    has_live(rt, system, 0, 2);
+}
+
+// Checks what is refused when the room is left for a finish alone.
+fn refuses_for_room(rt: &impl Abort, system: &mut System<Cell>) {
+    let act = ActId(1);
+    starts(rt, system, REMOVE, Ok(act));
+    starts(rt, system, DEPOSIT, Err(StartRefusal::NoRoom));
+    uses(rt, system, 1, act, Verb::Look, Err(UseRefusal::NoRoom));
+    finishes(rt, system, 2, act, Err(FinishRefusal::NoRoom));
+    finishes(rt, system, 1, act, Ok(()));
+}
+
 #[test]
 fn each_call_tells_its_own_refusals(rt: HostRuntime) {
     let mut system = slot(&rt, rt.alloc());
-    assert_eq!(rt; system.can_start(DEPOSIT), Ok(()));
-    assert_eq!(rt; system.can_start(REMOVE), Err(PathId(0)));
-    assert_eq!(rt;
-        system.start(1, OpId(9)),
-        Err(StartRefusal::UnknownOperation)
-    );
-    assert_eq!(rt;
-        system.start(1, REMOVE),
-        Err(StartRefusal::Blocked(PathId(0)))
-    );
-    assert_eq!(rt; system.start(1, DEPOSIT), Ok(ActId(0)));
-    assert_eq!(rt; system.use_device(1, ActId(0), Verb::Put(7)), Ok(3));
-    assert_eq!(rt;
-        system.use_device(1, ActId(0), Verb::Take),
-        Err(UseRefusal::NotOffered)
-    );
-    assert_eq!(rt;
-        system.use_device(2, ActId(0), Verb::Look),
-        Err(UseRefusal::NotYours)
-    );
-    assert_eq!(rt; system.finish(2, ActId(0)), Err(FinishRefusal::NotYours));
-    assert_eq!(rt;
-        (system.live_count(), system.live().len(), system.room_left()),
-        (1, 1, 4)
-    );
-    assert_eq!(rt; system.finish(1, ActId(0)), Ok(()));
-    assert_eq!(rt; system.finish(1, ActId(0)), Err(FinishRefusal::Stale));
-    assert_eq!(rt;
-        system.use_device(1, ActId(0), Verb::Look),
-        Err(UseRefusal::Stale)
-    );
-    assert_eq!(rt; (system.live_count(), system.room_left()), (0, 2));
-    assert_eq!(rt; system.start(1, REMOVE), Ok(ActId(1)));
-    assert_eq!(rt; system.start(1, DEPOSIT), Err(StartRefusal::NoRoom));
-    assert_eq!(rt;
-        system.use_device(1, ActId(1), Verb::Look),
-        Err(UseRefusal::NoRoom)
-    );
-    assert_eq!(rt; system.finish(2, ActId(1)), Err(FinishRefusal::NoRoom));
-    assert_eq!(rt; system.finish(1, ActId(1)), Ok(()));
+    refuses_starts(&rt, &mut system);
+    refuses_others_and_the_stale(&rt, &mut system);
+    refuses_for_room(&rt, &mut system);
     drop(system);
+}
+
+// The slot in a room of 12, as a controller.
+fn controlled_slot(rt: &impl Abort, alloc: Global) -> Controller<Cell> {
+    let decl = declared(rt, alloc, SLOT).expect(rt, "enough memory");
+    match Controller::open(alloc, decl, alone(rt, alloc, Cell::new(3)), TWELVE) {
+        Ok(controller) => controller,
+        Err(_) => panic!(rt; "it was refused"),
+    }
+}
+
+// Checks that the attempt gets this reply.
+fn controls(rt: &impl Abort, controller: &mut Controller<Cell>, attempt: Attempt, want: Reply) {
+    assert_eq!(rt; controller.step(1, attempt), want);
+}
+
+// Checks that the operation is started with this number and finished, if need be after a rotation.
+fn controlled_round(rt: &impl Abort, controller: &mut Controller<Cell>, op: OpId, act: ActId) {
+    if controller.room_left() < 2 {
+        controller.rotate();
+    }
+    controls(rt, controller, Attempt::Start(op), Reply::Started(act));
+    controls(rt, controller, Attempt::Finish(act), Reply::Finished);
+}
+
+// Checks that the controller can be closed.
+fn closes(rt: &impl Abort, controller: Controller<Cell>) {
+    match controller.close() {
+        Ok(()) => {}
+        Err(_) => panic!(rt; "something is live"),
+    }
 }
 
 #[test]
 fn a_controller_goes_on_without_a_list_of_lines(rt: HostRuntime) {
-    let decl = declared(&rt, rt.alloc(), SLOT).expect(&rt, "enough memory");
-    let devices = alone(&rt, rt.alloc(), Cell::new(3));
-    let Ok(mut controller) = Controller::open(rt.alloc(), decl, devices, TWELVE) else {
-        panic!(rt; "it was refused");
-    };
+    let mut controller = controlled_slot(&rt, rt.alloc());
     for number in 0..2500u64 {
         let op = if number % 2 == 0 { DEPOSIT } else { REMOVE };
-        if controller.room_left() < 2 {
-            controller.rotate();
-        }
-        assert_eq!(rt;
-            controller.step(1, Attempt::Start(op)),
-            Reply::Started(ActId(number))
-        );
-        assert_eq!(rt;
-            controller.step(1, Attempt::Finish(ActId(number))),
-            Reply::Finished
-        );
+        controlled_round(&rt, &mut controller, op, ActId(number));
     }
-    assert!(rt; controller.is_idle() && controller.lines() <= TWELVE);
-    assert!(rt; controller.close().is_ok());
+    assert!(rt; controller.is_idle());
+    assert!(rt; controller.lines() <= TWELVE);
+    closes(&rt, controller);
 }
