@@ -24,3 +24,12 @@ returns-in-Err-clause-few g c =
     let total : slips.result.1 ≡ receipts_of c.args.passes.items = slips.ensures.stake ∙ ap receipts_of (sym slips.ensures.items ∙ same) in
     let most = c.close_with-system.ensures.few in
     few c.args.before c.args.hall.journal c.args.passes.items c.in-Err.fault (search rules) (omega (arith, total, most, c.requires.before))
+
+pub journal-requires : goal.journal-requires
+journal-requires g c κs = λ within. within
+
+pub check-verdict-requires : goal.check-verdict-requires
+check-verdict-requires g c κs = λ within. within
+
+pub close_with-system-requires : goal.close_with-system-requires
+close_with-system-requires g c κs = λ within. within
