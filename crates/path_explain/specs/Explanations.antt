@@ -10,6 +10,7 @@ use Rattle.path_model.specs.Owed.{Owed}
 use Rattle.path_decl.specs.Text.{IsDeclarationText}
 use Rattle.path_lines.specs.LineTexts.{journal_line_text}
 use Rattle.path_lines.specs.AttemptTexts.{Entry, IsAttemptsText}
+use Rattle.path_shelf.specs.States.{State}
 use Rattle.path_system.specs.Accounts.{Account, contents_of}
 use Rattle.path_streams.specs.Refusals.{IsNoDeclaration}
 use Rattle.path_streams.specs.declared.status.Status.{Status}
@@ -48,6 +49,11 @@ pub record IsExplanation (may_fail : Type 0) (d : Declaration) (room : ℕ) (ope
   pub standing : List ℕ
   pub told : AreExplained may_fail d room openings es journal steps
   pub whole : text ≡ steps ++ standing
+
+-- the text explains the attempts in another, made over devices in these states
+abbrev pub IsExplanationOver : Declaration → List State → Type 0 → ℕ → List ℕ → List ℕ → Type 0
+IsExplanationOver d states may_fail room attempts text =
+    (es : List Entry) × IsAttemptsText d attempts es × IsExplanation may_fail d room (contents_of states) es text
 
 -- the text explains the attempts in one text under the declaration in another, made over devices that never fail: each cell and tally
 -- contains 0 at first, each queue is empty

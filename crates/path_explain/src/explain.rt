@@ -1,6 +1,6 @@
 //! From bytes to bytes: a declaration, or attempts under it, in words.
 
-ghost use Rattle.std.specs.Prelude.{◌≡◌, ◌≢◌, [], IfOk, IfErr, OnOk};
+ghost use Rattle.std.specs.Prelude.{◌≡◌, ◌≢◌, [], map, IfOk, IfErr, OnOk};
 ghost use Rattle.std.specs.String.{string_bytes};
 ghost use Rattle.std.specs.Io.KnownBytes.{Keeps};
 ghost use Rattle.path_model.specs.Declarations.{paths_of};
@@ -8,7 +8,8 @@ ghost use Rattle.path_shelf.specs.States.{MayFail};
 ghost use Rattle.path_streams.specs.Refusals.{IsNoDeclaration, IsUndeclared};
 ghost use Rattle.path_streams.specs.Statuses.{status_of};
 ghost use Rattle.path_streams.specs.Writes.{AppendsSome, IsFrontOf};
-ghost use Rattle.path_explain.specs.Explanations.{AreExplained, IsExplainedStep, IsExplanation, IsExplanationOfTexts, IsUnexplained};
+ghost use Rattle.path_trace.specs.Traces.{IsRefused};
+ghost use Rattle.path_explain.specs.Explanations.{AreExplained, IsExplainedStep, IsExplanation, IsExplanationOver, IsExplanationOfTexts, IsUnexplained};
 
 use crate::declared::declaration_in_words;
 use crate::faults::{FileNames, Subject, tell_place};
@@ -124,6 +125,32 @@ fn explained<D: Device, A: Allocator + Copy>(
     Ok(text)
 }
 
+/// The explanation of the attempts in a text by a system of this declaration over these devices.
+fn explained_over<D: Device, A: Allocator + Copy>(
+    alloc: A,
+    decl: Decl<A>,
+    devices: Vec<D, A>,
+    room: u32,
+    attempts: &[u8],
+) -> Result<String<A>, Fault<'static>>
+    ensures ok { IfOk result (λ text.
+        IsExplanationOver decl.declaration (map D.state devices.items) (MayFail D.state) room attempts.now (string_bytes text)) }
+    ensures err { IfErr result (λ fault. IsRefused decl.declaration (map D.state devices.items) room attempts.now (status_of fault)) }
+{
+    let entries = match read_attempts(alloc, &decl, attempts) {
+        Ok(entries) => entries,
+        Err(fault) => return Err(Fault::Text(fault)),
+    };
+    match Controller::open(alloc, decl, devices, room) {
+        Ok(mut system) => {
+            let text = explained(alloc, &mut system, &entries);
+            drop(system);
+            text
+        }
+        Err((fault, _devices)) => Err(Fault::Open(fault)),
+    }
+}
+
 /// The explanation of the attempts in a text, under the declaration in another.
 fn attempts_in_words<A: Allocator + Copy>(
     alloc: A,
@@ -134,19 +161,10 @@ fn attempts_in_words<A: Allocator + Copy>(
     ensures ok { IfOk result (λ text. IsExplanationOfTexts declaration.now room attempts.now (string_bytes text)) }
     ensures err { IfErr result (λ fault. IsUnexplained declaration.now room attempts.now (status_of fault)) }
 {
-    let (decl, devices) = read_own(alloc, declaration)?;
-    let entries = match read_attempts(alloc, &decl, attempts) {
-        Ok(entries) => entries,
-        Err(fault) => return Err(Fault::Text(fault)),
-    };
     // The devices are those of the declaration, so only the room or memory can be wanting.
-    match Controller::open(alloc, decl, devices, room) {
-        Ok(mut system) => {
-            let text = explained(alloc, &mut system, &entries);
-            drop(system);
-            text
-        }
-        Err((fault, _devices)) => Err(Fault::Open(fault)),
+    match read_own(alloc, declaration) {
+        Ok((decl, devices)) => explained_over(alloc, decl, devices, room, attempts),
+        Err(fault) => Err(fault),
     }
 }
 

@@ -3,6 +3,7 @@
 ghost use Rattle.std.specs.Prelude.{◌≡◌, ◌⊎◌};
 ghost use Rattle.path_streams.specs.Statuses.{status_of};
 
+use path_decl::Decl;
 use path_lex::DeclFault;
 use path_lines::TextFault;
 use path_locate::{Finding, TextKind, declaration_finding, push_finding, text_finding};
@@ -51,6 +52,19 @@ fn declaration_place<A: Allocator + Copy>(
     lines_of(alloc, name, &finding)
 }
 
+/// Where a text under this declaration has this fault, in lines; `None` if there is no memory for them.
+fn place_under<A: Allocator + Copy>(
+    alloc: A,
+    name: &str,
+    decl: &Decl<A>,
+    kind: TextKind,
+    text: &[u8],
+    fault: TextFault,
+) -> Option<String<A>> {
+    let finding = text_finding(alloc, decl, kind, text, fault).ok()??;
+    lines_of(alloc, name, &finding)
+}
+
 /// Where the text under a declaration has this fault, in lines; `None` if there is no memory for them. Reads the declaration once more.
 fn text_place<A: Allocator + Copy>(
     alloc: A,
@@ -63,8 +77,7 @@ fn text_place<A: Allocator + Copy>(
         return None;
     };
     let decl = read(alloc, declaration).ok()?;
-    let finding = text_finding(alloc, &decl, kind, text, fault).ok()??;
-    lines_of(alloc, name, &finding)
+    place_under(alloc, name, &decl, kind, text, fault)
 }
 
 /// Tells a fault on `err`: that of a text with its place, as [`push_finding`] does, and any other in one line, as that of a text if there

@@ -1,6 +1,6 @@
 //! A journal in words: its first wrong line, and the reply that was owed to it.
 
-ghost use Rattle.std.specs.Prelude.{◌≡◌, ◌≢◌, ◌⊎◌, ◌<◌, ◌++◌, [], length, slice_get, is_some, Some, IfOk, IfErr, OnOk};
+ghost use Rattle.std.specs.Prelude.{◌≡◌, ◌≢◌, ◌⊎◌, ◌<◌, ◌++◌, [], length, slice_get, is_some, Some, Ok, IfOk, IfErr, OnOk};
 ghost use Rattle.std.specs.String.{string_bytes};
 ghost use Rattle.std.specs.Io.KnownBytes.{Appends, Keeps};
 ghost use Rattle.path_model.specs.declared.journal.Line.{Line};
@@ -105,6 +105,33 @@ fn right_lines<A: Allocator + Copy>(examined: &Examined<A>, lines: &[Line]) -> u
     }
 }
 
+/// How far the lines of a journal are right in a room.
+#[derive(Clone, Copy)]
+struct Reach {
+    /// How many of the lines are right.
+    right: usize,
+    /// How many places these take, with one for each activation that is live behind them.
+    places: usize,
+}
+
+/// How far these lines are right in this room.
+fn reach_in<A: Allocator + Copy>(
+    alloc: A,
+    decl: &Decl<A>,
+    lines: &[Line],
+    room: u32,
+) -> Result<Reach, OutOfMemory> {
+    let Ok(tried) = examined(alloc, decl, room, lines) else {
+        return Err(OutOfMemory);
+    };
+    let right = right_lines(&tried, lines);
+    let live = tried.live(alloc)?.len();
+    Ok(Reach {
+        right,
+        places: right.saturating_add(live),
+    })
+}
+
 /// The least room in which more than `right` lines are right, and as many as in the largest; `None` if there is none.
 ///
 /// It has a place for each of these lines and for each activation that is live behind them, and one more if the last line that wanted
@@ -116,22 +143,14 @@ fn least_room<A: Allocator + Copy>(
     lines: &[Line],
     right: usize,
 ) -> Result<Option<u32>, OutOfMemory> {
-    let Ok(largest) = examined(alloc, decl, MOST_LINES, lines) else {
-        return Err(OutOfMemory);
-    };
-    let most = right_lines(&largest, lines);
-    if most <= right {
+    let largest = reach_in(alloc, decl, lines, MOST_LINES)?;
+    if largest.right <= right {
         return Ok(None);
     }
-    let taken = u32::try_from(most.saturating_add(largest.live(alloc)?.len())).unwrap_or(
-        MOST_LINES,
-    );
+    let taken = u32::try_from(largest.places).unwrap_or(MOST_LINES);
     let least = taken.saturating_sub(1).max(1);
     for room in least..MOST_LINES.min(taken.saturating_add(3)) {
-        let Ok(tried) = examined(alloc, decl, room, lines) else {
-            return Err(OutOfMemory);
-        };
-        if right_lines(&tried, lines) == most {
+        if reach_in(alloc, decl, lines, room)?.right == largest.right {
             return Ok(Some(room));
         }
     }
@@ -171,6 +190,20 @@ fn line_owed(line: Line, owed: Reply) -> Option<Line> {
 struct Judged<A: Allocator + Copy> {
     text: String<A>,
     status: Status,
+}
+
+/// A text, if it was made, with this status.
+fn told<A: Allocator + Copy>(
+    text: Result<String<A>, OutOfMemory>,
+    status: Status,
+) -> Result<Judged<A>, Fault<'static>>
+    ensures ok { IfOk result (λ told. (text ≡ Ok told.text) × (told.status ≡ status)) }
+    ensures err { IfErr result (λ fault. fault ≡ Fault.OutOfMemory) }
+{
+    Ok(Judged {
+        text: text?,
+        status,
+    })
 }
 
 /// What is said of a journal whose lines are all right.
@@ -232,14 +265,11 @@ fn judge_text<A: Allocator + Copy>(
     let room = journal.room.unwrap_or(room);
     let examined = examined(alloc, decl, room, &journal.lines)?;
     match examined.wrong() {
-        None => Ok(Judged {
-            text: sound(alloc, decl, &examined, &journal.lines)?,
-            status: Status::Done,
-        }),
-        Some(wrong) => Ok(Judged {
-            text: unsound(alloc, decl, &examined, &journal, wrong)?,
-            status: Status::Unsound,
-        }),
+        None => told(sound(alloc, decl, &examined, &journal.lines), Status::Done),
+        Some(wrong) => told(
+            unsound(alloc, decl, &examined, &journal, wrong),
+            Status::Unsound,
+        ),
     }
 }
 

@@ -1,32 +1,28 @@
--- A text is refused, or its attempts are explained over the program's own devices.
-use Rattle.std.proofs.Common.{◌<◌, length, sym, subst, arith}
+-- The declaration is refused, or the attempts are explained over the program's own devices.
 use Rattle.std.proofs.lemmas.Result.{IfOk-weaker, IfErr-weaker}
 use Rattle.path_streams.specs.Statuses.{status_of}
-use Rattle.path_explain.specs.Explanations.{IsUnexplained}
 use Rattle.path_explain.proofs.Explaining.{explains_own}
-use Rattle.path_explain.proofs.Unexplained.{refuses_opening}
+use Rattle.path_explain.proofs.Unexplained.{refuses_declaration, refuses_own}
 use Rattle.path_explain.proofs.explain.attempts_in_words.Goals as goal
 
-pub returns-in-Ok-open-clause-ok : goal.returns-in-Ok-open-clause-ok
-returns-in-Ok-open-clause-ok g c =
-    IfOk-weaker c.explained-text.result _ _
+pub returns-in-Ok-clause-ok : goal.returns-in-Ok-clause-ok
+returns-in-Ok-clause-ok g c =
+    IfOk-weaker c.explained_over.result _ _
     (λ text told. (
-      c.in_ok-decl.decl.declaration,
-      c.in_ok-decl.ensures.declares,
-      c.in-Ok.entries.items,
-      c.in-Ok.ensures.ok,
-      explains_own {Y = g.row.A.Denot} c.in_ok-decl.decl.declaration _ c.args.room c.in-Ok.entries.items _ c.in_ok-decl.ensures.devices told,
+      c.in-Ok.decl.declaration,
+      c.in-Ok.ensures.declares,
+      told.0,
+      told.1,
+      explains_own {Y = g.row.A.Denot} c.in-Ok.decl.declaration _ c.args.room told.0 _ c.in-Ok.ensures.devices told.2,
     ))
-    (rw (c.in-Ok-open.ensures.ok, c.deref.ensures.value) at c.explained-text.ensures.ok)
+    c.explained_over.ensures.ok
 
-pub returns-in-Ok-open-clause-err : goal.returns-in-Ok-open-clause-err
-returns-in-Ok-open-clause-err g c =
-    IfErr-weaker c.explained-text.result _ _
-    (λ fault is. subst (λ f. IsUnexplained c.args.declaration.now c.args.room c.args.attempts.now (status_of f)) (sym is) tt)
-    c.explained-text.ensures.memory
+pub returns-in-Ok-clause-err : goal.returns-in-Ok-clause-err
+returns-in-Ok-clause-err g c =
+    IfErr-weaker c.explained_over.result _ _
+    (λ fault is. refuses_own c.args.declaration.now c.args.attempts.now c.args.room c.in-Ok.decl.declaration _ (status_of fault) c.in-Ok.ensures.declares c.in-Ok.ensures.devices is)
+    c.explained_over.ensures.err
 
-pub returns-clause-err : goal.returns-clause-err
-returns-clause-err g c =
-    let long : 134217728 < length c.args.attempts.now → ⊥ = λ l. (let k = c.in-Ok.ensures.too_long.1 l in cc) in
-    refuses_opening c.args.declaration.now c.args.attempts.now c.args.room c.in_ok-decl.decl.declaration c.in-Ok.entries.items _ c.in-Err-open.fault c.in_ok-decl.ensures.declares
-    c.in-Ok.ensures.ok (omega (arith, long)) c.in_ok-decl.ensures.devices c.in-Err-open.ensures.fault
+pub returns-in-Err-clause-err : goal.returns-in-Err-clause-err
+returns-in-Err-clause-err g c =
+    refuses_declaration c.args.declaration.now c.args.attempts.now c.args.room (status_of c.in-Err.fault) c.in-Err.ensures.err
