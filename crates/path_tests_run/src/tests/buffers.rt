@@ -1,7 +1,7 @@
 //! Scripts of many rounds.
 
-use crate::tests::own::{BOOK, Case, ROOM, SLOT, end_so, ran, started, unblocked};
-use path_model::{Line, OutOfMemory, Reply};
+use crate::tests::own::{BOOK, Case, ROOM, SLOT, journal_of, started, unblocked};
+use path_model::{Line, Reply};
 use path_run::End;
 use path_shelf::{Cell, Device, Queue};
 use std::alloc::Global;
@@ -21,105 +21,109 @@ fn used(journal: &[Line], worker: u32, number: u64) -> usize {
         .count()
 }
 
+/// Appends the piece to the text.
+fn put(rt: &impl Abort, text: &mut Vec<u8>, piece: &[u8]) {
+    assert!(rt; text.extend_from_slice(piece).is_ok(), "enough memory");
+}
+
 /// Adds a process to the text, which takes the steps in each of these rounds.
-fn add_process(text: &mut Vec<u8>, steps: &[u8], rounds: u32) -> Result<(), OutOfMemory> {
-    text.extend_from_slice(b"process p\n")?;
+fn add_process(rt: &impl Abort, text: &mut Vec<u8>, steps: &[u8], rounds: u32) {
+    put(rt, text, b"process p\n");
     for _ in 0..rounds {
-        text.extend_from_slice(steps)?;
+        put(rt, text, steps);
     }
-    text.extend_from_slice(b"end\n")?;
-    Ok(())
+    put(rt, text, b"end\n");
 }
 
 /// A script of processes, each of which takes these steps in each of so many rounds.
-fn script(alloc: Global, processes: &[&[u8]], rounds: u32) -> Result<Vec<u8>, OutOfMemory> {
+fn script(rt: &impl Abort, alloc: Global, processes: &[&[u8]], rounds: u32) -> Vec<u8> {
     let mut text = Vec::new(alloc);
     for steps in processes {
-        add_process(&mut text, steps, rounds)?;
+        add_process(rt, &mut text, steps, rounds);
     }
-    Ok(text)
+    text
 }
 
-/// What is counted of a run: how many starts were admitted, how many lines there are besides those of blocked starts, and how often worker
-/// 1 got each of two numbers.
-type Counts = (usize, usize, usize, usize);
+/// A script of processes, each of which takes its steps in each of so many rounds, over a new system of this declaration.
+#[derive(Clone, Copy)]
+struct Rounds<'a> {
+    declaration: &'a [u8],
+    processes: &'a [&'a [u8]],
+    count: u32,
+}
 
-/// Runs a script in which each process is to be done, and counts.
-fn counted<D: Device + Send, R: Threads + Wait + Abort + Sync>(
+/// The journal of a run over this device, if these are the ends.
+fn journal_of_rounds<D: Device + Send, R: Threads + Wait + Abort + Sync>(
     rt: &R,
     alloc: Global,
-    case: Case<'_>,
+    rounds: Rounds<'_>,
     device: D,
     ends: &[End],
-    numbers: (u64, u64),
-) -> Counts {
-    let outcome = ran(rt, alloc, case, device);
-    let journal = outcome.system.journal();
-    let counts = (
-        started(journal),
-        unblocked(journal),
-        used(journal, 1, numbers.0),
-        used(journal, 1, numbers.1),
-    );
-    let are_done = end_so(outcome.ends.as_slice(), ends);
-    drop(outcome);
-    assert!(rt; are_done);
-    counts
+) -> Vec<Line> {
+    let text = script(rt, alloc, rounds.processes, rounds.count);
+    let case = Case {
+        declaration: rounds.declaration,
+        room: ROOM,
+        script: text.as_slice(),
+    };
+    journal_of(rt, alloc, case, device, ends)
 }
 
+/// Checks how many starts were admitted, and how many lines there are besides those of blocked starts.
+fn expect_lines(rt: &impl Abort, journal: &[Line], starts: usize, lines: usize) {
+    assert_eq!(rt; started(journal), starts);
+    assert_eq!(rt; unblocked(journal), lines);
+}
+
+const PRODUCER: &[u8] = b"enter deposit\nuse put 7\nleave\n";
+
+const CONSUMER: &[u8] = b"enter remove\nuse look\nleave\n";
+
 #[test]
-fn run_slot(rt: HostRuntime) -> Result<(), OutOfMemory> {
-    let alloc = rt.alloc();
-    let producer = b"enter deposit\nuse put 7\nleave\n".as_slice();
-    let consumer = b"enter remove\nuse look\nleave\n".as_slice();
-    let text = script(alloc, &[producer, consumer], 100)?;
-    let case = Case {
+fn run_slot(rt: HostRuntime) {
+    let rounds = Rounds {
         declaration: SLOT,
-        room: ROOM,
-        script: text.as_slice(),
+        processes: &[PRODUCER, CONSUMER],
+        count: 100,
     };
-    let counts = counted(
-        &rt,
-        alloc,
-        case,
-        Cell::new(0),
-        &[End::Done, End::Done],
-        (7, 0),
-    );
-    assert_eq!(&rt; counts, (200, 600, 100, 0));
-    Ok(())
+    let ends = [End::Done, End::Done];
+    let journal = journal_of_rounds(&rt, rt.alloc(), rounds, Cell::new(0), &ends);
+    expect_lines(&rt, &journal, 200, 600);
+    assert_eq!(&rt; used(&journal, 1, 7), 100);
+    assert_eq!(&rt; used(&journal, 1, 0), 0);
 }
 
+const FILLER: &[u8] = b"enter put0\nuse put 5\nleave\nenter put1\nuse put 6\nleave\n";
+
+const EMPTIER: &[u8] = b"enter get0\nuse take\nleave\nenter get1\nuse take\nleave\n";
+
 #[test]
-fn run_bounded_buffer(rt: HostRuntime) -> Result<(), OutOfMemory> {
-    let alloc = rt.alloc();
-    let producer = b"enter put0\nuse put 5\nleave\nenter put1\nuse put 6\nleave\n".as_slice();
-    let consumer = b"enter get0\nuse take\nleave\nenter get1\nuse take\nleave\n".as_slice();
-    let queue = Queue::new(alloc, 2)?;
-    let text = script(alloc, &[producer, consumer], 50)?;
-    let case = Case {
+fn run_bounded_buffer(rt: HostRuntime) {
+    let rounds = Rounds {
         declaration: BUFFER,
-        room: ROOM,
-        script: text.as_slice(),
+        processes: &[FILLER, EMPTIER],
+        count: 50,
     };
-    let counts = counted(&rt, alloc, case, queue, &[End::Done, End::Done], (5, 6));
-    assert_eq!(&rt; counts, (200, 600, 50, 50));
-    Ok(())
+    let queue = Queue::new(rt.alloc(), 2).expect(&rt, "enough memory");
+    let ends = [End::Done, End::Done];
+    let journal = journal_of_rounds(&rt, rt.alloc(), rounds, queue, &ends);
+    expect_lines(&rt, &journal, 200, 600);
+    assert_eq!(&rt; used(&journal, 1, 5), 50);
+    assert_eq!(&rt; used(&journal, 1, 6), 50);
 }
 
+const READER: &[u8] = b"enter read\nuse look\nleave\n";
+
+const WRITER: &[u8] = b"enter write\nuse put 3\nleave\n";
+
 #[test]
-fn run_readers_and_writers(rt: HostRuntime) -> Result<(), OutOfMemory> {
-    let alloc = rt.alloc();
-    let reader = b"enter read\nuse look\nleave\n".as_slice();
-    let writer = b"enter write\nuse put 3\nleave\n".as_slice();
-    let text = script(alloc, &[reader, reader, writer], 50)?;
-    let case = Case {
+fn run_readers_and_writers(rt: HostRuntime) {
+    let rounds = Rounds {
         declaration: BOOK,
-        room: ROOM,
-        script: text.as_slice(),
+        processes: &[READER, READER, WRITER],
+        count: 50,
     };
     let ends = [End::Done, End::Done, End::Done];
-    let (starts, lines, _, _) = counted(&rt, alloc, case, Cell::new(0), &ends, (0, 3));
-    assert_eq!(&rt; (starts, lines), (150, 450));
-    Ok(())
+    let journal = journal_of_rounds(&rt, rt.alloc(), rounds, Cell::new(0), &ends);
+    expect_lines(&rt, &journal, 150, 450);
 }

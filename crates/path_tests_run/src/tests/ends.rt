@@ -1,6 +1,6 @@
 //! Processes that stall, run out of room, or are refused by a device.
 
-use crate::tests::own::{Case, ROOM, SLOT, end_so, ran, started, unblocked};
+use crate::tests::own::{Case, ROOM, SLOT, journal_of, started, unblocked};
 use path_model::{OpId, Reply};
 use path_run::End;
 use path_shelf::{Cell, Queue};
@@ -18,15 +18,10 @@ fn run_knot(rt: HostRuntime) {
         room: ROOM,
         script: text,
     };
-    let outcome = ran(&rt, rt.alloc(), case, Cell::new(0));
-    assert!(&rt;
-        end_so(
-            outcome.ends.as_slice(),
-            &[End::Stalled(OpId(0)), End::Stalled(OpId(1))]
-        )
-    );
-    assert_eq!(&rt; outcome.system.journal().len(), 2);
-    assert_eq!(&rt; started(outcome.system.journal()), 0);
+    let ends = [End::Stalled(OpId(0)), End::Stalled(OpId(1))];
+    let journal = journal_of(&rt, rt.alloc(), case, Cell::new(0), &ends);
+    assert_eq!(&rt; journal.len(), 2);
+    assert_eq!(&rt; started(&journal), 0);
 }
 
 #[test]
@@ -37,9 +32,7 @@ fn run_gives_up_for_room(rt: HostRuntime) {
         room: 3,
         script: text,
     };
-    let outcome = ran(&rt, rt.alloc(), case, Cell::new(0));
-    assert!(&rt; end_so(outcome.ends.as_slice(), &[End::NoRoom]));
-    let journal = outcome.system.journal();
+    let journal = journal_of(&rt, rt.alloc(), case, Cell::new(0), &[End::NoRoom]);
     assert_eq!(&rt; journal.len(), 3);
     assert_eq!(&rt; journal[1].reply, Reply::Used(0));
     assert_eq!(&rt; journal[2].reply, Reply::Finished);
@@ -57,9 +50,8 @@ fn run_gives_up_for_a_fault(rt: HostRuntime) {
         room: ROOM,
         script: text,
     };
-    let outcome = ran(&rt, alloc, case, queue);
-    assert!(&rt; end_so(outcome.ends.as_slice(), &[End::Faulted(Reply::Empty)]));
-    let journal = outcome.system.journal();
+    let ends = [End::Faulted(Reply::Empty)];
+    let journal = journal_of(&rt, alloc, case, queue, &ends);
     assert_eq!(&rt; journal.len(), 3);
     assert_eq!(&rt; journal[2].reply, Reply::Finished);
 }
@@ -74,8 +66,8 @@ fn run_slot_again(rt: HostRuntime) {
             room: ROOM,
             script: text,
         };
-        let outcome = ran(&rt, rt.alloc(), case, Cell::new(0));
-        assert!(&rt; end_so(outcome.ends.as_slice(), &[End::Done, End::Done]));
-        assert_eq!(&rt; unblocked(outcome.system.journal()), 4);
+        let ends = [End::Done, End::Done];
+        let journal = journal_of(&rt, rt.alloc(), case, Cell::new(0), &ends);
+        assert_eq!(&rt; unblocked(&journal), 4);
     }
 }

@@ -18,25 +18,37 @@ enter deposit\nuse put 7\nleave\nenter deposit\nuse put 7\nleave\nenter deposit\
 process q
 enter remove\nuse look\nleave\nenter remove\nuse look\nleave\nenter remove\nuse look\nleave\nend";
 
+/// Whether the system can be closed.
+fn closes(system: System<Cell>) -> bool {
+    match system.close() {
+        Ok(_journal) => true,
+        Err(_system) => false,
+    }
+}
+
 /// Whether both processes are done. `OutOfMemory`: one of them ran out of memory. In each case nothing is live.
 fn both_done<A: Allocator + Copy>(outcome: Outcome<System<Cell>, A>) -> Result<bool, OutOfMemory> {
     let Outcome {
         system,
-        passes: _passes,
+        passes,
         ends,
     } = outcome;
+    drop(passes);
     let short = ends.iter().filter(|end| **end == End::NoMemory).count();
     let are_done = end_so(ends.as_slice(), &[End::Done, End::Done]);
-    match system.close() {
-        Ok(_journal) if short == 1 => Err(OutOfMemory),
-        Ok(_journal) => Ok(are_done),
-        Err(_system) => Ok(false),
+    drop(ends);
+    let is_closed = closes(system);
+    if is_closed && short == 1 {
+        return Err(OutOfMemory);
     }
+    Ok(is_closed && are_done)
 }
 
 /// No process began, so the system has no lines.
 fn none_began(system: System<Cell>) -> Result<bool, OutOfMemory> {
-    if system.journal().is_empty() {
+    let has_none = system.journal().is_empty();
+    drop(system);
+    if has_none {
         Err(OutOfMemory)
     } else {
         Ok(false)
@@ -58,6 +70,25 @@ fn run_from<
     run(rt, alloc, system, script, &AlwaysOpen)
 }
 
+/// What a run comes to: whether it ended as it must, or that memory ran out.
+fn answer_of<A: Allocator + Copy>(
+    ran: Result<Outcome<System<Cell>, A>, RunFault<System<Cell>>>,
+) -> Result<bool, OutOfMemory> {
+    match ran {
+        Ok(outcome) => both_done(outcome),
+        Err(RunFault::OutOfMemory(system)) => none_began(system),
+        Err(RunFault::Unsettled(_fault, _system)) => Ok(false),
+    }
+}
+
+/// The script has no fault, so it is just memory that may be wanting.
+fn unread(fault: ScriptFault) -> Result<bool, OutOfMemory> {
+    match fault {
+        ScriptFault::OutOfMemory => Err(OutOfMemory),
+        _ => Ok(false),
+    }
+}
+
 /// Runs the slot's script. This allocator serves the script and the run.
 fn ran_with<R: Threads + Wait + Abort + Sync>(
     rt: &R,
@@ -65,15 +96,14 @@ fn ran_with<R: Threads + Wait + Abort + Sync>(
     refusing: &Refusing<Global>,
 ) -> Result<bool, OutOfMemory> {
     let system = system_of(rt, heap, SLOT, Cell::new(0), ROOM);
-    let script = match read_script(refusing, system.decl(), ROUNDS) {
-        Ok(script) => script,
-        Err(ScriptFault::OutOfMemory) => return Err(OutOfMemory),
-        Err(_fault) => return Ok(false),
-    };
-    match run_from::<Cell, Global, &Refusing<Global>, R>(rt, refusing, system, &script) {
-        Ok(outcome) => both_done(outcome),
-        Err(RunFault::OutOfMemory(system)) => none_began(system),
-        Err(RunFault::Unsettled(_fault, _system)) => Ok(false),
+    match read_script(refusing, system.decl(), ROUNDS) {
+        Ok(script) => answer_of(run_from::<Cell, Global, &Refusing<Global>, R>(
+            rt, refusing, system, &script,
+        )),
+        Err(fault) => {
+            drop(system);
+            unread(fault)
+        }
     }
 }
 

@@ -82,14 +82,41 @@ pub(crate) fn ran<D: Device + Send, R: Threads + Wait + Abort + Sync>(
     ran_over(rt, alloc, case, device, &AlwaysOpen)
 }
 
-/// The outcome of a run over a cell, through a turnstile.
-pub(crate) fn ran_through<T: Turnstile, R: Threads + Wait + Abort + Sync>(
+/// The journal of an outcome in which these are the ends.
+fn journal_in<D: Device>(
+    rt: &impl Abort,
+    alloc: Global,
+    outcome: Outcome<System<D>>,
+    ends: &[End],
+) -> Vec<Line> {
+    let journal = outcome.system.journal().to_vec(alloc);
+    let are_these = end_so(outcome.ends.as_slice(), ends);
+    drop(outcome);
+    assert!(rt; are_these);
+    journal.expect(rt, "enough memory")
+}
+
+/// The journal of a run over this device, if the turnstile lets everyone through and these are the ends.
+pub(crate) fn journal_of<D: Device + Send, R: Threads + Wait + Abort + Sync>(
+    rt: &R,
+    alloc: Global,
+    case: Case<'_>,
+    device: D,
+    ends: &[End],
+) -> Vec<Line> {
+    journal_in(rt, alloc, ran(rt, alloc, case, device), ends)
+}
+
+/// The journal of a run over a cell, through a turnstile, if these are the ends.
+pub(crate) fn journal_through<T: Turnstile, R: Threads + Wait + Abort + Sync>(
     rt: &R,
     alloc: Global,
     case: Case<'_>,
     turnstile: &T,
-) -> Outcome<System<Cell>> {
-    ran_over(rt, alloc, case, Cell::new(0), turnstile)
+    ends: &[End],
+) -> Vec<Line> {
+    let outcome = ran_over(rt, alloc, case, Cell::new(0), turnstile);
+    journal_in(rt, alloc, outcome, ends)
 }
 
 /// The outcome of a run over this device, through a turnstile.

@@ -1,9 +1,13 @@
 //! A turnstile that stops the first process before a step.
 
-use crate::tests::own::{Case, ROOM, SLOT, end_so, ran_through};
-use path_model::{OpId, Reply};
+use crate::tests::own::{Case, ROOM, SLOT, journal_through};
+use path_model::{Line, OpId, Reply};
 use path_run::{End, Turnstile};
+use std::alloc::Global;
+use std::process::Abort;
+use std::sync::Wait;
 use std::sync::atomic::{AtomicU64, Ordering};
+use std::thread::Threads;
 
 const ROUNDS: &[u8] = b"process p
 enter deposit\nuse put 7\nleave\nenter deposit\nuse put 7\nleave\nenter deposit\nuse put 7\nleave\nend
@@ -57,37 +61,53 @@ fn asked_below(counts: &[AtomicU64; 9], steps: usize) -> bool {
     true
 }
 
-/// Stopped before step k: how many deposits were finished, and how the other ends.
+/// How many lines are finishes of process 0.
+fn finished(journal: &[Line]) -> usize {
+    journal
+        .iter()
+        .filter(|line| line.worker == 0 && line.reply == Reply::Finished)
+        .count()
+}
+
+/// How many deposits are finished in a run through this turnstile, if these are the ends.
+fn deposits_through<R: Threads + Wait + Abort + Sync>(
+    rt: &R,
+    alloc: Global,
+    turnstile: &Stopping,
+    ends: &[End],
+) -> usize {
+    let case = Case {
+        declaration: SLOT,
+        room: ROOM,
+        script: ROUNDS,
+    };
+    let journal = journal_through(rt, alloc, case, turnstile, ends);
+    finished(&journal)
+}
+
+/// Checks a run in which process 0 is stopped before this step: how many deposits are finished, how the other process ends, and which
+/// steps the turnstile is asked for.
+fn stops_before<R: Threads + Wait + Abort + Sync>(rt: &R, alloc: Global, stop: u32) {
+    let deposits = stop.div_ceil(3);
+    let (other, asked) = if deposits == 3 {
+        (End::Done, 9)
+    } else {
+        (End::Stalled(OpId(1)), 3 * deposits as usize + 1)
+    };
+    let turnstile = Stopping {
+        stop,
+        first: zeros(),
+        second: zeros(),
+    };
+    let finished = deposits_through(rt, alloc, &turnstile, &[End::Stopped, other]);
+    assert_eq!(rt; finished, deposits as usize);
+    assert!(rt; asked_below(&turnstile.first, stop as usize + 1));
+    assert!(rt; asked_below(&turnstile.second, asked));
+}
+
 #[test]
 fn run_stops_before_each_step(rt: HostRuntime) {
-    let stalled = End::Stalled(OpId(1));
     for stop in 0..9 {
-        let deposits = (stop + 2) / 3;
-        let (other, asked) = if deposits == 3 {
-            (End::Done, 9)
-        } else {
-            (stalled, 3 * deposits as usize + 1)
-        };
-        let turnstile = Stopping {
-            stop,
-            first: zeros(),
-            second: zeros(),
-        };
-        let case = Case {
-            declaration: SLOT,
-            room: ROOM,
-            script: ROUNDS,
-        };
-        let outcome = ran_through(&rt, rt.alloc(), case, &turnstile);
-        assert!(&rt; end_so(outcome.ends.as_slice(), &[End::Stopped, other]));
-        assert!(&rt; asked_below(&turnstile.first, stop as usize + 1));
-        assert!(&rt; asked_below(&turnstile.second, asked));
-        let finished = outcome
-            .system
-            .journal()
-            .iter()
-            .filter(|line| line.worker == 0 && line.reply == Reply::Finished)
-            .count();
-        assert_eq!(&rt; finished, deposits as usize);
+        stops_before(&rt, rt.alloc(), stop);
     }
 }

@@ -1,6 +1,6 @@
 //! Processes that must run at once, and two that each hold what the other needs.
 
-use crate::tests::own::{BOOK, Case, ROOM, end_so, ran_through, started};
+use crate::tests::own::{BOOK, Case, ROOM, journal_through, started};
 use path_model::OpId;
 use path_run::{End, Turnstile};
 use std::sync::atomic::{AtomicU64, Ordering};
@@ -49,8 +49,9 @@ fn run_readers_together(rt: HostRuntime) {
         room: ROOM,
         script: text,
     };
-    let outcome = ran_through(&rt, rt.alloc(), case, &Meeting::new());
-    assert!(&rt; end_so(outcome.ends.as_slice(), &[End::Done, End::Done]));
+    let ends = [End::Done, End::Done];
+    let journal = journal_through(&rt, rt.alloc(), case, &Meeting::new(), &ends);
+    assert_eq!(&rt; started(&journal), 2);
 }
 
 #[test]
@@ -62,13 +63,8 @@ fn run_deadlock(rt: HostRuntime) {
         room: ROOM,
         script: text,
     };
-    let outcome = ran_through(&rt, rt.alloc(), case, &Meeting::new());
-    assert!(&rt;
-        end_so(
-            outcome.ends.as_slice(),
-            &[End::Stalled(OpId(1)), End::Stalled(OpId(0))]
-        )
-    );
-    assert_eq!(&rt; outcome.system.journal().len(), 4);
-    assert_eq!(&rt; started(outcome.system.journal()), 2);
+    let ends = [End::Stalled(OpId(1)), End::Stalled(OpId(0))];
+    let journal = journal_through(&rt, rt.alloc(), case, &Meeting::new(), &ends);
+    assert_eq!(&rt; journal.len(), 4);
+    assert_eq!(&rt; started(&journal), 2);
 }
