@@ -135,7 +135,7 @@ fn reach_in<A: Allocator + Copy>(
 /// The least room in which more than `right` lines are right, and as many as in the largest; `None` if there is none.
 ///
 /// It has a place for each of these lines and for each activation that is live behind them, and one more if the last line that wanted
-/// places is a blocked start, which wants two and takes one. The replay has gone on past the first wrong line, where one activation more
+/// places is a refused start, which wants two and takes one. The replay has gone on past the first wrong line, where one activation more
 /// or less may be live. So there are four rooms to try.
 fn least_room<A: Allocator + Copy>(
     alloc: A,
