@@ -17,7 +17,7 @@ use Rattle.path_streams.specs.Statuses.{open_status, text_status}
 use Rattle.path_streams.specs.Refusals.{IsUndeclared}
 use Rattle.path_trace.specs.Traces.{HasAttempts, own_states}
 use Rattle.path_trace.proofs.CallerLemmas.{own_room}
-use Rattle.path_picture.specs.Pictures.{IsUndrawn, IsUndrawnOf, IsUndrawnJournal}
+use Rattle.path_picture.specs.Pictures.{IsUndrawn, IsUndrawnOf, IsUndrawnJournal, IsUndrawnJournalOf}
 
 -- a faulty text of attempts
 pub refused_attempts : (d : Declaration) (room : ℕ) (text : List ℕ) (f : TextFault) → (f ≡ texts.TooLong → 134217728 < length text)
@@ -64,13 +64,18 @@ journal_undeclared declaration journal statuses.TextRefused is = absurd is
 journal_undeclared declaration journal statuses.Unsound is = absurd is
 
 -- a faulty text of a journal
-pub refused_journal : (declaration journal : List ℕ) (d : Declaration) (f : TextFault) → IsDeclarationText declaration d
-    → (f ≡ texts.TooLong → 134217728 < length journal) → (f ≢ texts.TooLong → f ≢ texts.OutOfMemory → IsNoJournalText d journal)
-    → IsUndrawnJournal declaration journal (text_status f)
-refused_journal declaration journal d texts.TooLong declares long none = (d, declares, inl (long refl))
-refused_journal declaration journal d (texts.BadLine n) declares long none = (d, declares, inr (none (λ e. cc) (λ e. cc)))
-refused_journal declaration journal d (texts.Undeclared n) declares long none = (d, declares, inr (none (λ e. cc) (λ e. cc)))
-refused_journal declaration journal d texts.OutOfMemory declares long none = tt
+pub refused_journal : (d : Declaration) (journal : List ℕ) (f : TextFault) → (f ≡ texts.TooLong → 134217728 < length journal)
+    → (f ≢ texts.TooLong → f ≢ texts.OutOfMemory → IsNoJournalText d journal) → IsUndrawnJournalOf d journal (text_status f)
+refused_journal d journal texts.TooLong long none = inl (long refl)
+refused_journal d journal (texts.BadLine n) long none = inr (none (λ e. cc) (λ e. cc))
+refused_journal d journal (texts.Undeclared n) long none = inr (none (λ e. cc) (λ e. cc))
+refused_journal d journal texts.OutOfMemory long none = tt
+
+pub journal_declared : (declaration journal : List ℕ) (d : Declaration) (s : Status) → IsDeclarationText declaration d
+    → IsUndrawnJournalOf d journal s → IsUndrawnJournal declaration journal s
+journal_declared declaration journal d statuses.TextRefused declares is = (d, declares, is)
+journal_declared declaration journal d statuses.NoMemory declares is = tt
+journal_declared declaration journal d s declares is = absurd is
 
 -- a room that a system has is no bad one
 pub good_room : (room : ℕ) → IsRoom room → IsBadRoom room → ⊥

@@ -34,6 +34,10 @@ IsUndrawn declaration room attempts statuses.CommandRefused = LacksRoomUnder dec
 IsUndrawn declaration room attempts statuses.NoMemory = Unit {0}
 IsUndrawn declaration room attempts status = ⊥
 
+-- the text is that of a journal
+abbrev pub IsJournalOf : Declaration → List ℕ → Type 0
+IsJournalOf d journal = (room : Option ℕ) × (lines : List Line) × IsJournalText d journal room lines
+
 -- the text is that of a journal, under the declaration in another text
 abbrev pub IsJournalUnder : List ℕ → List ℕ → Type 0
 IsJournalUnder declaration journal =
@@ -45,6 +49,12 @@ IsBadJournalUnder declaration journal =
     (d : Declaration) × IsDeclarationText declaration d × ((134217728 < length journal) ⊎ IsNoJournalText d journal)
 
 -- why a journal's text isn't drawn, by the status
+abbrev pub IsUndrawnJournalOf : Declaration → List ℕ → Status → Type 0
+IsUndrawnJournalOf d journal statuses.TextRefused = (134217728 < length journal) ⊎ IsNoJournalText d journal
+IsUndrawnJournalOf d journal statuses.NoMemory = Unit {0}
+IsUndrawnJournalOf d journal status = ⊥
+
+-- the same, under the declaration in another text
 abbrev pub IsUndrawnJournal : List ℕ → List ℕ → Status → Type 0
 IsUndrawnJournal declaration journal statuses.DeclarationRefused = IsNoDeclaration declaration
 IsUndrawnJournal declaration journal statuses.TextRefused = IsBadJournalUnder declaration journal

@@ -72,12 +72,8 @@ fn push_head<A: Allocator + Copy>(
 ) -> Result<(), OutOfMemory> {
     write!(
         out,
-        "width=\"{width}\" height=\"{height}\" viewBox=\"0 0 {width} {height}\" role=\"img\">\n"
-    )?;
-    out.push_str(STYLE)?;
-    write!(
-        out,
-        "<rect class=\"paper\" width=\"{width}\" height=\"{height}\"/>\n<text x=\"8\" y=\"18\">"
+        "width=\"{width}\" height=\"{height}\" viewBox=\"0 0 {width} {height}\" role=\"img\">\n\
+        {STYLE}<rect class=\"paper\" width=\"{width}\" height=\"{height}\"/>\n<text x=\"8\" y=\"18\">"
     )?;
     push_caption(out, shown, all)?;
     out.push_str("</text>\n")?;
@@ -88,10 +84,8 @@ fn push_head<A: Allocator + Copy>(
 fn push_legend<A: Allocator + Copy>(out: &mut String<A>, y: u64) -> Result<(), OutOfMemory> {
     write!(
         out,
-        "<text class=\"small\" x=\"8\" y=\"{y}\">bar: from start to finish, pale and dashed while live; "
-    )?;
-    out.push_str(
-        "tick: refused start, with the number of the path; dot: use; ring: refused use or finish</text>\n",
+        "<text class=\"small\" x=\"8\" y=\"{y}\">bar: from start to finish, pale and dashed while live; \
+        tick: refused start, with the number of the path; dot: use; ring: refused use or finish</text>\n"
     )?;
     Ok(())
 }
@@ -109,11 +103,8 @@ impl<A: Allocator + Copy> Figure<'_, A> {
                 let (x, number) = (across(at), (at as u64).saturating_add(1));
                 write!(
                     out,
-                    "<line class=\"grid\" x1=\"{x}\" x2=\"{x}\" y1=\"{TOP}\" y2=\"{bottom}\"/>"
-                )?;
-                write!(
-                    out,
-                    "<text class=\"small\" x=\"{x}\" y=\"40\">{number}</text>\n"
+                    "<line class=\"grid\" x1=\"{x}\" x2=\"{x}\" y1=\"{TOP}\" y2=\"{bottom}\"/>\
+                    <text class=\"small\" x=\"{x}\" y=\"40\">{number}</text>\n"
                 )?;
             }
         }
@@ -128,9 +119,9 @@ impl<A: Allocator + Copy> Figure<'_, A> {
             let y = top.saturating_add(18);
             write!(
                 out,
-                "<line class=\"rule\" x1=\"8\" x2=\"{right}\" y1=\"{top}\" y2=\"{top}\"/>"
+                "<line class=\"rule\" x1=\"8\" x2=\"{right}\" y1=\"{top}\" y2=\"{top}\"/>\
+                <text x=\"8\" y=\"{y}\">worker {worker}</text>\n"
             )?;
-            write!(out, "<text x=\"8\" y=\"{y}\">worker {worker}</text>\n")?;
         }
         Ok(())
     }
@@ -167,9 +158,9 @@ impl<A: Allocator + Copy> Figure<'_, A> {
         let (name, y) = (x.saturating_add(5), top.saturating_add(16));
         write!(
             out,
-            "<line class=\"tick\" x1=\"{x}\" x2=\"{x}\" y1=\"{from}\" y2=\"{to}\"/>"
+            "<line class=\"tick\" x1=\"{x}\" x2=\"{x}\" y1=\"{from}\" y2=\"{to}\"/>\
+            <text class=\"small\" x=\"{name}\" y=\"{y}\">"
         )?;
-        write!(out, "<text class=\"small\" x=\"{name}\" y=\"{y}\">")?;
         push_cause(out, reply)?;
         out.push_str("</text>")?;
         Ok(())
@@ -224,6 +215,24 @@ impl<A: Allocator + Copy> Figure<'_, A> {
         }
         Ok(())
     }
+
+    /// Appends all that stands between what each picture begins with and what each ends with: of a journal with so many lines in all,
+    /// and with its lanes down to this bottom.
+    fn push_all(
+        &self,
+        alloc: A,
+        out: &mut String<A>,
+        bottom: u64,
+        all: usize,
+    ) -> Result<(), OutOfMemory> {
+        let size = (self.right.max(LEFT + 20 * STEP), bottom.saturating_add(30));
+        push_head(out, size, self.lines.len(), all)?;
+        self.push_grid(out, bottom)?;
+        self.push_lanes(out)?;
+        self.push_bars(alloc, out)?;
+        self.push_marks(alloc, out)?;
+        push_legend(out, bottom.saturating_add(18))
+    }
 }
 
 /// A picture with this between what each begins with and what each ends with.
@@ -260,21 +269,14 @@ pub fn draw<A: Allocator + Copy>(
     let lines = shown_of(lines);
     let layout = Layout::of(alloc, lines)?;
     let (tops, bottom) = tops_of(alloc, &layout)?;
-    let right = across(lines.len());
     let figure = Figure {
         decl,
         lines,
         layout: &layout,
         tops: &tops,
-        right,
+        right: across(lines.len()),
     };
     let mut inside = String::new(alloc);
-    let size = (right.max(LEFT + 20 * STEP), bottom.saturating_add(30));
-    push_head(&mut inside, size, lines.len(), all)?;
-    figure.push_grid(&mut inside, bottom)?;
-    figure.push_lanes(&mut inside)?;
-    figure.push_bars(alloc, &mut inside)?;
-    figure.push_marks(alloc, &mut inside)?;
-    push_legend(&mut inside, bottom.saturating_add(18))?;
+    figure.push_all(alloc, &mut inside, bottom, all)?;
     framed(alloc, &inside)
 }

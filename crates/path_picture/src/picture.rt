@@ -10,7 +10,7 @@ ghost use Rattle.path_streams.specs.Statuses.{status_of};
 ghost use Rattle.path_streams.specs.Writes.{AppendsSome};
 ghost use Rattle.path_trace.specs.Traces.{own_states, HasAttempts, IsBadTextUnder, LacksRoomUnder};
 ghost use Rattle.path_picture.specs.Pictures.{HasAttemptsUnder, IsPicture, IsUndrawn, IsUndrawnOf};
-ghost use Rattle.path_picture.specs.Pictures.{IsBadJournalUnder, IsJournalUnder, IsUndrawnJournal};
+ghost use Rattle.path_picture.specs.Pictures.{IsBadJournalUnder, IsJournalOf, IsJournalUnder, IsUndrawnJournal, IsUndrawnJournalOf};
 
 use crate::figure::{LINES, draw};
 use path_decl::Decl;
@@ -95,8 +95,26 @@ fn picture<A: Allocator + Copy>(
     ensures opened { OnOk result (IsBadRoom room → ⊥) }
     ensures err { IfErr result (λ fault. IsUndrawn declaration.now room attempts.now (status_of fault)) }
 {
-    let (decl, devices) = read_own(alloc, declaration)?;
-    drawn(alloc, decl, devices, room, attempts)
+    match read_own(alloc, declaration) {
+        Ok((decl, devices)) => drawn(alloc, decl, devices, room, attempts),
+        Err(fault) => Err(fault),
+    }
+}
+
+/// The picture of a journal's text.
+fn journal_drawn<A: Allocator + Copy>(
+    alloc: A,
+    decl: &Decl<A>,
+    journal: &[u8],
+) -> Result<String<A>, Fault<'static>>
+    ensures ok { IfOk result (λ _. IsJournalOf decl.now.declaration journal.now) }
+    ensures picture { IfOk result (λ text. IsPicture (string_bytes text)) }
+    ensures err { IfErr result (λ fault. IsUndrawnJournalOf decl.now.declaration journal.now (status_of fault)) }
+{
+    match read_journal(alloc, decl, journal) {
+        Ok(found) => Ok(draw(alloc, decl, &found.lines, found.lines.len())?),
+        Err(fault) => Err(Fault::Text(fault)),
+    }
 }
 
 /// The picture of a journal's text under the declaration in another text.
@@ -109,13 +127,9 @@ fn journal_picture<A: Allocator + Copy>(
     ensures picture { IfOk result (λ text. IsPicture (string_bytes text)) }
     ensures err { IfErr result (λ fault. IsUndrawnJournal declaration.now journal.now (status_of fault)) }
 {
-    let decl = match read(alloc, declaration) {
-        Ok(decl) => decl,
-        Err(fault) => return Err(Fault::Declaration(fault)),
-    };
-    match read_journal(alloc, &decl, journal) {
-        Ok(found) => Ok(draw(alloc, &decl, &found.lines, found.lines.len())?),
-        Err(fault) => Err(Fault::Text(fault)),
+    match read(alloc, declaration) {
+        Ok(decl) => journal_drawn(alloc, &decl, journal),
+        Err(fault) => Err(Fault::Declaration(fault)),
     }
 }
 

@@ -41,18 +41,26 @@ pub fn down(row: usize) -> u64 {
     (row as u64).saturating_mul(ROW).saturating_add(STRIP)
 }
 
+/// The entity for a sign of XML; `None` for any other.
+fn entity(sign: char) -> Option<&'static str> {
+    match sign {
+        '&' => Some("&amp;"),
+        '<' => Some("&lt;"),
+        '>' => Some("&gt;"),
+        '"' => Some("&quot;"),
+        _ => None,
+    }
+}
+
 /// Appends a text in which the signs of XML are written as entities.
 pub fn push_escaped<A: Allocator + Copy>(
     out: &mut String<A>,
     text: &str,
 ) -> Result<(), OutOfMemory> {
     for sign in text.chars() {
-        match sign {
-            '&' => out.push_str("&amp;")?,
-            '<' => out.push_str("&lt;")?,
-            '>' => out.push_str("&gt;")?,
-            '"' => out.push_str("&quot;")?,
-            _ => out.push(sign)?,
+        match entity(sign) {
+            Some(entity) => out.push_str(entity)?,
+            None => out.push(sign)?,
         }
     }
     Ok(())
