@@ -121,7 +121,9 @@ pub fn audit_to<A: Allocator + Copy, O: Write, E: Write>(
         → AppendsSome (O.contents out.old) (O.contents out.new) (IsFrontOf (TellsVerdict decl.declaration room journal.now)) }
     ensures statuses { result ≢ Status.DeclarationRefused }
 {
-    match verdict_on(alloc, &decl, room, journal) {
+    let verdict = verdict_on(alloc, &decl, room, journal);
+    drop(decl);
+    match verdict {
         Ok(verdict) => tell_verdict(alloc, verdict, out, err),
         Err(fault) => tell(err, fault),
     }

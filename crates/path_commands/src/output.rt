@@ -50,7 +50,11 @@ fn read_output<A: Allocator + Copy>(
     ensures err { IfErr result (λ fault. IsUndeclared text.now (status_of fault)) }
 {
     match read(alloc, text) {
-        Ok(decl) => Ok(output_of(alloc, &decl, output)?),
+        Ok(decl) => {
+            let written = output_of(alloc, &decl, output);
+            drop(decl);
+            Ok(written?)
+        }
         Err(fault) => Err(Fault::Declaration(fault)),
     }
 }

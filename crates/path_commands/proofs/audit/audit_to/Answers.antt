@@ -31,22 +31,22 @@ returns-in-Ok-clause-memory g c = λ e. tells_front _ _ c.args.decl.declaration 
 pub returns-in-Ok-clause-statuses : goal.returns-in-Ok-clause-statuses
 returns-in-Ok-clause-statuses g c = λ e. ends_verdict c.in-Ok.verdict _ DeclarationRefused c.tell_verdict.ensures.statuses e
 
-pub returns-clause-done : goal.returns-clause-done
-returns-clause-done g c = λ e. absurd (told (IsUnaudited c.args.decl.declaration c.args.room c.args.journal.now) (status_of c.in-Err.fault) _ Done c.in-Err.ensures.err c.tell.ensures (λ h. cc) e)
+pub returns-in-Err-clause-done : goal.returns-in-Err-clause-done
+returns-in-Err-clause-done g c = λ e. absurd (told (IsUnaudited c.args.decl.declaration c.args.room c.args.journal.now) (status_of c.in-Err.fault) _ Done c.in-Err.ensures.err c.tell.ensures (λ h. cc) e)
 
-pub returns-clause-unsound : goal.returns-clause-unsound
-returns-clause-unsound g c = λ e. absurd (told (IsUnaudited c.args.decl.declaration c.args.room c.args.journal.now) (status_of c.in-Err.fault) _ Unsound c.in-Err.ensures.err c.tell.ensures (λ h. cc) e)
+pub returns-in-Err-clause-unsound : goal.returns-in-Err-clause-unsound
+returns-in-Err-clause-unsound g c = λ e. absurd (told (IsUnaudited c.args.decl.declaration c.args.room c.args.journal.now) (status_of c.in-Err.fault) _ Unsound c.in-Err.ensures.err c.tell.ensures (λ h. cc) e)
 
-pub returns-clause-only_wrong : goal.returns-clause-only_wrong
-returns-clause-only_wrong g c = λ is e. told (IsUnaudited c.args.decl.declaration c.args.room c.args.journal.now) (status_of c.in-Err.fault) _ Unsound c.in-Err.ensures.err c.tell.ensures (λ h. cc) e
+pub returns-in-Err-clause-only_wrong : goal.returns-in-Err-clause-only_wrong
+returns-in-Err-clause-only_wrong g c = λ is e. told (IsUnaudited c.args.decl.declaration c.args.room c.args.journal.now) (status_of c.in-Err.fault) _ Unsound c.in-Err.ensures.err c.tell.ensures (λ h. cc) e
 
-pub returns-clause-only_sound : goal.returns-clause-only_sound
-returns-clause-only_sound g c = λ n is e. told (IsUnaudited c.args.decl.declaration c.args.room c.args.journal.now) (status_of c.in-Err.fault) _ Done c.in-Err.ensures.err c.tell.ensures (λ h. cc) e
+pub returns-in-Err-clause-only_sound : goal.returns-in-Err-clause-only_sound
+returns-in-Err-clause-only_sound g c = λ n is e. told (IsUnaudited c.args.decl.declaration c.args.room c.args.journal.now) (status_of c.in-Err.fault) _ Done c.in-Err.ensures.err c.tell.ensures (λ h. cc) e
 
-pub returns-clause-refused : goal.returns-clause-refused
-returns-clause-refused g c = λ e.
+pub returns-in-Err-clause-refused : goal.returns-in-Err-clause-refused
+returns-in-Err-clause-refused g c = λ e.
     (keeps_same (g.O.Write.contents c.args.out.now), told (IsUnaudited c.args.decl.declaration c.args.room c.args.journal.now) (status_of c.in-Err.fault) _ TextRefused c.in-Err.ensures.err c.tell.ensures (λ h. cc) e)
 
-pub returns-clause-bad_room : goal.returns-clause-bad_room
-returns-clause-bad_room g c = λ e.
+pub returns-in-Err-clause-bad_room : goal.returns-in-Err-clause-bad_room
+returns-in-Err-clause-bad_room g c = λ e.
     (keeps_same (g.O.Write.contents c.args.out.now), told (IsUnaudited c.args.decl.declaration c.args.room c.args.journal.now) (status_of c.in-Err.fault) _ CommandRefused c.in-Err.ensures.err c.tell.ensures (λ h. cc) e)
