@@ -1,5 +1,6 @@
 -- The receipts of one more pass.
-use Rattle.std.proofs.Common.{◌≡◌, ◌+◌, ◌∙◌, length, take, ap, sym, refl, arith}
+use Rattle.std.proofs.Common.{◌≡◌, ◌+◌, ◌∙◌, length, min, take, ap, sym, refl, arith}
+use Rattle.std.proofs.lemmas.List.{take_all}
 use Rattle.std.proofs.lemmas.List.Sums.{sum_by_more}
 use Rattle.path_workers.specs.Settled.{receipts_of}
 use Rattle.path_workers.proofs.settle.receipt_count.Goals as goal
@@ -29,3 +30,7 @@ loop-pass-preserved g c =
     let more : receipts_of (take (i + 1) passes) ≡ receipts_of (take i passes) + length c.pass-item.result.receipts =
     sum_by_more (λ h. length h.receipts) passes i c.pass-item.result (omega arith) ∙ ap (λ h. receipts_of (take i passes) + length h.receipts) (sym c.pass-item.is) in
     omega (arith, more, ap length c.receipts.ensures)
+
+pub returns : goal.returns
+returns g c =
+    c.loop-pass.invariant ∙ ap (λ passes. min 18446744073709551615 (receipts_of passes)) (take_all c.loop-pass.pass-index c.args.passes.now (omega arith))
