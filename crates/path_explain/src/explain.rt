@@ -175,12 +175,14 @@ fn read_in_words<A: Allocator + Copy>(
 ) -> Result<String<A>, Fault<'static>>
     ensures { IfErr result (λ fault. IsUndeclared declaration.now (status_of fault)) }
 {
-    let decl = match read(alloc, declaration) {
-        Ok(decl) => decl,
-        Err(fault) => return Err(Fault::Declaration(fault)),
-    };
-    let text = declaration_in_words(alloc, &decl)?;
-    Ok(text)
+    match read(alloc, declaration) {
+        Ok(decl) => {
+            let text = declaration_in_words(alloc, &decl);
+            drop(decl);
+            Ok(text?)
+        }
+        Err(fault) => Err(Fault::Declaration(fault)),
+    }
 }
 
 /// Reads a declaration, and writes a line for each path, with its number, its resource and its text, and a line for each operation, with
