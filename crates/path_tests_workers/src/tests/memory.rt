@@ -61,6 +61,18 @@ fn rounds<L: Opening, A: Allocator + Copy, R: Wait + Abort>(
     }
 }
 
+// How many lines a desk has when it is settled with these passes.
+fn settled_lines<L: Opening, A: Allocator + Copy>(
+    rt: &impl Abort,
+    desk: Desk<L, System<Cell>>,
+    passes: Vec<Pass<L, A>, A>,
+) -> usize {
+    match desk.settle(passes) {
+        Ok(settled) => settled.system.journal().len(),
+        Err((fault, _system)) => panic!(rt; "{fault:?}"),
+    }
+}
+
 const ROUNDS: u32 = 8;
 
 // How many lines a desk has when it is settled with its only pass, which allocates from `alloc`.
@@ -79,10 +91,7 @@ fn lines<L: Opening, A: Allocator + Copy, R: Wait + Abort>(
     let mut pass = desk.pass(alloc, 1);
     rounds(rt, &desk, &mut pass, ROUNDS);
     passes.push(pass)?;
-    match desk.settle(passes) {
-        Ok(settled) => Ok(settled.system.journal().len()),
-        Err((fault, _system)) => panic!(rt; "{fault:?}"),
-    }
+    Ok(settled_lines(rt, desk, passes))
 }
 
 // Whether the request of this number was made, and so refused.

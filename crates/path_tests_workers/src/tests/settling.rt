@@ -3,7 +3,7 @@
 ghost use Rattle.std.specs.Prelude.{◌≡◌};
 
 use crate::tests::own::{FIRST, ROOM, Row, SECOND, SLOT, makes, makes_all, open_system};
-use path_model::{ActId, Attempt, OutOfMemory, PathId, Reply, Verb};
+use path_model::{ActId, Attempt, PathId, Reply, Verb};
 use path_shelf::Cell;
 use path_system::System;
 use path_workers::{Desk, Opening, Pass, Receipt, SettleFault, Steps};
@@ -53,25 +53,28 @@ enum Given {
 /// How many lines the journal has, and how many receipts each pass has; or why the desk isn't settled.
 type Outcome = Result<(usize, usize, usize), SettleFault>;
 
+// These passes, in order.
+fn row_of<L: Ledger, const N: usize>(
+    rt: &impl Abort,
+    alloc: Global,
+    passes: [Pass<L>; N],
+) -> Vec<Pass<L>> {
+    Vec::from_array(alloc, passes).expect(rt, "memory is ample")
+}
+
+// The passes that are given, in order.
 fn chosen<L: Ledger>(
+    rt: &impl Abort,
     alloc: Global,
     one: Pass<L>,
     two: Pass<L>,
     given: Given,
-) -> Result<Vec<Pass<L>>, OutOfMemory> {
-    let mut passes = Vec::with_capacity(alloc, 2)?;
+) -> Vec<Pass<L>> {
     match given {
-        Given::Both => {
-            passes.push(one)?;
-            passes.push(two)?;
-        }
-        Given::Turned => {
-            passes.push(two)?;
-            passes.push(one)?;
-        }
-        Given::FirstAlone => passes.push(one)?,
+        Given::Both => row_of(rt, alloc, [one, two]),
+        Given::Turned => row_of(rt, alloc, [two, one]),
+        Given::FirstAlone => row_of(rt, alloc, [one]),
     }
-    Ok(passes)
 }
 
 fn receipts<L: Ledger>(pass: Option<&Pass<L>>) -> usize {
@@ -93,6 +96,12 @@ fn outcome<L: Opening, M: Ledger, S: Steps>(desk: Desk<L, S>, passes: Vec<Pass<M
     }
 }
 
+// Checks that the pass is worker 2's and has the receipts of the removal.
+fn has_removed<L: Ledger>(rt: &impl Abort, pass: &Pass<L>) {
+    assert!(rt; pass.worker() == 2);
+    assert!(rt; pass.receipts() == REMOVED.as_slice());
+}
+
 // A deposit by worker 1 and its removal by worker 2, settled with the passes that are given.
 fn exchanged<L: Opening, R: Wait + Abort>(
     rt: &R,
@@ -100,7 +109,7 @@ fn exchanged<L: Opening, R: Wait + Abort>(
     system: System<Cell>,
     blank: Blank,
     given: Given,
-) -> Result<Outcome, OutOfMemory>
+) -> Outcome
     requires name { blank.name ≡ L.name }
     requires parts { (blank.parts ≡ L.parts) × (blank.parts ≡ 18446744073709551615) }
     requires opened { system ≡ L.opened }
@@ -110,16 +119,11 @@ fn exchanged<L: Opening, R: Wait + Abort>(
     let mut two = desk.pass(alloc, 2);
     makes_all(rt, &desk, &mut one, DEPOSIT);
     makes_all(rt, &desk, &mut two, REMOVE);
-    assert!(rt; two.worker() == 2 && two.receipts() == REMOVED.as_slice());
-    let passes = chosen(alloc, one, two, given)?;
-    Ok(outcome(desk, passes))
+    has_removed(rt, &two);
+    outcome(desk, chosen(rt, alloc, one, two, given))
 }
 
-fn slot_settled<R: Wait + Abort>(
-    rt: &R,
-    alloc: Global,
-    given: Given,
-) -> Result<Outcome, OutOfMemory> {
+fn slot_settled<R: Wait + Abort>(rt: &R, alloc: Global, given: Given) -> Outcome {
     let system = open_system(rt, alloc, SLOT, ROOM, Cell::new(0));
     exchanged::<Brand, R>(rt, alloc, system, Blank::new(u64::MAX), given)
 }
@@ -128,13 +132,13 @@ fn slot_settled<R: Wait + Abort>(
 #[test]
 fn settle(rt: HostRuntime) {
     let outcome = slot_settled(&rt, rt.alloc(), Given::Both);
-    assert!(rt; outcome == Ok(Ok((5, 3, 2))));
+    assert!(rt; outcome == Ok((5, 3, 2)));
 }
 
 #[test]
 fn passes_in_any_order(rt: HostRuntime) {
     let outcome = slot_settled(&rt, rt.alloc(), Given::Turned);
-    assert!(rt; outcome == Ok(Ok((5, 2, 3))));
+    assert!(rt; outcome == Ok((5, 2, 3)));
 }
 
 #[test]
@@ -144,7 +148,7 @@ fn missing_pass(rt: HostRuntime) {
         lines: 5,
         receipts: 3,
     };
-    assert!(rt; outcome == Ok(Err(fault)));
+    assert!(rt; outcome == Err(fault));
 }
 
 // How settling a desk ends with the pass of a desk over another system.
@@ -155,7 +159,7 @@ fn crossed<L: Opening, M: Opening, R: Wait + Abort>(
     blank_here: Blank,
     there: System<Cell>,
     blank_there: Blank,
-) -> Result<Outcome, OutOfMemory>
+) -> Outcome
     requires name { (blank_here.name ≡ L.name) × (blank_there.name ≡ M.name) }
     requires parts { (blank_here.parts ≡ L.parts) × (blank_here.parts ≡ 18446744073709551615) }
     requires parts_there { (blank_there.parts ≡ M.parts) × (blank_there.parts ≡ 18446744073709551615) }
@@ -177,12 +181,10 @@ fn crossed<L: Opening, M: Opening, R: Wait + Abort>(
         &mut foreign,
         (SECOND, Some(0), Reply::Blocked(PathId(0))),
     );
-    let mut passes = Vec::new(alloc);
-    passes.push(foreign)?;
-    Ok(outcome(desk, passes))
+    outcome(desk, row_of(rt, alloc, [foreign]))
 }
 
-fn slots_crossed<R: Wait + Abort>(rt: &R, alloc: Global) -> Result<Outcome, OutOfMemory> {
+fn slots_crossed<R: Wait + Abort>(rt: &R, alloc: Global) -> Outcome {
     let here = open_system(rt, alloc, SLOT, ROOM, Cell::new(0));
     let there = open_system(rt, alloc, SLOT, ROOM, Cell::new(0));
     let blank_here = Blank::new(u64::MAX);
@@ -193,7 +195,7 @@ fn slots_crossed<R: Wait + Abort>(rt: &R, alloc: Global) -> Result<Outcome, OutO
 #[test]
 fn foreign_pass(rt: HostRuntime) {
     let outcome = slots_crossed(&rt, rt.alloc());
-    assert!(rt; outcome == Ok(Err(SettleFault::Mismatch { place: 0 })));
+    assert!(rt; outcome == Err(SettleFault::Mismatch { place: 0 }));
 }
 
 // A desk with one pass, which makes the attempts of these rows.
@@ -203,7 +205,7 @@ fn alone<L: Opening, R: Wait + Abort>(
     system: System<Cell>,
     blank: Blank,
     rows: &[Row],
-) -> Result<Outcome, OutOfMemory>
+) -> Outcome
     requires name { blank.name ≡ L.name }
     requires parts { (blank.parts ≡ L.parts) × (blank.parts ≡ 18446744073709551615) }
     requires opened { system ≡ L.opened }
@@ -211,9 +213,7 @@ fn alone<L: Opening, R: Wait + Abort>(
     let desk = Desk::<L, System<Cell>>::open(system, blank);
     let mut pass = desk.pass(alloc, 1);
     makes_all(rt, &desk, &mut pass, rows);
-    let mut passes = Vec::new(alloc);
-    passes.push(pass)?;
-    Ok(outcome(desk, passes))
+    outcome(desk, row_of(rt, alloc, [pass]))
 }
 
 const ROOM_OF_TWO: &[Row] = &[
@@ -222,7 +222,7 @@ const ROOM_OF_TWO: &[Row] = &[
     (Attempt::Finish(ActId(0)), Some(1), Reply::Finished),
 ];
 
-fn room_of_two<R: Wait + Abort>(rt: &R, alloc: Global) -> Result<Outcome, OutOfMemory> {
+fn room_of_two<R: Wait + Abort>(rt: &R, alloc: Global) -> Outcome {
     let system = open_system(rt, alloc, SLOT, 2, Cell::new(0));
     alone::<Brand, R>(rt, alloc, system, Blank::new(u64::MAX), ROOM_OF_TWO)
 }
@@ -230,11 +230,11 @@ fn room_of_two<R: Wait + Abort>(rt: &R, alloc: Global) -> Result<Outcome, OutOfM
 #[test]
 fn receipts_and_room(rt: HostRuntime) {
     let outcome = room_of_two(&rt, rt.alloc());
-    assert!(rt; outcome == Ok(Ok((2, 2, 0))));
+    assert!(rt; outcome == Ok((2, 2, 0)));
 }
 
 // The desk is opened once a deposit is in the journal already.
-fn deposited_before<R: Wait + Abort>(rt: &R, alloc: Global) -> Result<Outcome, OutOfMemory> {
+fn deposited_before<R: Wait + Abort>(rt: &R, alloc: Global) -> Outcome {
     let mut system = open_system(rt, alloc, SLOT, ROOM, Cell::new(0));
     for (attempt, _place, reply) in DEPOSIT {
         assert!(rt; system.step(1, *attempt) == *reply);
@@ -245,7 +245,7 @@ fn deposited_before<R: Wait + Abort>(rt: &R, alloc: Global) -> Result<Outcome, O
 #[test]
 fn lines_before_the_desk(rt: HostRuntime) {
     let outcome = deposited_before(&rt, rt.alloc());
-    assert!(rt; outcome == Ok(Ok((5, 2, 0))));
+    assert!(rt; outcome == Ok((5, 2, 0)));
 }
 
 fn check_spelling<R: Abort>(rt: &R, alloc: Global, fault: SettleFault, text: &str) {

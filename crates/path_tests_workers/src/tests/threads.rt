@@ -3,7 +3,7 @@
 ghost use Rattle.std.specs.Prelude.{◌≡◌};
 
 use crate::tests::own::{FIRST, ROOM, SECOND, open_system};
-use path_model::{Attempt, OpId, OutOfMemory, Reply, Verb};
+use path_model::{Attempt, OpId, Reply, Verb};
 use path_shelf::{Cell, Device, Queue};
 use path_system::System;
 use path_workers::{Desk, Opening, Pass, Steps};
@@ -67,15 +67,16 @@ fn works<L: Opening, S: Steps, R: Wait + Abort>(
 
 // A pass for each worker.
 fn passes_of<L: Opening, S: Steps>(
+    rt: &impl Abort,
     alloc: Global,
     desk: &Desk<L, S>,
     workers: u32,
-) -> Result<Vec<Pass<L>>, OutOfMemory> {
+) -> Vec<Pass<L>> {
     let mut passes = Vec::new(alloc);
     for worker in 0..workers {
-        passes.push(desk.pass(alloc, worker))?;
+        assert!(rt; passes.push(desk.pass(alloc, worker)).is_ok());
     }
-    Ok(passes)
+    passes
 }
 
 // Each worker in a thread of its own.
@@ -84,8 +85,9 @@ fn all_work<L: Opening + Send + Sync, S: Steps + Send, R: Threads + Wait + Abort
     desk: &Desk<L, S>,
     passes: Vec<Pass<L>>,
     plan: Plan<'_>,
-) -> Result<Vec<Pass<L>>, OutOfMemory> {
-    Ok(thread::map_vec(rt, passes, &|pass| works(rt, desk, pass, plan))?)
+) -> Vec<Pass<L>> {
+    let passes = thread::map_vec(rt, passes, &|pass| works(rt, desk, pass, plan));
+    passes.expect(rt, "memory is ample")
 }
 
 // The system, settled after all have worked.
@@ -95,16 +97,16 @@ fn settled<L: Opening + Send + Sync, S: Steps + Send, R: Threads + Wait + Abort 
     system: S,
     blank: Blank,
     plan: Plan<'_>,
-) -> Result<S, OutOfMemory>
+) -> S
     requires name { blank.name ≡ L.name }
     requires parts { (blank.parts ≡ L.parts) × (blank.parts ≡ 18446744073709551615) }
     requires opened { S.account system ≡ L.opened }
 {
     let desk = Desk::<L, S>::open(system, blank);
-    let passes = passes_of(alloc, &desk, plan.workers)?;
-    let passes = all_work(rt, &desk, passes, plan)?;
+    let passes = passes_of(rt, alloc, &desk, plan.workers);
+    let passes = all_work(rt, &desk, passes, plan);
     match desk.settle(passes) {
-        Ok(settled) => Ok(settled.system),
+        Ok(settled) => settled.system,
         Err((fault, _system)) => panic!(rt; "{fault:?}"),
     }
 }
@@ -115,7 +117,7 @@ fn worked<D: Device + Send, A: Allocator + Copy + Send + Sync, R: Threads + Wait
     alloc: Global,
     system: System<D, A>,
     plan: Plan<'_>,
-) -> Result<System<D, A>, OutOfMemory> {
+) -> System<D, A> {
     settled::<Brand, System<D, A>, R>(rt, alloc, system, Blank::new(u64::MAX), plan)
 }
 
@@ -126,11 +128,10 @@ fn lines_of<D: Device + Send, R: Threads + Wait + Abort + Sync>(
     text: &[u8],
     device: D,
     plan: Plan<'_>,
-) -> Result<usize, OutOfMemory> {
+) -> usize {
     let system = open_system(rt, alloc, text, ROOM, device);
-    let system = worked::<D, Global, R>(rt, alloc, system, plan)?;
-    match system.close() {
-        Ok(journal) => Ok(journal.len()),
+    match worked::<D, Global, R>(rt, alloc, system, plan).close() {
+        Ok(journal) => journal.len(),
         Err(_) => panic!(rt; "something is live"),
     }
 }
@@ -146,7 +147,7 @@ const TWO_READERS: Plan<'static> = Plan {
 #[test]
 fn two_readers(rt: HostRuntime) {
     let lines = lines_of(&rt, rt.alloc(), BOOK, Cell::new(0), TWO_READERS);
-    assert!(rt; lines == Ok(400));
+    assert!(rt; lines == 400);
 }
 
 #[test]
@@ -156,7 +157,7 @@ fn two_readers_of_a_box(rt: HostRuntime) {
         "memory is ample",
     );
     let lines = lines_of(&rt, rt.alloc(), BOOK, device, TWO_READERS);
-    assert!(rt; lines == Ok(400));
+    assert!(rt; lines == 400);
 }
 
 const POOL: &[u8] = b"resource r cell operation read, write path { read : 2 } , write end end";
@@ -173,7 +174,7 @@ const POOLED: Plan<'static> = Plan {
 #[test]
 fn eight_workers_of_a_pool(rt: HostRuntime) {
     let lines = lines_of(&rt, rt.alloc(), POOL, Cell::new(0), POOLED);
-    assert!(rt; lines.is_ok_and(|lines| 800 <= lines && lines <= 3200));
+    assert!(rt; 800 <= lines && lines <= 3200);
 }
 
 const BUFFER: &[u8] = b"resource buf queue 2 operation put0, put1, get0, get1
@@ -194,5 +195,5 @@ const BUFFERED: Plan<'static> = Plan {
 fn eight_workers_of_a_bounded_buffer(rt: HostRuntime) {
     let queue = Queue::new(rt.alloc(), 2).expect(&rt, "memory is ample");
     let lines = lines_of(&rt, rt.alloc(), BUFFER, queue, BUFFERED);
-    assert!(rt; lines.is_ok_and(|lines| 800 <= lines && lines <= 2400));
+    assert!(rt; 800 <= lines && lines <= 2400);
 }
