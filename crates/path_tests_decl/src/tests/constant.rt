@@ -62,12 +62,17 @@ fn operations_of<A: Allocator + Copy>(
     Ok(operations)
 }
 
+// Checks that a declaration was read, and that it has so many operations.
+fn expect_operations(rt: &impl Abort, opened: Result<Decl, OutOfMemory>, want: u32) {
+    assert_eq!(rt; operations_of(opened), Ok(want));
+}
+
 #[test]
 fn constants_are_read(rt: HostRuntime) {
-    assert_eq!(rt; operations_of(open_pool(rt.alloc())), Ok(2));
-    assert_eq!(rt; operations_of(open_trees(rt.alloc())), Ok(2));
-    assert_eq!(rt; operations_of(open_slot(rt.alloc())), Ok(2));
-    assert_eq!(rt; operations_of(open_shop(rt.alloc())), Ok(5));
+    expect_operations(&rt, open_pool(rt.alloc()), 2);
+    expect_operations(&rt, open_trees(rt.alloc()), 2);
+    expect_operations(&rt, open_slot(rt.alloc()), 2);
+    expect_operations(&rt, open_shop(rt.alloc()), 5);
 }
 
 // Refuses each request of reading a constant in turn.

@@ -112,7 +112,7 @@ pub(crate) fn draws(rt: &impl Abort, heap: Global, text: &str, rows: &[(u32, &st
 }
 
 // The declaration of a well-formed text.
-fn declared(rt: &impl Abort, heap: Global, text: &str) -> Decl {
+pub(crate) fn declared(rt: &impl Abort, heap: Global, text: &str) -> Decl {
     match read(heap, text.as_bytes()) {
         Ok(decl) => decl,
         Err(fault) => panic!(rt; "{fault:?} in {text:?}"),
@@ -230,9 +230,13 @@ fn counted<A: Allocator + Copy>(alloc: A, text: &str) -> Result<(u32, u32, u32),
 
 const TOTALS: &[(&str, (u32, u32, u32))] = &[(SLOT, (1, 2, 1)), (SEVERAL, (2, 5, 4))];
 
+fn expect_total(rt: &impl Abort, heap: Global, text: &str, want: (u32, u32, u32)) {
+    assert_eq!(rt; counted(heap, text), Ok(want));
+}
+
 fn expect_totals(rt: &impl Abort, heap: Global, rows: &[(&str, (u32, u32, u32))]) {
     for (text, want) in rows {
-        assert_eq!(rt; counted(heap, text), Ok(*want));
+        expect_total(rt, heap, text, *want);
     }
 }
 

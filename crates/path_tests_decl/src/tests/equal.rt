@@ -1,9 +1,8 @@
 //! Equal declarations, and equal trees.
 
-use path_decl::{is_same_declaration, is_same_tree, tree_of};
-use path_lex::DeclFault;
+use crate::tests::decl::declared;
+use path_decl::{Decl, is_same_declaration, is_same_tree, tree_of};
 use path_model::PathId;
-use path_read::read;
 use std::alloc::Global;
 use std::process::Abort;
 
@@ -69,26 +68,29 @@ const PAIRS: &[(&str, &str, bool, bool)] = &[
     ),
 ];
 
-// Whether the declarations of the texts are equal, and whether the trees of their first paths are.
-fn compared(heap: Global, one: &str, other: &str) -> Result<(bool, bool), DeclFault> {
-    let one = read(heap, one.as_bytes())?;
-    let other = read(heap, other.as_bytes())?;
-    let whole = is_same_declaration(&one, &other);
-    let first = match (tree_of(&one, PathId(0)), tree_of(&other, PathId(0))) {
+// Whether both declarations have a first path, and the trees of these are equal.
+fn has_same_first_tree(one: &Decl, other: &Decl) -> bool {
+    match (tree_of(one, PathId(0)), tree_of(other, PathId(0))) {
         (Some(left), Some(right)) => is_same_tree(left, right),
         _ => false,
-    };
+    }
+}
+
+// Whether the declarations of the texts are equal, and whether the trees of their first paths are.
+fn compared(rt: &impl Abort, heap: Global, one: &str, other: &str) -> (bool, bool) {
+    let one = declared(rt, heap, one);
+    let other = declared(rt, heap, other);
+    let whole = is_same_declaration(&one, &other);
+    let first = has_same_first_tree(&one, &other);
     drop(one);
     drop(other);
-    Ok((whole, first))
+    (whole, first)
 }
 
 fn expect_pairs(rt: &impl Abort, heap: Global, rows: &[(&str, &str, bool, bool)]) {
     for (one, other, whole, first) in rows {
-        assert!(rt;
-            compared(heap, one, other) == Ok((*whole, *first)),
-            "at {other:?}"
-        );
+        let are_as_told = compared(rt, heap, one, other) == (*whole, *first);
+        assert!(rt; are_as_told, "at {other:?}");
     }
 }
 

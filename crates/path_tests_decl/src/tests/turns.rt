@@ -34,15 +34,20 @@ fn found_of_none(heap: Global) -> Result<(), u64> {
     refuse_in_turn(heap, OutOfMemory, |_refusing: &Refusing<Global>| Ok(true))
 }
 
+// Checks what was found.
+fn expect_found(rt: &impl Abort, found: Result<(), u64>, want: Result<(), u64>) {
+    assert_eq!(rt; found, want);
+}
+
 #[test]
 fn a_call_that_answers_as_it_must(rt: HostRuntime) {
-    assert_eq!(rt; found(rt.alloc(), true), Ok(()));
-    assert_eq!(rt; found_of_refusal(rt.alloc(), 6), Ok(()));
+    expect_found(&rt, found(rt.alloc(), true), Ok(()));
+    expect_found(&rt, found_of_refusal(rt.alloc(), 6), Ok(()));
 }
 
 #[test]
 fn calls_that_answer_otherwise(rt: HostRuntime) {
-    assert_eq!(rt; found(rt.alloc(), false), Err(2));
-    assert_eq!(rt; found_of_refusal(rt.alloc(), 5), Err(1));
-    assert_eq!(rt; found_of_none(rt.alloc()), Err(1));
+    expect_found(&rt, found(rt.alloc(), false), Err(2));
+    expect_found(&rt, found_of_refusal(rt.alloc(), 5), Err(1));
+    expect_found(&rt, found_of_none(rt.alloc()), Err(1));
 }
