@@ -174,12 +174,13 @@ fn room<'a>(alloc: Global, help: &'a str) -> Arg<'a> {
         .help(help)
 }
 
-/// The file of a journal, in place of attempts.
-fn journal<'a>(alloc: Global) -> Arg<'a> {
+/// The file of a journal, in place of attempts. Fails only if allocation fails.
+fn journal<'a>(alloc: Global) -> Result<Arg<'a>, AllocError> {
     Arg::new(alloc, "journal")
         .long("journal")
         .value_name("JOURNAL")
         .help("the file of a journal, in place of attempts")
+        .conflicts_with("ATTEMPTS")
 }
 
 /// The flag that asks for a report.
@@ -224,6 +225,7 @@ fn trace<'a>(alloc: Global) -> Result<Command<'a>, AllocError> {
 
 /// The command that explains.
 fn explain<'a>(alloc: Global) -> Result<Command<'a>, AllocError> {
+    let journal = journal(alloc)?;
     let attempts = Arg::new(alloc, "ATTEMPTS").help(
         "the file of the attempts; without it and a journal, the paths that each operation obeys are written",
     );
@@ -234,7 +236,7 @@ fn explain<'a>(alloc: Global) -> Result<Command<'a>, AllocError> {
         .after_help(EXPLAIN_HELP)
         .arg(file(alloc, "DECL", "the file of the declaration"))?
         .arg(attempts)?
-        .arg(journal(alloc).conflicts_with("ATTEMPTS")?)?
+        .arg(journal)?
         .arg(room(
             alloc,
             "how many lines the journal has room for, 1 to 1048576, unless its text says so",
@@ -255,13 +257,16 @@ fn follow<'a>(alloc: Global) -> Result<Command<'a>, AllocError> {
 
 /// The command that draws a picture.
 fn picture<'a>(alloc: Global) -> Result<Command<'a>, AllocError> {
-    let attempts = Arg::new(alloc, "ATTEMPTS").help("the file of the attempts");
+    let journal = journal(alloc)?;
+    let attempts = Arg::new(alloc, "ATTEMPTS")
+        .help("the file of the attempts")
+        .required_unless_present("journal")?;
     Command::new(alloc, "picture")
         .about("Draws attempts with their replies, or a journal, as an SVG: who ran when")
         .after_help(PICTURE_HELP)
         .arg(file(alloc, "DECL", "the file of the declaration"))?
-        .arg(attempts.required_unless_present("journal")?)?
-        .arg(journal(alloc).conflicts_with("ATTEMPTS")?)?
+        .arg(attempts)?
+        .arg(journal)?
         .arg(room(
             alloc,
             "how many lines the journal of the attempts has room for, 1 to 1048576",
@@ -299,20 +304,18 @@ fn run<'a>(alloc: Global) -> Result<Command<'a>, AllocError> {
         ))
 }
 
-/// The program with one more command. Fails if that one couldn't be made.
+/// The program with one more command. Fails if either couldn't be made.
 fn with<'a>(
-    program: Command<'a>,
+    program: Result<Command<'a>, AllocError>,
     command: Result<Command<'a>, AllocError>,
 ) -> Result<Command<'a>, AllocError> {
-    match command {
-        Ok(command) => program.subcommand(command),
-        Err(error) => Err(error),
-    }
+    let command = command?;
+    program?.subcommand(command)
 }
 
-/// The command line of the program. Fails only if allocation fails.
-pub fn command<'a>(alloc: Global) -> Result<Command<'a>, AllocError> {
-    let program = Command::new(alloc, "pathsys")
+/// The program's options without a command, for attempts from standard input.
+fn program<'a>(alloc: Global) -> Result<Command<'a>, AllocError> {
+    Command::new(alloc, "pathsys")
         .version("0.1.0")
         .about("Enforces path expressions")
         .after_help(MORE_HELP)
@@ -321,13 +324,17 @@ pub fn command<'a>(alloc: Global) -> Result<Command<'a>, AllocError> {
             alloc,
             "how many lines the journal has room for, 1 to 1048576",
         ))?
-        .arg(report(alloc))?;
-    let program = with(program, check(alloc))?;
-    let program = with(program, compile(alloc))?;
-    let program = with(program, trace(alloc))?;
-    let program = with(program, explain(alloc))?;
-    let program = with(program, follow(alloc))?;
-    let program = with(program, picture(alloc))?;
-    let program = with(program, audit(alloc))?;
+        .arg(report(alloc))
+}
+
+/// The command line of the program. Fails only if allocation fails.
+pub fn command<'a>(alloc: Global) -> Result<Command<'a>, AllocError> {
+    let program = with(program(alloc), check(alloc));
+    let program = with(program, compile(alloc));
+    let program = with(program, trace(alloc));
+    let program = with(program, explain(alloc));
+    let program = with(program, follow(alloc));
+    let program = with(program, picture(alloc));
+    let program = with(program, audit(alloc));
     with(program, run(alloc))
 }

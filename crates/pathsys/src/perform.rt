@@ -230,13 +230,13 @@ fn without_words<'a, R: Input + AllocGlobal, O: Write, E: Write>(
 }
 
 /// Runs the command that clap matched.
-fn matched<R: Files + Input + AllocGlobal + Threads + Wait + Sync, O: Write, E: Write>(
+fn matched<'a, R: Files + Input + AllocGlobal + Threads + Wait + Sync, O: Write, E: Write>(
     rt: &R,
-    matches: &ArgMatches<'_>,
+    matches: &ArgMatches<'a>,
     out: &mut O,
     err: &mut E,
-) -> Status {
-    let ended = match matches.subcommand() {
+) -> Result<Status, Fault<'a>> {
+    match matches.subcommand() {
         Some(("check", words)) => check(rt, words, out, err),
         Some(("compile", words)) => compile(rt, words, out, err),
         Some(("explain", words)) => explain(rt, words, out, err),
@@ -246,10 +246,6 @@ fn matched<R: Files + Input + AllocGlobal + Threads + Wait + Sync, O: Write, E: 
         Some(("run", words)) => run(rt, words, out, err),
         Some((_, words)) => trace(rt, words, out, err),
         None => without_words(rt, matches, out, err),
-    };
-    match ended {
-        Ok(status) => status,
-        Err(fault) => tell(err, fault),
     }
 }
 
@@ -294,7 +290,10 @@ fn asked<R: Files + Input + AllocGlobal + Threads + Wait + Sync, O: Write, E: Wr
         return refuse_twice(command, out, err);
     }
     match command.try_get_matches_from(words_for_clap(words)) {
-        Ok(matches) => matched(rt, &matches, out, err),
+        Ok(matches) => match matched(rt, &matches, out, err) {
+            Ok(status) => status,
+            Err(fault) => tell(err, fault),
+        },
         Err(error) => tell_words(&error, out, err),
     }
 }
