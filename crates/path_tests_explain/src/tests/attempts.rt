@@ -87,7 +87,8 @@ pub const REFUSED: &[Row] = &[
         Asked::Attempts(0, "1 start remove\n1 start remvoe"),
         Status::TextRefused,
         "",
-        "tries:2:9: this isn't a declared operation\n1 start remvoe\n        ^^^^^^\nexpected the name of a declared operation\nnearest name: remove\n",
+        "tries:2:9: this isn't a declared operation\n1 start remvoe\n        ^^^^^^\n\
+         expected the name of a declared operation\nnearest name: remove\n",
     ),
     (
         "resource r cell operation a end",
