@@ -45,13 +45,13 @@ fn lasts<D: Device>(
     attempt: Attempt,
     want: Reply,
 ) -> usize {
-    let reply = system.step(1, attempt);
-    if reply != Reply::NoRoom {
-        assert_eq!(rt; reply, want);
-        return 0;
+    let mut reply = system.step(1, attempt);
+    let mut given = 0;
+    if reply == Reply::NoRoom {
+        given = rotated(rt, alloc, system);
+        reply = system.step(1, attempt);
     }
-    let given = rotated(rt, alloc, system);
-    assert_eq!(rt; system.step(1, attempt), want);
+    assert_eq!(rt; reply, want);
     given
 }
 
@@ -82,6 +82,14 @@ fn a_room_of_twelve_takes_ten_thousand_attempts(rt: HostRuntime) {
     drop(system);
 }
 
+// Checks that a rotation gives both lines away, that a deposit, which is live, stays live, and how much room is left.
+fn keeps_a_deposit(rt: &impl Abort, alloc: Global, system: &mut System<Cell>) {
+    let given = rotated(rt, alloc, system);
+    let are_live = [system.is_live(ActId(0)), system.is_live(ActId(1))];
+    let left = (system.journal().len(), system.room_left());
+    assert_eq!(rt; (given, are_live, left), (2, [true, false], (0, 11)));
+}
+
 #[test]
 fn what_is_live_stays_live_over_a_rotation(rt: HostRuntime) {
     let mut system = slot(&rt, rt.alloc());
@@ -93,10 +101,7 @@ fn what_is_live_stays_live_over_a_rotation(rt: HostRuntime) {
             (1, Attempt::Apply(ActId(0), Verb::Put(7)), Reply::Used(3)),
         ],
     );
-    assert_eq!(rt; rotated(&rt, rt.alloc(), &mut system), 2);
-    assert!(rt; system.journal().is_empty());
-    assert!(rt; system.is_live(ActId(0)) && !system.is_live(ActId(1)));
-    assert_eq!(rt; system.room_left(), 11);
+    keeps_a_deposit(&rt, rt.alloc(), &mut system);
     steps(
         &rt,
         &mut system,
@@ -112,6 +117,14 @@ fn what_is_live_stays_live_over_a_rotation(rt: HostRuntime) {
     drop(system);
 }
 
+// How many lines come back from a rotation into too few places.
+fn given_back(rt: &impl Abort, alloc: Global, system: &mut System<Cell>) -> usize {
+    match system.rotate(places(rt, alloc, TWELVE - 1)) {
+        Ok(_) => panic!(rt; "a place is missing"),
+        Err(back) => back.len(),
+    }
+}
+
 #[test]
 fn a_rotation_wants_places_for_all_lines(rt: HostRuntime) {
     let mut system = slot(&rt, rt.alloc());
@@ -120,87 +133,88 @@ fn a_rotation_wants_places_for_all_lines(rt: HostRuntime) {
         &mut system,
         &[(1, Attempt::Start(DEPOSIT), Reply::Started(ActId(0)))],
     );
-    match system.rotate(places(&rt, rt.alloc(), TWELVE - 1)) {
-        Ok(_) => panic!(rt; "a place is missing"),
-        Err(back) => assert!(rt; back.is_empty()),
-    }
-    assert_eq!(rt; system.journal().len(), 1);
+    let back = given_back(&rt, rt.alloc(), &mut system);
+    let lines = system.journal().len();
     drop(system);
+    assert_eq!(rt; (back, lines), (0, 1));
 }
 
-// Checks that worker 1 starts the operation, or is refused for this.
-fn starts(rt: &impl Abort, system: &mut System<Cell>, op: OpId, want: Result<ActId, StartRefusal>) {
-    assert_eq!(rt; system.start(1, op), want);
-}
-
-// Checks that the worker's use gets this number, or is refused for this.
-fn uses(
-    rt: &impl Abort,
-    system: &mut System<Cell>,
-    worker: u32,
-    act: ActId,
-    verb: Verb,
-    want: Result<u64, UseRefusal>,
-) {
-    assert_eq!(rt; system.use_device(worker, act, verb), want);
-}
-
-// Checks that the worker finishes the activation, or is refused for this.
-fn finishes(
-    rt: &impl Abort,
-    system: &mut System<Cell>,
-    worker: u32,
-    act: ActId,
-    want: Result<(), FinishRefusal>,
-) {
-    assert_eq!(rt; system.finish(worker, act), want);
-}
-
-// Checks how many activations are live, and how much room is left.
-fn has_live(rt: &impl Abort, system: &System<Cell>, live: u32, room_left: u32) {
-    assert_eq!(rt; system.live_count(), live);
-    assert_eq!(rt; system.live().len(), live as usize);
-    assert_eq!(rt; system.room_left(), room_left);
+// How many activations are live, how many are listed, and how much room is left.
+fn live_and_left(system: &System<Cell>) -> (u32, usize, u32) {
+    (system.live_count(), system.live().len(), system.room_left())
 }
 
 // Checks what is refused before anything is live, and starts a deposit.
 fn refuses_starts(rt: &impl Abort, system: &mut System<Cell>) {
-    assert_eq!(rt; system.can_start(DEPOSIT), Ok(()));
-    assert_eq!(rt; system.can_start(REMOVE), Err(PathId(0)));
-    starts(rt, system, OpId(9), Err(StartRefusal::UnknownOperation));
-    starts(rt, system, REMOVE, Err(StartRefusal::Blocked(PathId(0))));
-    starts(rt, system, DEPOSIT, Ok(ActId(0)));
+    let can_start = [system.can_start(DEPOSIT), system.can_start(REMOVE)];
+    let started = [
+        system.start(1, OpId(9)),
+        system.start(1, REMOVE),
+        system.start(1, DEPOSIT),
+    ];
+    let want = [
+        Err(StartRefusal::UnknownOperation),
+        Err(StartRefusal::Blocked(PathId(0))),
+        Ok(ActId(0)),
+    ];
+    assert_eq!(rt; (can_start, started), ([Ok(()), Err(PathId(0))], want));
 }
 
-// Checks what is refused while the deposit is live and after its finish.
-fn refuses_others_and_the_stale(rt: &impl Abort, system: &mut System<Cell>) {
+// Checks what is refused while the deposit is live.
+fn refuses_others(rt: &impl Abort, system: &mut System<Cell>) {
     let act = ActId(0);
-    uses(rt, system, 1, act, Verb::Put(7), Ok(3));
-    uses(rt, system, 1, act, Verb::Take, Err(UseRefusal::NotOffered));
-    uses(rt, system, 2, act, Verb::Look, Err(UseRefusal::NotYours));
-    finishes(rt, system, 2, act, Err(FinishRefusal::NotYours));
-    has_live(rt, system, 1, 4);
-    finishes(rt, system, 1, act, Ok(()));
-    finishes(rt, system, 1, act, Err(FinishRefusal::Stale));
-    uses(rt, system, 1, act, Verb::Look, Err(UseRefusal::Stale));
-    has_live(rt, system, 0, 2);
+    let used = [
+        system.use_device(1, act, Verb::Put(7)),
+        system.use_device(1, act, Verb::Take),
+        system.use_device(2, act, Verb::Look),
+    ];
+    let finished = system.finish(2, act);
+    let want = [
+        Ok(3),
+        Err(UseRefusal::NotOffered),
+        Err(UseRefusal::NotYours),
+    ];
+    assert_eq!(rt;
+        (used, finished, live_and_left(system)),
+        (want, Err(FinishRefusal::NotYours), (1, 1, 4))
+    );
+}
+
+// Checks what is refused after the deposit's finish.
+fn refuses_the_stale(rt: &impl Abort, system: &mut System<Cell>) {
+    let act = ActId(0);
+    let finished = [system.finish(1, act), system.finish(1, act)];
+    let used = system.use_device(1, act, Verb::Look);
+    let want = [Ok(()), Err(FinishRefusal::Stale)];
+    assert_eq!(rt;
+        (finished, used, live_and_left(system)),
+        (want, Err(UseRefusal::Stale), (0, 0, 2))
+    );
 }
 
 // Checks what is refused when the room is left for a finish alone.
 fn refuses_for_room(rt: &impl Abort, system: &mut System<Cell>) {
     let act = ActId(1);
-    starts(rt, system, REMOVE, Ok(act));
-    starts(rt, system, DEPOSIT, Err(StartRefusal::NoRoom));
-    uses(rt, system, 1, act, Verb::Look, Err(UseRefusal::NoRoom));
-    finishes(rt, system, 2, act, Err(FinishRefusal::NoRoom));
-    finishes(rt, system, 1, act, Ok(()));
+    let started = [system.start(1, REMOVE), system.start(1, DEPOSIT)];
+    let used = system.use_device(1, act, Verb::Look);
+    let finished = [system.finish(2, act), system.finish(1, act)];
+    let want = [Ok(act), Err(StartRefusal::NoRoom)];
+    assert_eq!(rt;
+        (started, used, finished),
+        (
+            want,
+            Err(UseRefusal::NoRoom),
+            [Err(FinishRefusal::NoRoom), Ok(())]
+        )
+    );
 }
 
 #[test]
 fn each_call_tells_its_own_refusals(rt: HostRuntime) {
     let mut system = slot(&rt, rt.alloc());
     refuses_starts(&rt, &mut system);
-    refuses_others_and_the_stale(&rt, &mut system);
+    refuses_others(&rt, &mut system);
+    refuses_the_stale(&rt, &mut system);
     refuses_for_room(&rt, &mut system);
     drop(system);
 }

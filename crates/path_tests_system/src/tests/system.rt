@@ -55,6 +55,15 @@ fn after<A: Allocator + Copy>(
     Ok(seen)
 }
 
+// Checks what is seen of the slot in this room after the steps.
+fn check_after(rt: &impl Abort, heap: Global, room: u32, rows: &[Step], want: Seen) {
+    assert_eq!(rt;
+        after(rt, heap, room, rows),
+        Ok(want),
+        "in a room of {room}"
+    );
+}
+
 // A deposit of 7 and its removal, with an attempt to remove too early.
 const DEPOSIT_AND_REMOVE: &[Step] = &[
     (1, DEPOSIT, Reply::Started(ActId(0))),
@@ -67,8 +76,7 @@ const DEPOSIT_AND_REMOVE: &[Step] = &[
 
 #[test]
 fn slot_passes(rt: HostRuntime) {
-    let seen = after(&rt, rt.alloc(), ROOM, DEPOSIT_AND_REMOVE);
-    assert_eq!(rt; seen, Ok((Some(7), 6)));
+    check_after(&rt, rt.alloc(), ROOM, DEPOSIT_AND_REMOVE, (Some(7), 6));
 }
 
 // Refuses each request of the slot in turn, until it passes.
@@ -98,8 +106,7 @@ const OWNERS_AND_STALE: &[Step] = &[
 
 #[test]
 fn owners_and_stale(rt: HostRuntime) {
-    let seen = after(&rt, rt.alloc(), ROOM, OWNERS_AND_STALE);
-    assert_eq!(rt; seen, Ok((Some(0), 9)));
+    check_after(&rt, rt.alloc(), ROOM, OWNERS_AND_STALE, (Some(0), 9));
 }
 
 const ROOM_OF_TWO: &[Step] = &[
@@ -113,8 +120,7 @@ const ROOM_OF_TWO: &[Step] = &[
 
 #[test]
 fn room_of_two(rt: HostRuntime) {
-    let seen = after(&rt, rt.alloc(), 2, ROOM_OF_TWO);
-    assert_eq!(rt; seen, Ok((Some(0), 2)));
+    check_after(&rt, rt.alloc(), 2, ROOM_OF_TWO, (Some(0), 2));
 }
 
 const WITHOUT_A_TRACE: &[Step] = &[
@@ -135,14 +141,13 @@ const WITHOUT_A_TRACE: &[Step] = &[
 
 #[test]
 fn cells_refuse_without_a_trace(rt: HostRuntime) {
-    let seen = after(&rt, rt.alloc(), 6, WITHOUT_A_TRACE);
-    assert_eq!(rt; seen, Ok((Some(u64::MAX), 5)));
+    check_after(&rt, rt.alloc(), 6, WITHOUT_A_TRACE, (Some(u64::MAX), 5));
 }
 
 #[test]
 fn rooms_are_taken_up_to_the_limit(rt: HostRuntime) {
-    assert_eq!(rt; after(&rt, rt.alloc(), 1, &[]), Ok((Some(0), 0)));
-    assert_eq!(rt; after(&rt, rt.alloc(), MOST_LINES, &[]), Ok((Some(0), 0)));
+    check_after(&rt, rt.alloc(), 1, &[], (Some(0), 0));
+    check_after(&rt, rt.alloc(), MOST_LINES, &[], (Some(0), 0));
 }
 
 fn tells<F: Display + Drop>(rt: &impl Abort, heap: Global, fault: F, want: &str) {

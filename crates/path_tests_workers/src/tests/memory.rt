@@ -6,7 +6,7 @@ use crate::tests::own::{FIRST, ROOM, SECOND, SLOT, open_system};
 use path_model::{ActId, Attempt, OutOfMemory, Reply, Verb};
 use path_shelf::Cell;
 use path_system::System;
-use path_workers::{Answer, Desk, Opening, Pass};
+use path_workers::{Answer, Desk, Opening, Pass, SettleFault, Steps};
 use std::alloc::{Allocator, Global};
 use std::marker::Brand;
 use std::process::Abort;
@@ -16,9 +16,9 @@ use test_support::Refusing;
 
 // Makes an attempt that gets this reply. If allocation fails, it isn't a finish, the pass stays as it was, and the same attempt gets the
 // reply when it is made again.
-fn makes<L: Opening, A: Allocator + Copy, R: Wait + Abort>(
+fn makes<L: Opening, S: Steps, A: Allocator + Copy, R: Wait + Abort>(
     rt: &R,
-    desk: &Desk<L, System<Cell>>,
+    desk: &Desk<L, S>,
     pass: &mut Pass<L, A>,
     attempt: Attempt,
     reply: Reply,
@@ -38,9 +38,9 @@ fn makes<L: Opening, A: Allocator + Copy, R: Wait + Abort>(
 }
 
 // This many rounds of a deposit and its removal.
-fn rounds<L: Opening, A: Allocator + Copy, R: Wait + Abort>(
+fn rounds<L: Opening, S: Steps, A: Allocator + Copy, R: Wait + Abort>(
     rt: &R,
-    desk: &Desk<L, System<Cell>>,
+    desk: &Desk<L, S>,
     pass: &mut Pass<L, A>,
     number: u32,
 ) {
@@ -61,51 +61,55 @@ fn rounds<L: Opening, A: Allocator + Copy, R: Wait + Abort>(
     }
 }
 
-// How many lines a desk has when it is settled with these passes.
-fn settled_lines<L: Opening, A: Allocator + Copy>(
-    rt: &impl Abort,
-    desk: Desk<L, System<Cell>>,
+// How many lines a desk has when it is settled with these passes, or why it isn't settled.
+fn settled_lines<L: Opening, S: Steps, A: Allocator + Copy>(
+    desk: Desk<L, S>,
     passes: Vec<Pass<L, A>, A>,
-) -> usize {
+) -> Result<usize, SettleFault> {
     match desk.settle(passes) {
-        Ok(settled) => settled.system.journal().len(),
-        Err((fault, _system)) => panic!(rt; "{fault:?}"),
+        Ok(settled) => Ok(settled.system.journal().len()),
+        Err((fault, _system)) => Err(fault),
     }
 }
 
 const ROUNDS: u32 = 8;
 
-// How many lines a desk has when it is settled with its only pass, which allocates from `alloc`.
-fn lines<L: Opening, A: Allocator + Copy, R: Wait + Abort>(
+// How many lines a desk has when it is settled with its only pass, which allocates from `alloc`, or why it isn't settled.
+fn lines<L: Opening, S: Steps, A: Allocator + Copy, R: Wait + Abort>(
     rt: &R,
     alloc: A,
-    system: System<Cell>,
+    system: S,
     blank: Blank,
-) -> Result<usize, OutOfMemory>
+) -> Result<Result<usize, SettleFault>, OutOfMemory>
     requires name { blank.name ≡ L.name }
     requires parts { (blank.parts ≡ L.parts) × (blank.parts ≡ 18446744073709551615) }
-    requires opened { system ≡ L.opened }
+    requires opened { S.account system ≡ L.opened }
 {
     let mut passes = Vec::with_capacity(alloc, 1)?;
-    let desk = Desk::<L, System<Cell>>::open(system, blank);
+    let desk = Desk::<L, S>::open(system, blank);
     let mut pass = desk.pass(alloc, 1);
     rounds(rt, &desk, &mut pass, ROUNDS);
-    passes.push(pass)?;
-    Ok(settled_lines(rt, desk, passes))
+    passes.push_reserved(pass);
+    Ok(settled_lines(desk, passes))
 }
 
 // Whether the request of this number was made, and so refused.
 fn refuses<R: Wait + Abort>(rt: &R, heap: Global, number: u64) -> bool {
     let refusing = Refusing::new(heap, number);
     let system = open_system(rt, heap, SLOT, ROOM, Cell::new(0));
-    let lines = lines::<Brand, &Refusing<Global>, R>(rt, &refusing, system, Blank::new(u64::MAX));
+    let lines = lines::<Brand, System<Cell>, &Refusing<Global>, R>(
+        rt,
+        &refusing,
+        system,
+        Blank::new(u64::MAX),
+    );
     let is_first = number == 1;
     let want = if is_first {
         Err(OutOfMemory)
     } else {
-        Ok(5 * ROUNDS as usize)
+        Ok(Ok(5 * ROUNDS as usize))
     };
-    assert!(rt; lines == want);
+    assert!(rt; lines == want, "{lines:?} at request {number}");
     refusing.has_refused()
 }
 

@@ -103,18 +103,18 @@ fn has_removed<L: Ledger>(rt: &impl Abort, pass: &Pass<L>) {
 }
 
 // A deposit by worker 1 and its removal by worker 2, settled with the passes that are given.
-fn exchanged<L: Opening, R: Wait + Abort>(
+fn exchanged<L: Opening, S: Steps, R: Wait + Abort>(
     rt: &R,
     alloc: Global,
-    system: System<Cell>,
+    system: S,
     blank: Blank,
     given: Given,
 ) -> Outcome
     requires name { blank.name ≡ L.name }
     requires parts { (blank.parts ≡ L.parts) × (blank.parts ≡ 18446744073709551615) }
-    requires opened { system ≡ L.opened }
+    requires opened { S.account system ≡ L.opened }
 {
-    let desk = Desk::<L, System<Cell>>::open(system, blank);
+    let desk = Desk::<L, S>::open(system, blank);
     let mut one = desk.pass(alloc, 1);
     let mut two = desk.pass(alloc, 2);
     makes_all(rt, &desk, &mut one, DEPOSIT);
@@ -125,7 +125,7 @@ fn exchanged<L: Opening, R: Wait + Abort>(
 
 fn slot_settled<R: Wait + Abort>(rt: &R, alloc: Global, given: Given) -> Outcome {
     let system = open_system(rt, alloc, SLOT, ROOM, Cell::new(0));
-    exchanged::<Brand, R>(rt, alloc, system, Blank::new(u64::MAX), given)
+    exchanged::<Brand, System<Cell>, R>(rt, alloc, system, Blank::new(u64::MAX), given)
 }
 
 // Also finds a desk that makes another attempt than the one it was given, which no clause can see.
@@ -152,21 +152,21 @@ fn missing_pass(rt: HostRuntime) {
 }
 
 // How settling a desk ends with the pass of a desk over another system.
-fn crossed<L: Opening, M: Opening, R: Wait + Abort>(
+fn crossed<L: Opening, M: Opening, S: Steps, R: Wait + Abort>(
     rt: &R,
     alloc: Global,
-    here: System<Cell>,
+    here: S,
     blank_here: Blank,
-    there: System<Cell>,
+    there: S,
     blank_there: Blank,
 ) -> Outcome
     requires name { (blank_here.name ≡ L.name) × (blank_there.name ≡ M.name) }
     requires parts { (blank_here.parts ≡ L.parts) × (blank_here.parts ≡ 18446744073709551615) }
     requires parts_there { (blank_there.parts ≡ M.parts) × (blank_there.parts ≡ 18446744073709551615) }
-    requires opened { (here ≡ L.opened) × (there ≡ M.opened) }
+    requires opened { (S.account here ≡ L.opened) × (S.account there ≡ M.opened) }
 {
-    let desk = Desk::<L, System<Cell>>::open(here, blank_here);
-    let other = Desk::<M, System<Cell>>::open(there, blank_there);
+    let desk = Desk::<L, S>::open(here, blank_here);
+    let other = Desk::<M, S>::open(there, blank_there);
     let mut own = desk.pass(alloc, 1);
     let mut foreign = other.pass(alloc, 1);
     makes(
@@ -189,7 +189,7 @@ fn slots_crossed<R: Wait + Abort>(rt: &R, alloc: Global) -> Outcome {
     let there = open_system(rt, alloc, SLOT, ROOM, Cell::new(0));
     let blank_here = Blank::new(u64::MAX);
     let blank_there = Blank::new(u64::MAX);
-    crossed::<Brand, Brand, R>(rt, alloc, here, blank_here, there, blank_there)
+    crossed::<Brand, Brand, System<Cell>, R>(rt, alloc, here, blank_here, there, blank_there)
 }
 
 #[test]
@@ -199,18 +199,18 @@ fn foreign_pass(rt: HostRuntime) {
 }
 
 // A desk with one pass, which makes the attempts of these rows.
-fn alone<L: Opening, R: Wait + Abort>(
+fn alone<L: Opening, S: Steps, R: Wait + Abort>(
     rt: &R,
     alloc: Global,
-    system: System<Cell>,
+    system: S,
     blank: Blank,
     rows: &[Row],
 ) -> Outcome
     requires name { blank.name ≡ L.name }
     requires parts { (blank.parts ≡ L.parts) × (blank.parts ≡ 18446744073709551615) }
-    requires opened { system ≡ L.opened }
+    requires opened { S.account system ≡ L.opened }
 {
-    let desk = Desk::<L, System<Cell>>::open(system, blank);
+    let desk = Desk::<L, S>::open(system, blank);
     let mut pass = desk.pass(alloc, 1);
     makes_all(rt, &desk, &mut pass, rows);
     outcome(desk, row_of(rt, alloc, [pass]))
@@ -224,7 +224,7 @@ const ROOM_OF_TWO: &[Row] = &[
 
 fn room_of_two<R: Wait + Abort>(rt: &R, alloc: Global) -> Outcome {
     let system = open_system(rt, alloc, SLOT, 2, Cell::new(0));
-    alone::<Brand, R>(rt, alloc, system, Blank::new(u64::MAX), ROOM_OF_TWO)
+    alone::<Brand, System<Cell>, R>(rt, alloc, system, Blank::new(u64::MAX), ROOM_OF_TWO)
 }
 
 #[test]
@@ -239,7 +239,7 @@ fn deposited_before<R: Wait + Abort>(rt: &R, alloc: Global) -> Outcome {
     for (attempt, _place, reply) in DEPOSIT {
         assert!(rt; system.step(1, *attempt) == *reply);
     }
-    alone::<Brand, R>(rt, alloc, system, Blank::new(u64::MAX), REMOVE)
+    alone::<Brand, System<Cell>, R>(rt, alloc, system, Blank::new(u64::MAX), REMOVE)
 }
 
 #[test]
