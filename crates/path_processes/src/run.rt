@@ -191,7 +191,11 @@ pub fn run_to<
         Err(fault) => return tell(err, Fault::Script(fault)),
     };
     match ran(rt, alloc, decl, devices, room, &script) {
-        Ok(outcome) => tell_outcome(alloc, room, &script, &outcome, out, err),
+        Ok(outcome) => {
+            let status = tell_outcome(alloc, room, &script, &outcome, out, err);
+            drop(outcome);
+            status
+        }
         Err(fault) => tell(err, fault),
     }
 }
