@@ -1,5 +1,5 @@
 -- A run from the opening of its system on.
-use Rattle.std.proofs.Common.{◌≡◌, ℕ, List, [], ◌∷◌, ◌++◌, length, ap, ◌∙◌, subst}
+use Rattle.std.proofs.Common.{◌≡◌, ℕ, List, [], ◌∷◌, ◌++◌, length, ap, ◌∙◌, subst, refl, sym}
 use Rattle.path_model.specs.declared.journal.Line.{Line}
 use Rattle.path_model.specs.Declarations.{Declaration}
 use Rattle.path_model.specs.Honest.{IsHonest}
@@ -10,12 +10,17 @@ use Rattle.path_system.specs.Accounts.{Account, IsSystem, account_of, all_lines,
 use Rattle.path_system.specs.Faults.{IsOpenFault}
 use Rattle.path_system.specs.declared.fault.OpenFault.{OpenFault}
 use Rattle.path_system.specs.declared.fault.OpenFault.TheVariants as openings
+use Rattle.path_streams.specs.declared.status.Status.{Status}
+use Rattle.path_streams.specs.declared.status.Status.TheVariants.{NoMemory, Unsound}
 use Rattle.path_streams.specs.Statuses.{open_status}
 use Rattle.path_workers.specs.Attempts.{Held}
 use Rattle.path_workers.specs.Later.{IsLater}
 use Rattle.path_workers.specs.Settled.{IsSettled}
 use Rattle.path_script.specs.Scripts.{Plan}
 use Rattle.path_run.specs.declared.outcome.End.{End}
+use Rattle.path_run.specs.declared.outcome.RunFault.{RunFault}
+use Rattle.path_run.specs.declared.outcome.RunFault.TheVariants as runs
+use Rattle.path_workers.specs.declared.settle.SettleFault.{SettleFault}
 use Rattle.path_run.specs.Runs.{EachRuns}
 use Rattle.path_run.specs.Lines.{EachIsOrderly, EachIsBlockedNow}
 use Rattle.path_processes.specs.RunTexts.{IsRunOf, IsUnrun}
@@ -26,6 +31,12 @@ open_refused d states room openings.BadRoom is = (openings.BadRoom, (λ e. cc), 
 open_refused d states room openings.WrongCount is = (openings.WrongCount, (λ e. cc), is)
 open_refused d states room (openings.WrongDevice r) is = (openings.WrongDevice r, (λ e. cc), is)
 open_refused d states room openings.OutOfMemory is = tt
+
+-- a run without an outcome wrote nothing, for want of memory or since its journal doesn't match
+pub no_outcome_so : {S : Type 0} (d : Declaration) (states : List State) (room : ℕ) (f : RunFault S) (told : Status) → ((left : S) → f ≡ runs.OutOfMemory left → told ≡ NoMemory)
+    → ((why : SettleFault) (left : S) → f ≡ runs.Unsettled why left → told ≡ Unsound) → IsUnrun d states room told
+no_outcome_so d states room (runs.OutOfMemory left) told memory unsettled = subst (IsUnrun d states room) (sym (memory left refl)) tt
+no_outcome_so d states room (runs.Unsettled why left) told memory unsettled = subst (IsUnrun d states room) (sym (unsettled why left refl)) tt
 
 -- what a run leaves over a system that was just opened
 module _ (d : Declaration) (states : List State) (room : ℕ) (opened last : Account) (new : opened ≡ account_of d room states) (later : IsLater opened last) where

@@ -9,6 +9,7 @@ ghost use Rattle.path_journal.specs.JournalTexts as texts;
 ghost use Rattle.path_streams.specs.Refusals.{IsNoDeclaration};
 ghost use Rattle.path_streams.specs.Statuses.{status_of};
 ghost use Rattle.path_streams.specs.Writes.{AppendsSome, IsFrontOf};
+ghost use Rattle.path_run.specs.declared.outcome.RunFault.TheVariants as faults;
 ghost use Rattle.path_trace.specs.Traces.{IsUnopened};
 ghost use Rattle.path_processes.specs.Ends.{AllDone, AnyEnds, NotAllDone, IsStatusOf};
 ghost use Rattle.path_processes.specs.RunTexts.{IsBadScript, IsBadScriptUnder, IsRunOf, IsRunOfTexts, IsRunText, IsUnrun, WroteRun};
@@ -24,6 +25,7 @@ use path_shelf::Device;
 use path_streams::{Fault, Status, put_text, tell};
 use path_system::System;
 use path_trace::read_own;
+use path_workers::Steps;
 use std::alloc::Allocator;
 use std::io::Write;
 use std::sync::Wait;
@@ -60,6 +62,17 @@ fn journal_text<A: Allocator + Copy>(
     Ok(text)
 }
 
+/// What is told of a run that has no outcome.
+fn no_outcome<S: Steps>(fault: RunFault<S>) -> Fault<'static>
+    ensures memory { (left : _) → fault ≡ faults.OutOfMemory left → status_of result ≡ Status.NoMemory }
+    ensures unsettled { (why : _) (left : _) → fault ≡ faults.Unsettled why left → status_of result ≡ Status.Unsound }
+{
+    match fault {
+        RunFault::OutOfMemory(_system) => Fault::OutOfMemory,
+        RunFault::Unsettled(_fault, _system) => Fault::Unsettled,
+    }
+}
+
 /// Opens a system over the devices, and runs the processes of a script under it.
 fn ran<D: Device + Send, A: Allocator + Copy + Send + Sync, R: Threads + Wait + Sync>(
     rt: &R,
@@ -81,8 +94,7 @@ fn ran<D: Device + Send, A: Allocator + Copy + Send + Sync, R: Threads + Wait + 
     };
     match run(rt, alloc, system, script, &AlwaysOpen) {
         Ok(outcome) => Ok(outcome),
-        Err(RunFault::OutOfMemory(_system)) => Err(Fault::OutOfMemory),
-        Err(RunFault::Unsettled(_fault, _system)) => Err(Fault::Unsettled),
+        Err(fault) => Err(no_outcome(fault)),
     }
 }
 
@@ -179,7 +191,11 @@ pub fn run_to<
         Err(fault) => return tell(err, Fault::Script(fault)),
     };
     match ran(rt, alloc, decl, devices, room, &script) {
-        Ok(outcome) => tell_outcome(alloc, room, &script, &outcome, out, err),
+        Ok(outcome) => {
+            let status = tell_outcome(alloc, room, &script, &outcome, out, err);
+            drop(outcome);
+            status
+        }
         Err(fault) => tell(err, fault),
     }
 }

@@ -208,9 +208,7 @@ fn join_all<'a, L: Opening, A: Allocator + Copy, R: Threads + Wait>(
         (slice_index_or result.items i w).end }
 {
     for one in begun {
-        let Ok(()) = worked.push(one.join(rt, alloc)) else {
-            unreachable!()
-        };
+        worked.push_reserved(one.join(rt, alloc));
     }
     worked
 }

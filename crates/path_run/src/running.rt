@@ -18,11 +18,25 @@ use crate::outcome::{End, Outcome, RunFault};
 use crate::turnstile::Turnstile;
 use path_script::{Process, Script};
 use path_workers::{Hall, Opening, Pass, SettleFault, Slip, Steps, settle_own};
-use std::alloc::Allocator;
+use std::alloc::{AllocError, Allocator};
 use std::marker::Brand;
 use std::sync::Wait;
 use std::sync::ledger::{Blank, Ledger};
 use std::thread::Threads;
+
+/// Memory for the slips, passes and ends of that many processes. Fails only if allocation fails.
+fn places<L: Ledger, A: Allocator + Copy>(
+    alloc: A,
+    count: usize,
+) -> Result<(Vec<Slip<A>, A>, Vec<Pass<L, A>, A>, Vec<End, A>), AllocError>
+    ensures empty { IfOk result (λ p. (vec_len p.0 ≡ 0) × (vec_len p.1 ≡ 0) × (vec_len p.2 ≡ 0)) }
+    ensures places { IfOk result (λ p. (count ≤ vec_capacity p.0) × (count ≤ vec_capacity p.1) × (count ≤ vec_capacity p.2)) }
+{
+    let slips = Vec::with_capacity(alloc, count)?;
+    let passes = Vec::with_capacity(alloc, count)?;
+    let ends = Vec::with_capacity(alloc, count)?;
+    Ok((slips, passes, ends))
+}
 
 /// The passes and the ends, each in order.
 fn passes_of<L: Ledger, A: Allocator + Copy>(
@@ -39,12 +53,8 @@ fn passes_of<L: Ledger, A: Allocator + Copy>(
 {
     for one in worked {
         let Worked { pass, end } = one;
-        let Ok(()) = passes.push(pass) else {
-            unreachable!()
-        };
-        let Ok(()) = ends.push(end) else {
-            unreachable!()
-        };
+        passes.push_reserved(pass);
+        ends.push_reserved(end);
     }
     (passes, ends)
 }
@@ -120,13 +130,7 @@ fn run_at<
 {
     let before = system.journal().len() as u64;
     let count = processes.len();
-    let Ok(slips) = Vec::with_capacity(alloc, count) else {
-        return Err(RunFault::OutOfMemory(system));
-    };
-    let Ok(passes) = Vec::with_capacity(alloc, count) else {
-        return Err(RunFault::OutOfMemory(system));
-    };
-    let Ok(ends) = Vec::with_capacity(alloc, count) else {
+    let Ok((slips, passes, ends)) = places(alloc, count) else {
         return Err(RunFault::OutOfMemory(system));
     };
     let floor = Floor::<L, S>::new(Hall::open(system, blank), count as u64);

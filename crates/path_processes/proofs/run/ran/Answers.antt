@@ -2,7 +2,8 @@
 use Rattle.std.proofs.Common.{rules, map}
 use denote.Param.Send.{sendable}
 use Rattle.path_system.proofs.CallerLemmas.{system_send}
-use Rattle.path_processes.proofs.RunLemmas.{ran_so, open_refused}
+use Rattle.path_streams.specs.Statuses.{status_of}
+use Rattle.path_processes.proofs.RunLemmas.{ran_so, open_refused, no_outcome_so}
 use Rattle.path_processes.proofs.run.ran.Goals as goal
 
 pub returns-in-Ok-run-clause-run : goal.returns-in-Ok-run-clause-run
@@ -18,3 +19,7 @@ run-requires-send-S g c κs within = search (sendable, system_send) depth 20
 pub returns-in-Err-clause-err : goal.returns-in-Err-clause-err
 returns-in-Err-clause-err g c =
     open_refused c.args.decl.declaration (map g.D.Device.state c.args.devices.items) c.args.room c.in-Err.fault c.in-Err.ensures.fault
+
+pub returns-in-Err-run-clause-err : goal.returns-in-Err-run-clause-err
+returns-in-Err-run-clause-err g c =
+    no_outcome_so c.args.decl.declaration (map g.D.Device.state c.args.devices.items) c.args.room c.in-Err-run.fault (status_of c.no_outcome.result) c.no_outcome.ensures.memory c.no_outcome.ensures.unsettled

@@ -15,7 +15,7 @@ returns-in-Err-clause-refused g c = λ e.
 pub returns-in-Ok-ran-clause-unsound : goal.returns-in-Ok-ran-clause-unsound
 returns-in-Ok-ran-clause-unsound g c = λ e.
     let o = c.in-Ok-ran.outcome in
-    let wrote = c.tell_outcome.ensures.unsound e in
+    let wrote = c.tell_outcome-status.ensures.unsound e in
     inr (wrote_run c.args.decl.declaration o.system.declaration (map g.D.Device.state c.args.devices.items) c.args.room c.args.script.now c.in-Ok.script.processes o.system.journal o.ends.items
     c.in-Ok-ran.ensures.declaration c.in-Ok.ensures.ok c.in-Ok-ran.ensures.run _ _ NotAllDone wrote.0 wrote.1)
 
@@ -23,7 +23,7 @@ pub returns-in-Ok-ran-clause-memory : goal.returns-in-Ok-ran-clause-memory
 returns-in-Ok-ran-clause-memory g c = λ e.
     let o = c.in-Ok-ran.outcome in
     wrote_front c.args.decl.declaration o.system.declaration (map g.D.Device.state c.args.devices.items) c.args.room c.args.script.now c.in-Ok.script.processes o.system.journal o.ends.items
-    c.in-Ok-ran.ensures.declaration c.in-Ok.ensures.ok c.in-Ok-ran.ensures.run _ _ (c.tell_outcome.ensures.memory e)
+    c.in-Ok-ran.ensures.declaration c.in-Ok.ensures.ok c.in-Ok-ran.ensures.run _ _ (c.tell_outcome-status.ensures.memory e)
 
 pub returns-in-Err-clause-done : goal.returns-in-Err-clause-done
 returns-in-Err-clause-done g c = λ e. absurd (ends_script c.in-Err.fault c.tell.result Done c.tell.ensures e)
@@ -37,18 +37,18 @@ returns-in-Err-clause-statuses g c = λ e. ends_script c.in-Err.fault c.tell.res
 pub returns-in-Ok-ran-clause-done : goal.returns-in-Ok-ran-clause-done
 returns-in-Ok-ran-clause-done g c = λ e.
     let o = c.in-Ok-ran.outcome in
-    let wrote = c.tell_outcome.ensures.done e in
+    let wrote = c.tell_outcome-status.ensures.done e in
     wrote_run c.args.decl.declaration o.system.declaration (map g.D.Device.state c.args.devices.items) c.args.room c.args.script.now c.in-Ok.script.processes o.system.journal o.ends.items
     c.in-Ok-ran.ensures.declaration c.in-Ok.ensures.ok c.in-Ok-ran.ensures.run _ _ AllDone wrote.0 wrote.1
 
 pub returns-in-Ok-ran-clause-refused : goal.returns-in-Ok-ran-clause-refused
-returns-in-Ok-ran-clause-refused g c = λ e. absurd (ends_outcome c.tell_outcome.result TextRefused c.tell_outcome.ensures.statuses e)
+returns-in-Ok-ran-clause-refused g c = λ e. absurd (ends_outcome c.tell_outcome-status.result TextRefused c.tell_outcome-status.ensures.statuses e)
 
 pub returns-in-Ok-ran-clause-unopened : goal.returns-in-Ok-ran-clause-unopened
-returns-in-Ok-ran-clause-unopened g c = λ e. absurd (ends_outcome c.tell_outcome.result CommandRefused c.tell_outcome.ensures.statuses e)
+returns-in-Ok-ran-clause-unopened g c = λ e. absurd (ends_outcome c.tell_outcome-status.result CommandRefused c.tell_outcome-status.ensures.statuses e)
 
 pub returns-in-Ok-ran-clause-statuses : goal.returns-in-Ok-ran-clause-statuses
-returns-in-Ok-ran-clause-statuses g c = λ e. ends_outcome c.tell_outcome.result DeclarationRefused c.tell_outcome.ensures.statuses e
+returns-in-Ok-ran-clause-statuses g c = λ e. ends_outcome c.tell_outcome-status.result DeclarationRefused c.tell_outcome-status.ensures.statuses e
 
 pub returns-clause-done : goal.returns-clause-done
 returns-clause-done g c = λ e.

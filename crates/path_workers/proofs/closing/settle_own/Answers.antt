@@ -1,11 +1,13 @@
 -- Passes of the desk have no more receipts than it has lines.
-use Rattle.std.proofs.Common.{◌≡◌, ℕ, ◌+◌, ◌≤◌, List, ◌++◌, length, take, drop, arith, rules, sym, ap, ◌∙◌}
+use Rattle.std.proofs.Common.{◌≡◌, ℕ, ◌+◌, ◌≤◌, List, ◌++◌, length, take, drop, arith, rules, sym, ap, ◌∙◌, subst}
 use Rattle.std.proofs.Math.Seq.{take-append_seam}
 use Rattle.path_model.specs.declared.journal.Line.{Line}
 use Rattle.path_workers.specs.declared.settle.SettleFault.{SettleFault}
 use Rattle.path_workers.specs.declared.settle.SettleFault.TheVariants.{MissingPass, Mismatch}
 use Rattle.path_workers.specs.Attempts.{Held}
-use Rattle.path_workers.specs.Settled.{receipts_of}
+use Rattle.path_workers.specs.Settled.{receipts_of, IsSettled}
+use Rattle.path_workers.specs.Later.{IsLater}
+use Rattle.path_system.specs.Accounts.{Account}
 use Rattle.path_workers.specs.Faults.{IsFault, FewReceipts}
 use Rattle.path_workers.proofs.closing.settle_own.Goals as goal
 
@@ -33,3 +35,33 @@ check-verdict-requires g c κs = λ within. within
 
 pub close_with-system-requires : goal.close_with-system-requires
 close_with-system-requires g c κs = λ within. within
+
+pub returns-in-Ok-clause-fault : goal.returns-in-Ok-clause-fault
+returns-in-Ok-clause-fault g c = tt
+
+pub returns-in-Ok-clause-few : goal.returns-in-Ok-clause-few
+returns-in-Ok-clause-few g c = tt
+
+pub returns-in-Err-clause-slips : goal.returns-in-Err-clause-slips
+returns-in-Err-clause-slips g c = tt
+
+pub returns-in-Err-clause-settled : goal.returns-in-Err-clause-settled
+returns-in-Err-clause-settled g c = tt
+
+pub returns-in-Ok-clause-system : goal.returns-in-Ok-clause-system
+returns-in-Ok-clause-system g c = subst (λ (a : Account). IsLater g.L.Opening.opened a) (sym c.close_with-system.ensures.system) c.close_with-system.ensures.later
+
+pub returns-in-Err-clause-system : goal.returns-in-Err-clause-system
+returns-in-Err-clause-system g c = subst (λ (a : Account). IsLater g.L.Opening.opened a) (sym c.close_with-system.ensures.system) c.close_with-system.ensures.later
+
+pub returns-in-Ok-clause-settled : goal.returns-in-Ok-clause-settled
+returns-in-Ok-clause-settled g c =
+    let lines : c.journal.result.now ≡ (g.S.Steps.account c.close_with-system.result).journal = c.journal.ensures ∙ ap (λ (a : Account). a.journal) (sym c.close_with-system.ensures.system) in
+    subst (λ (ls : List Line). IsSettled c.args.before ls c.args.passes.items) lines
+    (subst (λ (held : List Held). IsSettled c.args.before c.journal.result.now held) c.as_mut_slice.ensures.value c.in-Ok.ensures.ok)
+
+pub returns-in-Err-clause-fault : goal.returns-in-Err-clause-fault
+returns-in-Err-clause-fault g c =
+    let lines : c.journal.result.now ≡ (g.S.Steps.account c.close_with-system.result).journal = c.journal.ensures ∙ ap (λ (a : Account). a.journal) (sym c.close_with-system.ensures.system) in
+    subst (λ (ls : List Line). IsFault c.args.before ls c.args.passes.items c.in-Err.fault) lines
+    (subst (λ (held : List Held). IsFault c.args.before c.journal.result.now held c.in-Err.fault) c.as_mut_slice.ensures.value c.in-Err.ensures.err)
