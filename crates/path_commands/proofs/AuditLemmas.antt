@@ -1,22 +1,24 @@
 -- What refuses an audit over the program's own devices, and how a verdict is written.
 use Rattle.std.proofs.Common.{◌≡◌, ℕ, ◌<◌, List, [], length, get_or, Option, Some, None, ◌⊎◌, inl, inr, refl, sym, ap, ◌∙◌, subst, arith}
+use Rattle.std.specs.Prelude.{◌↔◌}
 use Rattle.std.specs.Option.{unwrap_or}
 use Rattle.std.specs.Io.KnownBytes.{Appends}
-use Rattle.std.proofs.lemmas.List.{get_or-map, length-map}
+use Rattle.std.proofs.lemmas.List.{append-nil, get_or-map, length-map}
 use Rattle.path_model.specs.declared.journal.Line.{Line}
 use Rattle.path_model.specs.declared.resource.Law.{Law}
 use Rattle.path_model.specs.declared.resource.Law.TheVariants.{Cell, Tally, Queue}
 use Rattle.path_model.specs.Declarations.{Resource, Declaration, law_of}
 use Rattle.path_model.specs.Devices.{Fits}
+use Rattle.path_model.specs.Honest.{IsHonest}
 use Rattle.path_decl.specs.Text.{IsDeclarationText}
 use Rattle.path_journal.specs.JournalTexts.{IsJournalText}
 use Rattle.path_shelf.specs.Openings.{opening_numbers}
-use Rattle.path_model.specs.Rooms.{IsBadRoom}
+use Rattle.path_model.specs.Rooms.{IsBadRoom, IsRoom}
 use Rattle.path_audit.specs.declared.auditor.AuditFault.{AuditFault}
 use Rattle.path_audit.specs.declared.auditor.AuditFault.TheVariants as audits
 use Rattle.path_audit.specs.declared.journals.Verdict.{Verdict}
 use Rattle.path_audit.specs.declared.journals.Verdict.TheVariants.{Sound, WrongLine}
-use Rattle.path_audit.specs.Verdicts.{FitsAt, IsAuditFault}
+use Rattle.path_audit.specs.Verdicts.{FitsAt, IsAuditFault, IsFirstWrong}
 use Rattle.path_streams.specs.declared.status.Status.{Status}
 use Rattle.path_streams.specs.declared.status.Status.TheVariants.{Done, Unsound, StreamFailed, NoMemory}
 use Rattle.path_streams.specs.Statuses.{audit_status}
@@ -119,3 +121,26 @@ pub under_front : (old new : Option (List ℕ)) (text : List ℕ) (d : Declarati
     → AppendsSome old new (IsFrontOf (λ bytes. Under text (λ e. P e bytes)))
 under_front old new text d P is (bytes, inl none, wrote) = (bytes, inl none, wrote)
 under_front old new text d P is (bytes, inr (rest, whole), wrote) = (bytes, inr (rest, (d, is, whole)), wrote)
+
+-- the verdict on the lines is that on the text
+pub audit_told : (d : Declaration) (room : ℕ) (text : List ℕ) (named : Option ℕ) (lines : List Line) (v : Verdict) → IsJournalText d text named lines → IsRoom (unwrap_or named room)
+    → (v ≡ Sound ↔ IsHonest d (unwrap_or named room) (own_openings d) lines) → ((n : ℕ) → v ≡ WrongLine n ↔ IsFirstWrong d (unwrap_or named room) (own_openings d) lines n) → IsAuditOf d room text v
+audit_told d room text named lines Sound told fits sound wrong = record { named = named; lines = lines; told = told; in_range = fits; judged = sound.0 refl }
+audit_told d room text named lines (WrongLine n) told fits sound wrong = record { named = named; lines = lines; told = told; in_range = fits; judged = (wrong n).0 refl }
+
+-- and the only one
+pub one_audit : (d : Declaration) (room : ℕ) (text : List ℕ) (named : Option ℕ) (lines : List Line) (v : Verdict)
+    → ((k : Option ℕ) (ls : List Line) → IsJournalText d text k ls → (k ≡ named) × (ls ≡ lines))
+    → (v ≡ Sound ↔ IsHonest d (unwrap_or named room) (own_openings d) lines) → ((n : ℕ) → v ≡ WrongLine n ↔ IsFirstWrong d (unwrap_or named room) (own_openings d) lines n)
+    → (other : Verdict) → IsAuditOf d room text other → other ≡ v
+one_audit d room text named lines v one sound wrong Sound is =
+    let same = one is.named is.lines is.told in
+    sym (sound.1 (subst (λ k. IsHonest d (unwrap_or k room) (own_openings d) lines) same.0 (subst (λ ls. IsHonest d (unwrap_or is.named room) (own_openings d) ls) same.1 is.judged)))
+one_audit d room text named lines v one sound wrong (WrongLine n) is =
+    let same = one is.named is.lines is.told in
+    sym ((wrong n).1 (subst (λ k. IsFirstWrong d (unwrap_or k room) (own_openings d) lines n) same.0 (subst (λ ls. IsFirstWrong d (unwrap_or is.named room) (own_openings d) ls n) same.1 is.judged)))
+
+-- nothing was written, and that is a front
+pub no_front : (a : Option (List ℕ)) (P : List ℕ → Type 0) → AppendsSome a a (IsFrontOf P)
+no_front None P = ([], inl refl, tt)
+no_front (Some a) P = ([], inl refl, sym (append-nil a))

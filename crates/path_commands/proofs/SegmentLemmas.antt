@@ -23,7 +23,7 @@ use Rattle.path_streams.specs.declared.status.Status.TheVariants.{Done, StreamFa
 use Rattle.path_streams.specs.Statuses.{audit_status, text_status}
 use Rattle.path_streams.specs.Writes.{AppendsSome, IsFrontOf}
 use Rattle.path_commands.specs.Audits.{own_openings}
-use Rattle.path_commands.specs.Segments.{AreAuditOf, AreSegmentTexts, AreUnaudited, IsSegmentText, LackRoom, NamesAnother}
+use Rattle.path_commands.specs.Segments.{AreAuditOf, AreSegmentTexts, AreUnaudited, IsSegmentText, NamesAnother}
 use Rattle.path_commands.specs.Segments.{TellsSegments, TellsSoundSegments, TellsWrongSegment, segments_line, segments_status}
 use Rattle.path_commands.proofs.AuditLemmas.{EndsVerdict, own_refused}
 

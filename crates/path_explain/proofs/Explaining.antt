@@ -1,5 +1,5 @@
 -- How far attempts have been explained.
-use Rattle.std.proofs.Common.{◌≡◌, ℕ, ◌+◌, ◌<◌, List, [], ◌∷◌, ◌++◌, length, get_or, take, refl, sym, ap, ◌∙◌, subst, arith}
+use Rattle.std.proofs.Common.{◌≡◌, ℕ, ◌+◌, ◌<◌, List, [], ◌∷◌, ◌++◌, length, get_or, take, refl, sym, ap, ◌∙◌, subst, arith, append_assoc}
 use Rattle.std.proofs.lemmas.List.{take_more, take_all, length-take-le}
 use Rattle.path_model.specs.declared.journal.Attempt.{Attempt}
 use Rattle.path_model.specs.declared.journal.Reply.{Reply}
@@ -26,6 +26,11 @@ none_yet may_fail start text opened none = record {
   told = subst (λ ls. AreExplained may_fail start.declaration start.room start.openings [] ls text) (sym opened)
       (subst (λ t. AreExplained may_fail start.declaration start.room start.openings [] [] t) (sym none) AreExplained.none);
 }
+
+-- a text has grown by a number, a line and more, one after the other
+pub grown_so : (old a b c all number sign line more : List ℕ) → a ≡ old ++ (number ++ sign) → b ≡ a ++ line → c ≡ b ++ 10 ∷ [] → all ≡ c ++ more
+    → all ≡ old ++ ((number ++ (sign ++ (line ++ 10 ∷ []))) ++ more)
+grown_so old a b c all number sign line more ea eb ec eall = rw (eall, ec, eb, ea) (simp (append_assoc) refl)
 
 owed_at : (a b : Account) (w : ℕ) (t : Attempt) (r : Reply) → a ≡ b → Owed a.declaration a.room a.openings a.journal w t r → Owed b.declaration b.room b.openings b.journal w t r
 owed_at a b w t r e h = subst (λ x. Owed x.declaration x.room x.openings x.journal w t r) e h

@@ -9,7 +9,8 @@ ghost use Rattle.path_streams.specs.Refusals.{IsNoDeclaration, IsUndeclared};
 ghost use Rattle.path_streams.specs.Statuses.{status_of};
 ghost use Rattle.path_streams.specs.Writes.{AppendsSome, IsFrontOf};
 ghost use Rattle.path_trace.specs.Traces.{IsRefused};
-ghost use Rattle.path_explain.specs.Explanations.{AreExplained, IsExplainedStep, IsExplanation, IsExplanationOver, IsExplanationOfTexts, IsUnexplained};
+ghost use Rattle.path_explain.specs.Explanations.{AreExplained, IsExplainedStep, IsUnexplained};
+ghost use Rattle.path_explain.specs.Explanations.{IsExplanation, IsExplanationOver, IsExplanationOfTexts};
 
 use crate::declared::declaration_in_words;
 use crate::faults::{FileNames, Subject, tell_place};

@@ -106,17 +106,15 @@ pub fn found<'a, A: Allocator + Copy>(
     ensures { IfOk result (λ finding. IsSpotBehind text.now number finding.spot) }
 {
     let spot = spot_behind(text, number, miss.left);
-    let wanted = miss.wanted;
-    let nearest = match wanted {
+    let wanted = String::from_str(alloc, miss.wanted.words())?;
+    let nearest = match miss.wanted {
         Wanted::Operation => nearest_at(alloc, decl, &spot)?,
         _ => String::new(alloc),
     };
-    let mut words = String::new(alloc);
-    write!(words, "{wanted}")?;
     Ok(Finding {
         spot,
         wrong,
-        wanted: words,
+        wanted,
         nearest,
         likely: likely_at(&spot),
     })

@@ -1,11 +1,9 @@
 //! Where a line stops being what it should be.
 
 use path_fields::{last_number, number, strip};
-use std::fmt;
-use std::fmt::Display;
 
 /// What could stand in a line.
-#[derive(Clone, Copy, Debug, PartialEq, Eq)]
+#[derive(Clone, Copy)]
 pub enum Wanted {
     /// The number of a worker.
     Worker,
@@ -45,9 +43,10 @@ pub enum Wanted {
     ScriptEnd,
 }
 
-impl Display for Wanted {
-    fn fmt<W: fmt::Write>(&self, f: &mut fmt::Formatter<W>) -> fmt::Result {
-        f.write_str(match self {
+impl Wanted {
+    /// What people are told of it.
+    pub fn words(self) -> &'static str {
+        match self {
             Wanted::Worker => "a worker's number, 0 to 4294967295",
             Wanted::Space => "one space",
             Wanted::Attempt => "`start NAME`, `use A VERB` or `finish A`",
@@ -67,12 +66,12 @@ impl Display for Wanted {
             Wanted::ProcessEnd => "`leave` for each operation that is entered, and then `end`",
             Wanted::Entry => "`enter NAME` or `end`",
             Wanted::ScriptEnd => "the end of the script",
-        })
+        }
     }
 }
 
 /// Where a line stops being what it should be.
-#[derive(Clone, Copy, Debug)]
+#[derive(Clone, Copy)]
 pub struct Miss {
     /// How many bytes of the line are left there.
     pub left: usize,

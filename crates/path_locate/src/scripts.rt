@@ -2,7 +2,7 @@
 
 ghost use Rattle.std.specs.Prelude.{◌≡◌, IfNone, IfOk, IfSome};
 ghost use Rattle.path_script.specs.declared.fault.ScriptFault.TheVariants as faults;
-ghost use Rattle.path_locate.specs.Places.{IsLineSpot, script_number};
+ghost use Rattle.path_locate.specs.Places.{IsLineSpot, IsSpotBehind, script_number};
 
 use crate::finding::Finding;
 use crate::lines::{found, line_of, too_long};
@@ -104,6 +104,28 @@ fn ends_before(text: &[u8], lines: u32) -> bool {
     }
 }
 
+/// The finding of a script's fault in the line of this number, counted from 0. At the end of the text a process wants its end, and no
+/// byte tells the cause.
+fn line_finding<'a, A: Allocator + Copy>(
+    alloc: A,
+    decl: &Decl<A>,
+    text: &'a [u8],
+    number: u32,
+    fault: ScriptFault,
+) -> Result<Finding<'a, A>, OutOfMemory>
+    ensures { IfOk result (λ finding. IsSpotBehind text.now number finding.spot) }
+{
+    let wrong = Wrong::Script(fault);
+    if ends_before(text, number) {
+        let miss = missing(b"", Wanted::ProcessEnd);
+        let mut finding = found(alloc, decl, text, number, miss, wrong)?;
+        finding.likely = None;
+        return Ok(finding);
+    }
+    let miss = miss_of(line_of(text, number), fault);
+    found(alloc, decl, text, number, miss, wrong)
+}
+
 /// Where the text of a script has this fault, which [`read_script`](path_script::read_script) found in it; `None` if memory was wanting
 /// then. Fails only if allocation fails. The cost is two passes over the text up to the end of the fault's line, and a look at each
 /// declared name.
@@ -116,22 +138,14 @@ pub fn script_finding<'a, A: Allocator + Copy>(
     ensures spot { IfOk result (λ found. IfSome found (λ finding. IsLineSpot text.now (script_number fault) finding.spot)) }
     ensures none { IfOk result (λ found. IfNone found (fault ≡ faults.OutOfMemory)) }
 {
-    let wrong = Wrong::Script(fault);
     let number = match fault {
         ScriptFault::OutOfMemory => return Ok(None),
-        ScriptFault::TooLong => return Ok(Some(too_long(alloc, text, LIMIT, wrong))),
+        ScriptFault::TooLong => return Ok(Some(too_long(alloc, text, LIMIT, Wrong::Script(fault)))),
         ScriptFault::BadLine(number)
         | ScriptFault::Undeclared(number)
         | ScriptFault::Unbalanced(number)
         | ScriptFault::TooDeep(number)
         | ScriptFault::TooMany(number) => number,
     };
-    if ends_before(text, number) {
-        let miss = missing(b"", Wanted::ProcessEnd);
-        let mut finding = found(alloc, decl, text, number, miss, wrong)?;
-        finding.likely = None;
-        return Ok(Some(finding));
-    }
-    let miss = miss_of(line_of(text, number), fault);
-    Ok(Some(found(alloc, decl, text, number, miss, wrong)?))
+    Ok(Some(line_finding(alloc, decl, text, number, fault)?))
 }

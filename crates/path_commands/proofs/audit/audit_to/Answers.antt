@@ -2,9 +2,9 @@
 use Rattle.path_streams.specs.declared.status.Status.TheVariants.{Done, DeclarationRefused, CommandRefused, TextRefused, Unsound}
 use Rattle.path_audit.specs.declared.journals.Verdict.TheVariants.{Sound, WrongLine}
 use Rattle.path_streams.specs.Statuses.{status_of}
-use Rattle.path_commands.specs.Audits.{IsUnaudited}
+use Rattle.path_commands.specs.Audits.{IsUnaudited, TellsVerdict}
 use Rattle.path_streams.proofs.CallerLemmas.{keeps_same, told}
-use Rattle.path_commands.proofs.AuditLemmas.{ends_verdict, never_sound, never_wrong, tells_front, tells_sound, tells_wrong}
+use Rattle.path_commands.proofs.AuditLemmas.{ends_verdict, never_sound, no_front, never_wrong, tells_front, tells_sound, tells_wrong}
 use Rattle.path_commands.proofs.audit.audit_to.Goals as goal
 
 pub returns-in-Ok-clause-done : goal.returns-in-Ok-clause-done
@@ -50,3 +50,9 @@ returns-in-Err-clause-refused g c = λ e.
 pub returns-in-Err-clause-bad_room : goal.returns-in-Err-clause-bad_room
 returns-in-Err-clause-bad_room g c = λ e.
     (keeps_same (g.O.Write.contents c.args.out.now), told (IsUnaudited c.args.decl.declaration c.args.room c.args.journal.now) (status_of c.in-Err.fault) _ CommandRefused c.in-Err.ensures.err c.tell.ensures (λ h. cc) e)
+
+pub returns-in-Err-clause-memory : goal.returns-in-Err-clause-memory
+returns-in-Err-clause-memory g c = λ e. no_front (g.O.Write.contents c.args.out.now) (TellsVerdict c.args.decl.declaration c.args.room c.args.journal.now)
+
+pub returns-in-Err-clause-statuses : goal.returns-in-Err-clause-statuses
+returns-in-Err-clause-statuses g c = λ e. told (IsUnaudited c.args.decl.declaration c.args.room c.args.journal.now) (status_of c.in-Err.fault) _ DeclarationRefused c.in-Err.ensures.err c.tell.ensures (λ h. cc) e

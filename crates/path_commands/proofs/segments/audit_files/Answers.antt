@@ -5,9 +5,10 @@ use Rattle.path_streams.specs.declared.status.Status.TheVariants.{Done, CommandR
 use Rattle.path_streams.specs.Statuses.{declaration_status}
 use Rattle.path_streams.specs.Refusals.{IsUndeclared}
 use Rattle.path_streams.proofs.CallerLemmas.{keeps_same, told, undeclared}
+use Rattle.path_commands.specs.Audits.{Under}
 use Rattle.path_commands.specs.Inner.Files.{fault_status}
 use Rattle.path_commands.specs.Segments.{AreUnaudited, TellsSegments, TellsSoundSegments, TellsWrongSegment}
-use Rattle.path_commands.proofs.AuditLemmas.{under, under_front}
+use Rattle.path_commands.proofs.AuditLemmas.{no_front, under, under_front}
 use Rattle.path_commands.proofs.SegmentLemmas.{ends_segments, tells_front, tells_sound, tells_wrong}
 use Rattle.path_commands.proofs.segments.audit_files.Goals as goal
 
@@ -67,3 +68,25 @@ returns-in-Ok-clause-bad_room g c = λ e. (
 pub returns-clause-undeclared : goal.returns-clause-undeclared
 returns-clause-undeclared g c = λ e.
     (keeps_same (g.O.Write.contents c.args.out.now), told (IsUndeclared c.args.declaration.now) (declaration_status c.in-Err.fault) c.tell.result DeclarationRefused (undeclared c.args.declaration.now c.in-Err.fault c.in-Err.ensures.err) c.tell.ensures (λ h. cc) e)
+
+pub returns-clause-done : goal.returns-clause-done
+returns-clause-done g c = λ e. absurd (told (IsUndeclared c.args.declaration.now) (declaration_status c.in-Err.fault) c.tell.result Done (undeclared c.args.declaration.now c.in-Err.fault c.in-Err.ensures.err) c.tell.ensures (λ h. cc) e)
+
+pub returns-clause-unsound : goal.returns-clause-unsound
+returns-clause-unsound g c = λ e. absurd (told (IsUndeclared c.args.declaration.now) (declaration_status c.in-Err.fault) c.tell.result Unsound (undeclared c.args.declaration.now c.in-Err.fault c.in-Err.ensures.err) c.tell.ensures (λ h. cc) e)
+
+pub returns-clause-refused : goal.returns-clause-refused
+returns-clause-refused g c = λ e. absurd (told (IsUndeclared c.args.declaration.now) (declaration_status c.in-Err.fault) c.tell.result TextRefused (undeclared c.args.declaration.now c.in-Err.fault c.in-Err.ensures.err) c.tell.ensures (λ h. cc) e)
+
+pub returns-clause-bad_room : goal.returns-clause-bad_room
+returns-clause-bad_room g c = λ e. absurd (told (IsUndeclared c.args.declaration.now) (declaration_status c.in-Err.fault) c.tell.result CommandRefused (undeclared c.args.declaration.now c.in-Err.fault c.in-Err.ensures.err) c.tell.ensures (λ h. cc) e)
+
+pub returns-in-Ok-clause-memory : goal.returns-in-Ok-clause-memory
+returns-in-Ok-clause-memory g c = λ e.
+    no_front (g.O.Write.contents c.args.out.now)
+    (λ bytes. Under c.args.declaration.now (λ d. TellsSegments d c.args.room (map (λ f. string_bytes f.name) c.args.files.now) (map (λ f. f.text.items) c.args.files.now) bytes))
+
+pub returns-clause-memory : goal.returns-clause-memory
+returns-clause-memory g c = λ e.
+    no_front (g.O.Write.contents c.args.out.now)
+    (λ bytes. Under c.args.declaration.now (λ d. TellsSegments d c.args.room (map (λ f. string_bytes f.name) c.args.files.now) (map (λ f. f.text.items) c.args.files.now) bytes))

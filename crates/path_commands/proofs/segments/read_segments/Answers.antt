@@ -1,5 +1,5 @@
 -- One text more, unless it is refused or names another room.
-use Rattle.std.proofs.Common.{◌≡◌, ◌≢◌, ◌<◌, ◌∷◌, [], ◌++◌, ◌∙◌, List, ℕ, length, get_or, subst, ap, sym, refl, arith, inl, inr, Err}
+use Rattle.std.proofs.Common.{◌≡◌, ◌<◌, ◌∷◌, [], ◌∙◌, List, ℕ, length, get_or, subst, ap, sym, arith, inr, Err}
 use Rattle.std.specs.Prelude.{map, not}
 use Rattle.std.proofs.lemmas.Bool.{cond-true}
 use Rattle.std.proofs.lemmas.List.{length-map, map-append}

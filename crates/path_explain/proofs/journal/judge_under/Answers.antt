@@ -1,8 +1,12 @@
--- The declaration is refused, or the journal under it.
-use Rattle.std.proofs.lemmas.Result.{IfErr-weaker}
+-- The declaration is refused, or the journal under it, or it is judged.
+use Rattle.std.proofs.lemmas.Result.{IfOk-weaker, IfErr-weaker}
 use Rattle.path_streams.specs.Statuses.{status_of}
 use Rattle.path_explain.proofs.Unjudged.{unjudged}
 use Rattle.path_explain.proofs.journal.judge_under.Goals as goal
+
+pub returns-in-Ok-clause-ok : goal.returns-in-Ok-clause-ok
+returns-in-Ok-clause-ok g c =
+    IfOk-weaker c.judge_text.result _ _ (λ judged told. (c.in-Ok.decl.declaration, c.in-Ok.ensures.ok, told)) c.judge_text.ensures.ok
 
 pub returns-in-Ok-clause-err : goal.returns-in-Ok-clause-err
 returns-in-Ok-clause-err g c =

@@ -3,22 +3,12 @@ use Rattle.path_locate.proofs.Spots.{script_spot}
 use Rattle.path_locate.proofs.scripts.script_finding.Goals.{in-BadLine, in-BadLine-2, in-BadLine-3, in-BadLine-4, in-BadLine-5}
 use Rattle.path_locate.proofs.scripts.script_finding.Goals as goal
 
-pub returns-then-ends_before-clause-spot : goal.returns-then-ends_before-clause-spot
-returns-then-ends_before-clause-spot g c =
-    elim c.match-fault.branch [
-      | in-BadLine w ↦ script_spot c.args.text.now c.args.fault _ _ c.in_ok-finding.finding.spot w.in-BadLine.is w.number-is c.in_ok-finding.ensures
-      | in-BadLine-2 w ↦ script_spot c.args.text.now c.args.fault _ _ c.in_ok-finding.finding.spot w.in-BadLine.is w.number-is c.in_ok-finding.ensures
-      | in-BadLine-3 w ↦ script_spot c.args.text.now c.args.fault _ _ c.in_ok-finding.finding.spot w.in-BadLine.is w.number-is c.in_ok-finding.ensures
-      | in-BadLine-4 w ↦ script_spot c.args.text.now c.args.fault _ _ c.in_ok-finding.finding.spot w.in-BadLine.is w.number-is c.in_ok-finding.ensures
-      | in-BadLine-5 w ↦ script_spot c.args.text.now c.args.fault _ _ c.in_ok-finding.finding.spot w.in-BadLine.is w.number-is c.in_ok-finding.ensures
-    ]
-
 pub returns-clause-spot : goal.returns-clause-spot
 returns-clause-spot g c =
     elim c.match-fault.branch [
-      | in-BadLine w ↦ script_spot c.args.text.now c.args.fault _ _ c.in_ok-found.field-0.spot w.in-BadLine.is w.number-is c.in_ok-found.ensures
-      | in-BadLine-2 w ↦ script_spot c.args.text.now c.args.fault _ _ c.in_ok-found.field-0.spot w.in-BadLine.is w.number-is c.in_ok-found.ensures
-      | in-BadLine-3 w ↦ script_spot c.args.text.now c.args.fault _ _ c.in_ok-found.field-0.spot w.in-BadLine.is w.number-is c.in_ok-found.ensures
-      | in-BadLine-4 w ↦ script_spot c.args.text.now c.args.fault _ _ c.in_ok-found.field-0.spot w.in-BadLine.is w.number-is c.in_ok-found.ensures
-      | in-BadLine-5 w ↦ script_spot c.args.text.now c.args.fault _ _ c.in_ok-found.field-0.spot w.in-BadLine.is w.number-is c.in_ok-found.ensures
+      | in-BadLine w ↦ script_spot c.args.text.now c.args.fault _ _ c.in_ok-line_finding.field-0.spot w.in-BadLine.is w.number-is c.in_ok-line_finding.ensures
+      | in-BadLine-2 w ↦ script_spot c.args.text.now c.args.fault _ _ c.in_ok-line_finding.field-0.spot w.in-BadLine.is w.number-is c.in_ok-line_finding.ensures
+      | in-BadLine-3 w ↦ script_spot c.args.text.now c.args.fault _ _ c.in_ok-line_finding.field-0.spot w.in-BadLine.is w.number-is c.in_ok-line_finding.ensures
+      | in-BadLine-4 w ↦ script_spot c.args.text.now c.args.fault _ _ c.in_ok-line_finding.field-0.spot w.in-BadLine.is w.number-is c.in_ok-line_finding.ensures
+      | in-BadLine-5 w ↦ script_spot c.args.text.now c.args.fault _ _ c.in_ok-line_finding.field-0.spot w.in-BadLine.is w.number-is c.in_ok-line_finding.ensures
     ]
