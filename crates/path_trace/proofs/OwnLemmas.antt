@@ -17,7 +17,7 @@ use Rattle.path_streams.specs.Writes.{AppendsSome, IsFrontOf}
 use Rattle.path_trace.specs.Traces.{IsTraceOf, IsTraceOfTexts, IsUnopened, own_states}
 use Rattle.path_trace.proofs.FailLemmas.{told_so}
 
-abbrev pub undeclared : Resource
+abbrev undeclared : Resource
 undeclared = record { name = []; law = Cell }
 
 own_at : (d : Declaration) (r : ℕ) (s : State) → r < length d.resources → get_or (own_states d) r s ≡ opening_state (law_of d r)
