@@ -52,25 +52,47 @@ pub(crate) fn with(code: u32, number: u64) -> Answer
     Answer { code, number }
 }
 
+/// The code of a reply.
+#[inline(always)]
+fn code_of(reply: Reply) -> u32
+    ensures { result ≡ (reply_answer reply).code }
+{
+    match reply {
+        Reply::Started(_) => 1,
+        Reply::Blocked(_) => 2,
+        Reply::UnknownOperation => 3,
+        Reply::Used(_) => 4,
+        Reply::NotOffered => 5,
+        Reply::Empty => 6,
+        Reply::Full => 7,
+        Reply::Overflow => 8,
+        Reply::DeviceFailed => 9,
+        Reply::Finished => 10,
+        Reply::Stale => 11,
+        Reply::NotYours => 12,
+        Reply::NoRoom => 13,
+    }
+}
+
+/// The number that a reply says, or 0.
+#[inline(always)]
+fn number_of(reply: Reply) -> u64
+    ensures { result ≡ (reply_answer reply).number }
+{
+    match reply {
+        Reply::Started(act) => act.0,
+        Reply::Blocked(path) => u64::from(path.0),
+        Reply::Used(number) => number,
+        _ => 0,
+    }
+}
+
 /// The answer of a reply.
+#[inline(always)]
 pub(crate) fn replied(reply: Reply) -> Answer
     ensures { result ≡ reply_answer reply }
 {
-    match reply {
-        Reply::Started(act) => with(1, act.0),
-        Reply::Blocked(path) => with(2, u64::from(path.0)),
-        Reply::UnknownOperation => plainly(3),
-        Reply::Used(number) => with(4, number),
-        Reply::NotOffered => plainly(5),
-        Reply::Empty => plainly(6),
-        Reply::Full => plainly(7),
-        Reply::Overflow => plainly(8),
-        Reply::DeviceFailed => plainly(9),
-        Reply::Finished => plainly(10),
-        Reply::Stale => plainly(11),
-        Reply::NotYours => plainly(12),
-        Reply::NoRoom => plainly(13),
-    }
+    with(code_of(reply), number_of(reply))
 }
 
 /// The answer of whether an operation may start.

@@ -28,6 +28,7 @@ fn verb_of(code: u32, number: u64) -> Option<Verb>
 }
 
 /// One attempt at the service of a handle.
+#[inline(always)]
 fn step(alloc: Global, handle: &mut Handle, worker: u32, attempt: Attempt) -> Answer
     ensures live { handle.new.live ≡ handle.old.live }
     ensures closed { handle.old.live ≡ false → result ≡ closed }

@@ -116,12 +116,24 @@ impl Handle {
         }
     }
 
+    /// The service of an open handle.
+    fn into_open(self) -> Box<Service, Global>
+        requires { self.live ≡ true }
+        ensures { result.value ≡ self.held.account }
+    {
+        let Handle { held, live: _ } = self;
+        held.into_parts().into_box()
+    }
+
     /// Takes the service out, if there is one: the handle is closed then.
     pub(crate) fn take(&mut self, alloc: Global) -> Option<Box<Service, Global>>
         ensures result { MatchOption result (self.old.live ≡ false) (λ b. (self.old.live ≡ true) × (b.value ≡ self.old.held.account)) }
         ensures closed { self.new.live ≡ false }
     {
-        mem::replace(self, Handle::closed(alloc)).into_service()
+        if !self.live {
+            return None;
+        }
+        Some(mem::replace(self, Handle::closed(alloc)).into_open())
     }
 
     /// Puts a service into a closed handle. There is nothing in the old one that would have to be dropped.

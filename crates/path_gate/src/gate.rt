@@ -233,6 +233,7 @@ impl<A: Allocator + Copy> Gate<A> {
     /// Ends an execution of the operation, which must be in progress if a path names it. Without a path that names it, nothing changes.
     ///
     /// Allocates nothing. The cost is one pass over the paths that name the operation.
+    #[inline(always)]
     pub fn release(&mut self, op: OpId)
         requires { IsNamed self.old.paths op → 0 < slice_index self.old.in_progress op.0 }
         ensures moves { Released self.old op self.new }

@@ -102,6 +102,7 @@ impl<A: Allocator + Copy> Ledger<A> {
     ///
     /// Fails with `Stale` if no live activation has the number, and else with `NotYours` if it is another worker's; the ledger is
     /// then as it was. The cost is that of [`end`](Ledger::end).
+    #[inline(always)]
     pub fn end_own(&mut self, worker: u32, act: ActId) -> Result<Activation, EndFault>
         ensures told { result ≡ own_of worker (activation_of act self.old.live) }
         ensures ended { OnOk result (self.new ≡ record self.old { live = without act self.old.live }) }

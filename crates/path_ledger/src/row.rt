@@ -70,6 +70,7 @@ impl<A: Allocator + Copy> Row<A> {
 
     /// Removes and returns the activation at this index. The others keep their order. The cost is that of moving those before it or
     /// those behind it, whichever are fewer; so the last one moves none.
+    #[inline(always)]
     pub fn remove(&mut self, index: usize) -> Activation
         requires { index < length self.old.items }
         ensures value { result ≡ slice_index_or self.old.items index result }

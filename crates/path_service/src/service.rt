@@ -95,6 +95,7 @@ impl Service {
 
     /// Makes one attempt of a worker, as [`System::step`] does and at its cost, and returns the reply that is owed to it. It is never
     /// `DeviceFailed`. Allocates nothing.
+    #[inline(always)]
     pub fn step(&mut self, worker: u32, attempt: Attempt) -> Reply
         ensures { IsStep self.old worker attempt result self.new }
     {

@@ -205,6 +205,7 @@ impl<D: Device, A: Allocator + Copy> Parts<D, A> {
     }
 
     /// Finishes an activation. The caller has checked that there is room, or that none is needed. Searches for the activation once.
+    #[inline(always)]
     fn finish(&mut self, worker: u32, act: ActId) -> Reply
         requires { AreReady self.old }
         ensures moves { MovesFinish self.old worker act (activation_of act self.old.book.live) result self.new }
@@ -222,6 +223,7 @@ impl<D: Device, A: Allocator + Copy> Parts<D, A> {
 
     /// Replies to one attempt after `lines` lines, in a journal of this room. Allocates nothing. A use or a finish searches for its
     /// activation once.
+    #[inline(always)]
     pub fn answer(&mut self, room: u32, lines: u32, worker: u32, attempt: Attempt) -> Reply
         requires ready { AreReady self.old }
         requires few { lines + length self.old.book.live ≤ room }

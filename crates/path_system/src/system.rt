@@ -101,6 +101,7 @@ impl<D: Device, A: Allocator + Copy> System<D, A> {
     ///
     /// Allocates nothing. The cost is that of the gate for a start or a finish, and for a use or a finish a search among the live
     /// activations; a use also costs the device's own call.
+    #[inline(always)]
     pub fn step(&mut self, worker: u32, attempt: Attempt) -> Reply
         ensures owed { OwedBehind self.old.declaration self.old.room self.old.openings (joined self.old.earlier) self.old.journal
             worker attempt result }
