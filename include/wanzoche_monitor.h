@@ -51,7 +51,7 @@ extern "C" {
 /* How often a thread gives way before it sleeps. 0 is right for operations that
 ** take long. */
 #ifndef WANZOCHE_YIELDS
-#define WANZOCHE_YIELDS 3
+#define WANZOCHE_YIELDS 30
 #endif
 
 /* The threads that wait for one operation. */
