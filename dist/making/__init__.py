@@ -1,0 +1,1 @@
+"""How the generated assembly is made and checked. Its command is dist/make_dist."""
