@@ -87,6 +87,26 @@ wanzoche_answer wanzoche_finish(wanzoche *handle, uint32_t worker,
     return path_c_finish(handle, worker, activation);
 }
 
+uint32_t wanzoche_begin(wanzoche *handle, uint32_t worker, uint32_t operation,
+                        wanzoche_record *record) {
+    wanzoche_answer answer;
+    if (record == NULL) return WANZOCHE_STALE;
+    if (record->live) return WANZOCHE_NOT_YOURS;
+    answer = wanzoche_start(handle, worker, operation);
+    record->number = answer.number;
+    record->worker = worker;
+    record->live = answer.code == WANZOCHE_STARTED;
+    return answer.code;
+}
+
+uint32_t wanzoche_end(wanzoche *handle, wanzoche_record *record) {
+    wanzoche_answer answer;
+    if (record == NULL || !record->live) return WANZOCHE_STALE;
+    answer = wanzoche_finish(handle, record->worker, record->number);
+    record->live = false;
+    return answer.code;
+}
+
 wanzoche_answer wanzoche_can_start(wanzoche *handle, uint32_t operation) {
     if (handle == NULL) return closed;
     return path_c_can_start(handle, operation);
@@ -114,6 +134,16 @@ wanzoche_answer wanzoche_rotate(wanzoche *handle) {
     return path_c_rotate(handle);
 }
 
+wanzoche_answer wanzoche_rotate_at(wanzoche *handle, size_t lines,
+                                   uint64_t *rotations) {
+    wanzoche_answer answer = {WANZOCHE_TOO_SMALL, wanzoche_lines(handle)};
+    if (wanzoche_can_start(handle, 0).code == WANZOCHE_CLOSED) return closed;
+    if (answer.number != lines) return answer;
+    answer = wanzoche_rotate(handle);
+    if (rotations != NULL) *rotations += 1;
+    return answer;
+}
+
 wanzoche_answer wanzoche_report(wanzoche *handle, char *buffer, size_t size) {
     if (handle == NULL) return closed;
     return path_c_report(handle, buffer_at(buffer), length_of(buffer, size));
@@ -133,6 +163,10 @@ wanzoche_answer wanzoche_audit(const char *declaration, size_t length,
                         room, text_at(journal),
                         length_of(journal, journal_length),
                         buffer_at(message), length_of(message, size));
+}
+
+const char *wanzoche_version(void) {
+    return WANZOCHE_VERSION;
 }
 
 const char *wanzoche_words(uint32_t code) {

@@ -40,10 +40,12 @@
 ** caller, or by the start or the join of a thread. Calls on different
 ** handles need no order, nor does wanzoche_audit.
 **
-** FORKS AND SIGNALS. No function is called from a signal handler, nor, in a
-** process with several threads, by the child of a fork before it calls
-** exec. The child of a process with one thread has a copy of the handle,
-** which is its own.
+** FORKS AND SIGNALS. No function is called from a signal handler. The child of
+** a process with one thread has a copy of each handle, which is its own. The
+** child of one with several threads calls no function on a handle that was
+** open at the fork, since a thread that isn't there may have been in a call. It
+** may open others where the C library lets it call malloc, as glibc and musl
+** do.
 **
 ** MEMORY. A call allocates by the program's malloc, realloc and free, and
 ** only these calls do: wanzoche_open, wanzoche_journal, wanzoche_report,
@@ -69,6 +71,12 @@ extern "C" {
 #endif
 
 /*
+** The version of this header. That of the library that a program runs with is
+** wanzoche_version.
+*/
+#define WANZOCHE_VERSION "0.1.0"
+
+/*
 ** A system, or nothing. The fields are private.
 */
 typedef struct wanzoche {
@@ -85,6 +93,19 @@ typedef struct wanzoche_answer {
     uint32_t code;
     uint64_t number;
 } wanzoche_answer;
+
+/*
+** The record of one operation, begun by wanzoche_begin and ended by
+** wanzoche_end. All bytes are zero before it is begun first, and only these
+** two functions change it. While `live` is true the operation is in progress,
+** `number` is its activation, and `worker` who began it: what wanzoche_use
+** needs.
+*/
+typedef struct wanzoche_record {
+    uint64_t number;
+    uint32_t worker;
+    bool live;
+} wanzoche_record;
 
 /*
 ** The codes of answers. They never change their numbers.
@@ -250,6 +271,28 @@ wanzoche_answer wanzoche_finish(wanzoche *handle, uint32_t worker,
                                 uint64_t activation);
 
 /*
+** Start and finish an operation as above, with its activation kept in a record
+** of the caller, which is written before the call returns. So nothing is lost
+** if the caller's own flow can be cut off between a call and the store of its
+** answer, as it can in languages where a signal raises an exception.
+**
+** wanzoche_begin returns the codes of wanzoche_start. If it is
+** WANZOCHE_STARTED the operation is in progress; else the record's `number` is
+** that of the answer. If the record's operation is in progress already,
+** nothing is started, the record is as it was, and the code is
+** WANZOCHE_NOT_YOURS.
+**
+** wanzoche_end returns WANZOCHE_FINISHED once, and WANZOCHE_STALE if the
+** record's operation isn't in progress. It is over, too, if the handle was
+** closed meanwhile: WANZOCHE_CLOSED. The record may then be begun again.
+**
+** A null record is answered by WANZOCHE_STALE.
+*/
+uint32_t wanzoche_begin(wanzoche *handle, uint32_t worker, uint32_t operation,
+                        wanzoche_record *record);
+uint32_t wanzoche_end(wanzoche *handle, wanzoche_record *record);
+
+/*
 ** Whether a start of this operation would be admitted now, but for the room.
 ** Takes no line of the journal.
 **
@@ -289,6 +332,18 @@ wanzoche_answer wanzoche_journal(wanzoche *handle, char *buffer, size_t size);
 ** WANZOCHE_ROTATED, WANZOCHE_CLOSED
 */
 wanzoche_answer wanzoche_rotate(wanzoche *handle);
+
+/*
+** The same, if the journal has exactly so many lines: those that the caller
+** has put into a log while others went on. Unless it is null, `rotations` is
+** one more before the call returns, for a caller that can be cut off there.
+**
+** WANZOCHE_ROTATED, WANZOCHE_CLOSED
+** WANZOCHE_TOO_SMALL  there are more or fewer lines: the number says how many,
+**                     and nothing changed
+*/
+wanzoche_answer wanzoche_rotate_at(wanzoche *handle, size_t lines,
+                                   uint64_t *rotations);
 
 /*
 ** Write a report to a buffer, with the answers of wanzoche_journal: a line
@@ -340,6 +395,11 @@ wanzoche_answer wanzoche_audit(const char *declaration, size_t length,
 ** constant.
 */
 const char *wanzoche_words(uint32_t code);
+
+/*
+** The version of the library, as "0.1.0". The text is constant.
+*/
+const char *wanzoche_version(void);
 
 #ifdef __cplusplus
 }

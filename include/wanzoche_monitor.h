@@ -48,8 +48,10 @@
 extern "C" {
 #endif
 
-/* How often a thread gives way before it sleeps. 0 is right for operations that
-** take long. */
+/*
+** How often a thread gives way before it sleeps. 0 is right for operations that
+** take long.
+*/
 #ifndef WANZOCHE_YIELDS
 #define WANZOCHE_YIELDS 30
 #endif
@@ -60,7 +62,9 @@ typedef struct wanzoche_queue {
     unsigned waiting;
 } wanzoche_queue;
 
-/* The fields are private, but for `log` and `log_for`. */
+/*
+** A monitor. The fields are private, but for `log` and `log_for`.
+*/
 typedef struct wanzoche_monitor {
     wanzoche system;
     pthread_mutex_t lock;
@@ -71,7 +75,9 @@ typedef struct wanzoche_monitor {
     wanzoche_queue queues[WANZOCHE_MOST_OPERATIONS];
 } wanzoche_monitor;
 
-/* An operation in progress, for wanzoche_leave_entry. */
+/*
+** An operation in progress, for wanzoche_leave_entry.
+*/
 typedef struct wanzoche_entry {
     wanzoche_monitor *monitor;
     uint32_t worker;

@@ -1,59 +1,163 @@
-"""Packs the package for pip: its modules and the library that build_c made, for machines like this one. It needs nothing but Python."""
+"""Packs the package for pip: its modules, and the C library, which `make` builds from the sources of the repository.
+
+It needs Python, make and a C compiler, and nothing from the network. pip calls `build_wheel` and `build_sdist`. By hand:
+
+    python3 packing.py LIBRARY FOLDER     writes the wheel with this library into that folder
+
+The same files make the same bytes: a wheel's dates are that of SOURCE_DATE_EPOCH, or 1980.
+"""
+
+from __future__ import annotations
 
 import base64
+import gzip
 import hashlib
+import io
 import os
 import re
-import sysconfig
+import struct
+import subprocess
+import sys
+import tarfile
+import tempfile
+import time
 import zipfile
+from typing import Any, Dict, List, Optional
 
+HERE = os.path.dirname(os.path.abspath(__file__))
 PACKAGE = "wanzoche"
-LIBRARY = os.path.join(PACKAGE, "libwanzoche.so")
+LIBRARY = "libwanzoche.so"
+# What `make library` reads, in the repository and in a package of sources.
+SOURCES = ["Makefile", "VERSION", "c/wanzoche.c", "include/wanzoche.h", "include/wanzoche_monitor.h", "dist/system.c", "dist/NOTICE"]
+SOURCES += ["dist/{}/path_c.s".format(processor) for processor in ("x86_64", "aarch64")]
+# By the number of a processor in an ELF file.
+PROCESSORS = {62: "x86_64", 183: "aarch64"}
+# The oldest glibc that wheels are tagged for. It is the one of manylinux2014.
+OLDEST_GLIBC = (2, 17)
 
 
-def _project():
+def _read(*path: str) -> bytes:
+    with open(os.path.join(HERE, *path), "rb") as file:
+        return file.read()
+
+
+def _project() -> Dict[str, str]:
     """The texts of the table `project` in pyproject.toml, by their keys."""
-    with open("pyproject.toml", encoding="utf-8") as it:
-        table = it.read().split("[project]", 1)[1].split("\n[", 1)[0]
+    table = _read("pyproject.toml").decode().split("[project]", 1)[1].split("\n[", 1)[0]
     return dict(re.findall(r'^([\w-]+) = "(.*)"$', table, re.M))
 
 
-def _metadata(project):
-    with open(project["readme"], encoding="utf-8") as it:
-        readme = it.read()
+def _metadata(project: Dict[str, str]) -> bytes:
     head = ["Metadata-Version: 2.1", "Name: " + PACKAGE, "Version: " + project["version"], "Summary: " + project["description"]]
     head += ["Requires-Python: " + project["requires-python"], "Description-Content-Type: text/markdown"]
-    return "\n".join(head) + "\n\n" + readme
+    return "\n".join(head).encode() + b"\n\n" + _read(project["readme"])
 
 
-def build_wheel(wheel_directory, config_settings=None, metadata_directory=None):
-    """Writes the wheel into this folder, and returns its name. Called by pip."""
-    if not os.path.exists(LIBRARY):
-        raise FileNotFoundError("{} isn't there: run ./build_c at the top of the repository first".format(LIBRARY))
-    project = _project()
-    tag = "py3-none-" + re.sub(r"[^A-Za-z0-9]", "_", sysconfig.get_platform())
+def _sources() -> str:
+    """Where the library's sources are: in the repository around this folder, or beside this file in a package of sources."""
+    for folder in (os.path.dirname(HERE), os.path.join(HERE, "library")):
+        if all(os.path.exists(os.path.join(folder, name)) for name in SOURCES):
+            return folder
+    raise FileNotFoundError(
+        "the sources of libwanzoche aren't around {}. pip before 21.3 copies the folder away from them: use a later pip, or run "
+        "`make wheel` at the top of the repository and install what it makes".format(HERE)
+    )
+
+
+def _built() -> bytes:
+    """The library, as `make` builds it now."""
+    with tempfile.TemporaryDirectory() as out:
+        made = subprocess.run(["make", "-C", _sources(), "OUT=" + out, "library"], stdout=subprocess.PIPE, stderr=subprocess.STDOUT)
+        if made.returncode:
+            raise RuntimeError("libwanzoche isn't built:\n" + made.stdout.decode(errors="replace"))
+        with open(os.path.join(out, "lib", LIBRARY), "rb") as file:
+            return file.read()
+
+
+def tag_of(library: bytes) -> str:
+    """The tag of a wheel with this library: its processor, and the oldest glibc that has what it needs.
+
+    A library for another C library, or for a glibc that none of the names tells, is tagged for Linux of its processor, as built here.
+    """
+    processor = PROCESSORS[struct.unpack_from("<H", library, 18)[0]]
+    if b"libc.so.6\0" not in library:
+        return "py3-none-linux_" + processor
+    needed = [(int(major), int(minor)) for major, minor in re.findall(rb"\0GLIBC_(\d+)\.(\d+)", library)]
+    if max(needed, default=OLDEST_GLIBC) > OLDEST_GLIBC:
+        return "py3-none-manylinux_{}_{}_{}".format(*max(needed), processor)
+    return "py3-none-manylinux_2_17_{0}.manylinux2014_{0}".format(processor)
+
+
+def _record(files: Dict[str, bytes], name: str) -> bytes:
+    """The list of a wheel's files, which is one of them."""
+    rows = []
+    for path, content in files.items():
+        digest = base64.urlsafe_b64encode(hashlib.sha256(content).digest()).rstrip(b"=").decode()
+        rows.append("{},sha256={},{}\n".format(path, digest, len(content)))
+    return ("".join(rows) + name + ",,\n").encode()
+
+
+def _modules() -> List[str]:
+    return sorted(name for name in os.listdir(os.path.join(HERE, PACKAGE)) if name.endswith((".py", ".pyi", ".typed")))
+
+
+def _date() -> int:
+    """The date of all files, in seconds of Unix: the first that a wheel can tell, unless the environment names another."""
+    return max(int(os.environ.get("SOURCE_DATE_EPOCH", 0)), 315532800)
+
+
+def write_wheel(library: bytes, folder: str) -> str:
+    """Writes the wheel with this library into a folder, and returns its name."""
+    project, tag = _project(), tag_of(library)
     own = "{}-{}".format(PACKAGE, project["version"])
     info = own + ".dist-info/"
-    files = {}
-    for name in sorted(os.listdir(PACKAGE)):
-        if name.endswith((".py", ".typed", ".so")):
-            with open(os.path.join(PACKAGE, name), "rb") as it:
-                files["{}/{}".format(PACKAGE, name)] = it.read()
-    files[info + "METADATA"] = _metadata(project).encode()
-    wheel = "Wheel-Version: 1.0\nGenerator: {} {}\nRoot-Is-Purelib: false\nTag: {}\n"
-    files[info + "WHEEL"] = wheel.format(PACKAGE, project["version"], tag).encode()
-    record = []
-    for name, content in files.items():
-        sum = base64.urlsafe_b64encode(hashlib.sha256(content).digest()).rstrip(b"=").decode()
-        record.append("{},sha256={},{}\n".format(name, sum, len(content)))
-    files[info + "RECORD"] = ("".join(record) + info + "RECORD,,\n").encode()
+    files = {"{}/{}".format(PACKAGE, name): _read(PACKAGE, name) for name in _modules()}
+    files["{}/{}".format(PACKAGE, LIBRARY)] = library
+    files[info + "METADATA"] = _metadata(project)
+    python, abi, platforms = tag.split("-")
+    tags = "".join("Tag: {}-{}-{}\n".format(python, abi, platform) for platform in platforms.split("."))
+    files[info + "WHEEL"] = ("Wheel-Version: 1.0\nGenerator: {} {}\nRoot-Is-Purelib: false\n".format(PACKAGE, project["version"]) + tags).encode()
+    files[info + "RECORD"] = _record(files, info + "RECORD")
     made = "{}-{}.whl".format(own, tag)
-    with zipfile.ZipFile(os.path.join(wheel_directory, made), "w", zipfile.ZIP_DEFLATED) as it:
+    with zipfile.ZipFile(os.path.join(folder, made), "w", zipfile.ZIP_DEFLATED) as wheel:
         for name, content in files.items():
-            it.writestr(name, content)
+            entry = zipfile.ZipInfo(name, time.gmtime(_date())[:6])
+            entry.compress_type = zipfile.ZIP_DEFLATED
+            entry.external_attr = (0o100755 if name.endswith(".so") else 0o100644) << 16
+            wheel.writestr(entry, content)
     return made
 
 
-def build_sdist(sdist_directory, config_settings=None):
-    """There is none, since the library isn't built from a package's sources."""
-    raise NotImplementedError("the package is packed with its library: pip wheel ./python makes a wheel")
+def build_wheel(wheel_directory: str, config_settings: Any = None, metadata_directory: Optional[str] = None) -> str:
+    """Builds the library, writes the wheel into this folder, and returns its name. Called by pip."""
+    return write_wheel(_built(), wheel_directory)
+
+
+def build_sdist(sdist_directory: str, config_settings: Any = None) -> str:
+    """Writes a package of sources, from which pip builds the library, into this folder, and returns its name. Called by `build`."""
+    project, sources = _project(), _sources()
+    own = "{}-{}".format(PACKAGE, project["version"])
+    files = {"PKG-INFO": _metadata(project), **{name: _read(name) for name in ("pyproject.toml", "packing.py", project["readme"])}}
+    files.update({"{}/{}".format(PACKAGE, name): _read(PACKAGE, name) for name in _modules()})
+    for name in SOURCES:
+        with open(os.path.join(sources, name), "rb") as file:
+            files["library/" + name] = file.read()
+    made = own + ".tar.gz"
+    packed = io.BytesIO()
+    with tarfile.open(fileobj=packed, mode="w") as tar:
+        for name, content in files.items():
+            entry = tarfile.TarInfo("{}/{}".format(own, name))
+            entry.size, entry.mtime = len(content), _date()
+            tar.addfile(entry, io.BytesIO(content))
+    with open(os.path.join(sdist_directory, made), "wb") as file:
+        file.write(gzip.compress(packed.getvalue()))
+    return made
+
+
+def main(library: str, folder: str) -> None:
+    with open(library, "rb") as file:
+        print(os.path.join(folder, write_wheel(file.read(), folder)))
+
+
+if __name__ == "__main__":
+    main(*sys.argv[1:])

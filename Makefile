@@ -1,0 +1,183 @@
+# Builds the program and the C library from the generated assembly in dist/: a C compiler with its binutils and make are all it takes.
+#
+#   make              the program, the C library (static and shared) and wanzoche.pc, in out/
+#   make example      the same, and then runs a stored example
+#   make test         the examples and the tests of the program, the C library, the Python package and the web page
+#   make install      to PREFIX (/usr/local), below DESTDIR if that is set; make uninstall takes the same files away
+#   make wheel        the Python package with its library, for pip
+#   make deb          a package for Debian and its like
+#   make release      all that is published, with checksums; packaging/release says what it needs
+#   make prove        the merge gate: proves every function again; needs the toolchain that docs/proofs.md speaks of
+#   make clean        removes out/
+#
+# Variables: CC (cc), CFLAGS (-O2), LDFLAGS, OUT (out), STATIC=1 (a static program), PREFIX, DESTDIR, LIBDIR (lib, below PREFIX),
+# PYTHON (python3). A cross compiler as CC, as in `make CC=aarch64-linux-gnu-gcc OUT=out/aarch64`, builds for its processor.
+
+CC ?= cc
+CFLAGS ?= -O2
+OUT ?= out
+PREFIX ?= /usr/local
+LIBDIR ?= lib
+PYTHON ?= python3
+INSTALL ?= install
+
+machine := $(shell $(CC) -dumpmachine)
+CPU ?= $(subst amd64,x86_64,$(subst arm64,aarch64,$(firstword $(subst -, ,$(machine)))))
+AR := $(shell $(CC) -print-prog-name=ar)
+OBJCOPY := $(shell $(CC) -print-prog-name=objcopy)
+version := $(shell cat VERSION)
+
+bin := $(OUT)/bin
+lib := $(OUT)/lib
+work := $(OUT)/work
+program := $(bin)/pathsys
+static_library := $(lib)/libwanzoche.a
+shared_library := $(lib)/libwanzoche.so.0
+headers := $(OUT)/include/wanzoche.h $(OUT)/include/wanzoche_monitor.h
+pc := $(lib)/pkgconfig/wanzoche.pc
+library := $(static_library) $(lib)/libwanzoche.so $(headers) $(pc)
+
+c_flags := -std=c11 -fPIC -ffunction-sections -Wall -Wextra -Iinclude $(CFLAGS)
+static := $(if $(STATIC),-static)
+comma := ,
+# Only glibc hands the words of the command line to what runs before main (dist/system.c).
+wrap := $(if $(findstring musl,$(machine) $(CC)),-Wl$(comma)--wrap=main)
+
+all: $(program) library
+
+library: $(library)
+
+ifeq ($(wildcard dist/$(CPU)/path_c.s),)
+$(work)/%.o:
+	@echo "dist/ has assembly for $(patsubst dist/%/path_c.s,%,$(wildcard dist/*/path_c.s)), and none for $(machine): docs/install.md says what can be done" >&2
+	@false
+endif
+
+$(work)/%.o: dist/$(CPU)/%.s
+	@mkdir -p $(@D)
+	$(CC) -c $< -o $@
+
+$(work)/system.o: dist/system.c
+	@mkdir -p $(@D)
+	$(CC) $(c_flags) -c $< -o $@
+
+$(work)/memory.o: dist/system.c
+	@mkdir -p $(@D)
+	$(CC) $(c_flags) -DLIBRARY -c $< -o $@
+
+$(work)/names.o: c/wanzoche.c include/wanzoche.h
+	@mkdir -p $(@D)
+	$(CC) $(c_flags) -c $< -o $@
+
+$(program): $(work)/pathsys.o $(work)/system.o
+	@mkdir -p $(@D)
+	$(CC) $(CFLAGS) $(LDFLAGS) $(static) -Wl,--gc-sections $(wrap) $^ -lpthread -o $@
+
+# One object of three, of which only the names of wanzoche.h stay.
+$(work)/wanzoche.o: $(work)/path_c.o $(work)/memory.o $(work)/names.o
+	$(CC) -nostdlib -r -o $@ $^
+	$(OBJCOPY) --wildcard --keep-global-symbol='wanzoche_*' $@
+
+$(static_library): $(work)/wanzoche.o
+	@mkdir -p $(@D)
+	rm -f $@
+	$(AR) rcsD $@ $<
+
+$(shared_library): $(work)/wanzoche.o
+	@mkdir -p $(@D)
+	echo '{ global: wanzoche_*; local: *; };' > $(work)/shown
+	$(CC) $(CFLAGS) $(LDFLAGS) -shared -Wl,-z,defs -Wl,--gc-sections -Wl,-soname,$(@F) -Wl,--version-script=$(work)/shown $< -o $@
+
+$(lib)/libwanzoche.so: $(shared_library)
+	ln -sf $(<F) $@
+
+$(OUT)/include/%.h: include/%.h
+	@mkdir -p $(@D)
+	cp $< $@
+
+# The text of wanzoche.pc. In out/ its paths are told from where it lies, so that the folder may be moved.
+define pc_text
+prefix=$(1)
+libdir=$${prefix}/$(2)
+includedir=$${prefix}/include
+
+Name: wanzoche
+Description: Path expressions: in which order operations may run
+Version: $(version)
+Cflags: -I$${includedir}
+Libs: -L$${libdir} -lwanzoche
+Libs.private: -lpthread
+endef
+export pc_of_out := $(call pc_text,$${pcfiledir}/../..,lib)
+export pc_of_prefix := $(call pc_text,$(PREFIX),$(LIBDIR))
+
+$(pc): Makefile VERSION
+	@mkdir -p $(@D)
+	printenv pc_of_out > $@
+
+example: $(program)
+	$(program) < crates/pathsys/stdin > $(work)/example
+	@cat $(work)/example
+	@cmp $(work)/example crates/pathsys/stdout
+
+test: all test_program test_library test_package test_page
+	@echo "make test: all passed"
+
+test_program: $(program)
+	examples/run $(program)
+	examples/follow_test $(program)
+
+test_library: library
+	c/tests/run $(OUT)
+
+test_package: library
+	PYTHONS="$(PYTHONS)" python/tests/run $(OUT)
+
+test_page:
+	@if command -v node > /dev/null; then page/test; else echo "there is no Node, so the page's tests are left out"; fi
+
+prove:
+	mkdir -p $(OUT)
+	rt ci > $(OUT)/gate.log 2>&1 || { tail -n 40 $(OUT)/gate.log; false; }
+	@tail -n 1 $(OUT)/gate.log
+
+to := $(DESTDIR)$(PREFIX)
+pages := $(wildcard docs/*.md)
+installed := bin/pathsys \
+    $(LIBDIR)/libwanzoche.a $(LIBDIR)/libwanzoche.so.0 $(LIBDIR)/libwanzoche.so $(LIBDIR)/pkgconfig/wanzoche.pc \
+    include/wanzoche.h include/wanzoche_monitor.h \
+    share/man/man1/pathsys.1 share/man/man3/wanzoche.3 \
+    share/bash-completion/completions/pathsys share/zsh/site-functions/_pathsys share/fish/vendor_completions.d/pathsys.fish
+
+install: all
+	$(INSTALL) -d $(addprefix $(to)/,$(sort $(dir $(installed)))) $(to)/share/doc/wanzoche
+	$(INSTALL) -m 755 $(program) $(to)/bin/
+	$(INSTALL) -m 644 $(static_library) $(shared_library) $(to)/$(LIBDIR)/
+	ln -sf libwanzoche.so.0 $(to)/$(LIBDIR)/libwanzoche.so
+	printenv pc_of_prefix > $(to)/$(LIBDIR)/pkgconfig/wanzoche.pc
+	$(INSTALL) -m 644 $(headers) $(to)/include/
+	$(INSTALL) -m 644 man/pathsys.1 $(to)/share/man/man1/
+	$(INSTALL) -m 644 man/wanzoche.3 $(to)/share/man/man3/
+	$(INSTALL) -m 644 completions/pathsys.bash $(to)/share/bash-completion/completions/pathsys
+	$(INSTALL) -m 644 completions/_pathsys $(to)/share/zsh/site-functions/
+	$(INSTALL) -m 644 completions/pathsys.fish $(to)/share/fish/vendor_completions.d/
+	$(INSTALL) -m 644 README.md CHANGELOG.md dist/NOTICE $(pages) docs/page.png $(to)/share/doc/wanzoche/
+
+uninstall:
+	rm -f $(addprefix $(to)/,$(installed))
+	rm -rf $(to)/share/doc/wanzoche
+
+wheel: library
+	$(PYTHON) python/packing.py $(shared_library) $(OUT)
+
+deb: all
+	packaging/deb $(OUT) $(CPU)
+
+release:
+	packaging/release $(OUT)
+
+clean:
+	rm -rf $(OUT)
+
+.PHONY: all library example test test_program test_library test_package test_page prove install uninstall wheel deb release clean
+.DELETE_ON_ERROR:
