@@ -1,0 +1,149 @@
+"""The commands and options of pathsys as a table, read from its help.
+
+The help is the one source: the man page and the completions are made of this table. So a command or an option that the program gets
+is in both of them as soon as they are made again.
+"""
+
+from __future__ import annotations
+
+import re
+import subprocess
+from typing import Dict, Iterator, List, NamedTuple, Optional, Tuple
+
+_HEADING = re.compile(r"^(Commands|Arguments|Options):$")
+# An item of a list: what it is called, and behind two spaces or in the lines below what is said of it.
+_ITEM = re.compile(r"^ {2,6}([^ ].*?)(?:  +(.*))?$")
+_LATER_LINE = re.compile(r"^ {8,}(.*)$")
+_DEFAULT = re.compile(r" *\[default: ([^\]]*)\]$")
+_IN_PLACE_OF = re.compile(r"\bin place of (\w+)")
+
+
+class HelpFault(Exception):
+    """The help has something that nothing here can read: the text says what."""
+
+
+class Argument(NamedTuple):
+    """A word that a command takes by its place."""
+
+    name: str
+    help: str
+    required: bool
+    several: bool
+
+
+class Option(NamedTuple):
+    """An option: `names` are its spellings, the long one last; `value` is None if it takes none."""
+
+    names: List[str]
+    value: Optional[str]
+    help: str
+    default: Optional[str]
+
+
+class Command(NamedTuple):
+    """A command, or the program itself. `more` are the lines of its help below the options."""
+
+    name: str
+    about: str
+    arguments: List[Argument]
+    options: List[Option]
+    more: List[str]
+
+
+class Program(NamedTuple):
+    """The program and its commands. `help` is what its help says of the command `help`, which isn't among them."""
+
+    itself: Command
+    commands: List[Command]
+    help: str
+
+
+def _lists(lines: List[str]) -> Iterator[Tuple[str, List[str]]]:
+    """The lists of a help text: each heading with the lines up to the next empty one."""
+    for at, line in enumerate(lines):
+        heading = _HEADING.match(line)
+        if heading:
+            below = lines[at + 1 :]
+            yield heading.group(1), below[: below.index("")] if "" in below else below
+
+
+def _items(lines: List[str]) -> List[Tuple[str, str]]:
+    """The items of a list: what each is called, and what is said of it, in one line."""
+    items: List[Tuple[str, str]] = []
+    for line in lines:
+        item, later = _ITEM.match(line), _LATER_LINE.match(line)
+        if later and items:
+            called, said = items[-1]
+            items[-1] = called, (said + " " + later.group(1)).strip()
+        elif item:
+            items.append((item.group(1), item.group(2) or ""))
+        else:
+            raise HelpFault("no item of a list: {!r}".format(line))
+    return items
+
+
+def _argument(called: str, said: str) -> Argument:
+    """An argument, as `<DECL>`, `[ATTEMPTS]` or `<JOURNAL>...`."""
+    parts = re.match(r"^(?:<(\w+)>|\[(\w+)\])(\.\.\.)?$", called)
+    if not parts:
+        raise HelpFault("no argument: {!r}".format(called))
+    return Argument(parts.group(1) or parts.group(2), said, parts.group(1) is not None, parts.group(3) is not None)
+
+
+def _option(called: str, said: str) -> Option:
+    """An option, as `-h, --help` or `--room <N>`."""
+    parts = re.match(r"^((?:-\w, )?-(?:\w|-[\w-]+))(?: <(\w+)>)?$", called)
+    if not parts:
+        raise HelpFault("no option: {!r}".format(called))
+    default = _DEFAULT.search(said)
+    return Option(parts.group(1).split(", "), parts.group(2), _DEFAULT.sub("", said), default.group(1) if default else None)
+
+
+def command_of(name: str, text: str) -> Command:
+    """The command of this name whose help is this text. Raises HelpFault if a line of a list can't be read."""
+    lines = text.splitlines()
+    usage = next((at for at, line in enumerate(lines) if line.startswith("Usage:")), None)
+    if usage is None:
+        raise HelpFault("the help of {} has no line Usage".format(name))
+    about = " ".join(lines[:usage]).strip()
+    lists = dict(_lists(lines))
+    arguments = [_argument(*item) for item in _items(lists.get("Arguments", []))]
+    options = [_option(*item) for item in _items(lists.get("Options", []))]
+    if not options:
+        raise HelpFault("the help of {} has no options".format(name))
+    below = lines[lines.index("Options:") :]
+    more = below[below.index("") + 1 :] if "" in below else []
+    return Command(name, about, arguments, options, more)
+
+
+def commands_in(text: str) -> Dict[str, str]:
+    """The names of the commands that the program's help lists, with what it says of each."""
+    return dict(_items(dict(_lists(text.splitlines())).get("Commands", [])))
+
+
+def help_of(program: str, words: List[str]) -> str:
+    """What the program writes for these words and `--help`. It is called pathsys there, whatever its file is called."""
+    run = subprocess.run(["pathsys", *words, "--help"], executable=program, stdout=subprocess.PIPE, check=True)
+    return run.stdout.decode("utf-8")
+
+
+def read_program(program: str) -> Program:
+    """The table of the program in this file, which is run once for itself and once for each command."""
+    own = help_of(program, [])
+    listed = commands_in(own)
+    if "help" not in listed:
+        raise HelpFault("the help lists no command help")
+    commands = [command_of(name, help_of(program, [name])) for name in listed if name != "help"]
+    return Program(command_of("pathsys", own), commands, listed["help"])
+
+
+def stands_for(option: Option, command: Command) -> Optional[Argument]:
+    """The argument in whose place an option is given, as its help says: `in place of attempts`."""
+    said = _IN_PLACE_OF.search(option.help)
+    named = [argument for argument in command.arguments if said and argument.name.lower() == said.group(1)]
+    return named[0] if named else None
+
+
+def is_file(help: str) -> bool:
+    """Whether what an argument or a value is, in the words of the help, is a file."""
+    return help.startswith("the file of ")
