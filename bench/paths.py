@@ -1,6 +1,6 @@
 """What `with paths(..)` costs in Python beside a lock and a condition, in turn: the least and the median of the rounds, nanoseconds each.
 
-    ./build_c && PYTHONPATH=python python3 bench/paths.py
+    make library && WANZOCHE_LIBRARY=out/lib/libwanzoche.so PYTHONPATH=python python3 bench/paths.py
 """
 
 import statistics

@@ -73,6 +73,7 @@ def fill(sources, module, to):
         "MODULE": module,
         "SOURCES": sources,
         "EXAMPLES": json.dumps(examples(), ensure_ascii=False).replace("</", "<\\/"),
+        "VERSION": read(TOP, "VERSION").strip(),
         "SCRIPT_HASHES": allowed(parts[name] for name in CODE),
         "STYLE_HASHES": allowed([parts[STYLE]]),
     }

@@ -40,7 +40,7 @@ pub stays : (a s b : Account) (ls : List Line) (fs : List ℕ) → s ≡ rotated
 stays a s b ls fs e f sys pool =
     let d : b.declaration ≡ a.declaration = ap (λ x. x.declaration) f ∙ ap (λ x. x.declaration) e in
     let r : b.room ≡ a.room = ap (λ x. x.room) f ∙ ap (λ x. x.room) e in
-    record { declared = subst IsPoolDeclaration (sym d) pool.declared; roomy = subst (λ n. 6 ≤ n) (sym r) pool.roomy; system = sys }
+    record { declared = subst IsPoolDeclaration (sym d) pool.declared; roomy = subst (λ n. 5 ≤ n) (sym r) pool.roomy; system = sys }
 
 pub follows : (s : Account) (ls : List Line) → IsPool s → all_lines s ≡ ls → Follows pool_tree ls
 follows s ls pool view = follows_the_path s pool.system ls view pool_tree pool.declared.path pool_formed
@@ -53,4 +53,7 @@ pub roomy : (s : Account) (ls : List Line) → IsPool s → all_lines s ≡ ls �
 roomy s ls pool view fresh =
     let counted = subst (λ n. taken_behind (joined s.earlier) s.journal ≡ length s.journal + live_among n (live ls)) pool.declared.operations (places_taken s pool.system ls view) in
     let k = limits ls (follows s ls pool view) in
-    omega (arith, counted, k.few, k.one, pool.roomy, ap length fresh)
+    elim (cases_lt 0 (backups ls)) [
+      | inl b ↦ omega (arith, counted, k.alone b, k.one, pool.roomy, ap length fresh)
+      | inr b ↦ omega (arith, counted, b, k.few, pool.roomy, ap length fresh)
+    ]

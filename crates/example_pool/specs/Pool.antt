@@ -29,7 +29,7 @@ pub record IsPoolDeclaration (d : Declaration) : Type 0 where
 -- what always holds of a pool's system: there is room for the next start, also when all that may be live is
 pub record IsPool (account : Account) : Type 0 where
   pub declared : IsPoolDeclaration account.declaration
-  pub roomy : 6 ≤ account.room
+  pub roomy : 5 ≤ account.room
   pub system : IsSystem account
 
 -- how many queries and how many backups have a connection

@@ -24,8 +24,8 @@ use std::marker::Model;
 const TEXT: &[u8] =
     b"resource pool tally operation query, backup path { query : 3 } , backup end end";
 
-/// Four connections that are in use, and two places for the next start.
-const ROOM: u32 = 6;
+/// Three connections that are in use, and two places for the next start.
+const ROOM: u32 = 5;
 
 /// Leave to use a connection, until the ticket is checked in.
 #[derive(Drop)]

@@ -1,5 +1,5 @@
 -- What stands against a start, and what doesn't.
-use Rattle.std.proofs.Common.{◌∙◌, ◌≡◌, [], ap, refl, subst, sym, arith, inl, inr}
+use Rattle.std.proofs.Common.{◌∙◌, ◌≡◌, [], ap, refl, subst, arith, inl, inr}
 use Rattle.std.proofs.lemmas.Result.{IfOk-weaker, IfErr-weaker}
 use Rattle.std.proofs.lemmas.Bool.{cases_lt}
 use Rattle.path_model.specs.declared.journal.Attempt.TheVariants.{Start}
