@@ -1,7 +1,11 @@
 """What entries, refusals, reports and journals are."""
 
+import concurrent.futures
+import copy
 import gc
+import multiprocessing
 import os
+import pickle
 import unittest
 import weakref
 
@@ -53,6 +57,14 @@ class Entries(unittest.TestCase):
             with write:
                 with self.assertRaises(RuntimeError):
                     write.__enter__()
+
+    def test_an_entry_that_nobody_holds_is_finished(self):
+        paths = Paths(BOOK)
+        with self.assertWarnsRegex(ResourceWarning, "^an entry of write was dropped in progress, and is finished now$"):
+            paths.enter("write")
+            gc.collect()
+        self.assertEqual(paths.report().live, ())
+        paths("write"), paths.enter("read").leave()  # not begun, and over
 
     def test_a_guarded_function_is_the_operation(self):
         paths = Paths(BOOK)
@@ -129,6 +141,109 @@ class Refusals(unittest.TestCase):
     def test_a_room_of_one_place_has_none_for_a_finish(self):
         with self.assertRaises(OutOfRoom):
             Paths(SLOT, room=1).enter("deposit")
+
+
+def late():
+    """In another process: a start that is refused."""
+    Paths(SLOT).enter("remove", timeout=0)
+
+
+def takes_nothing():
+    """From a cell, which doesn't offer that."""
+    with Paths(SLOT)("deposit") as entry:
+        entry.take()
+
+
+class Exceptions(unittest.TestCase):
+    """They can be copied, pickled, and raised in another process."""
+
+    def raised(self):
+        """One of each."""
+        for call in (
+            lambda: Paths("resource"),
+            lambda: Paths(" " * 65537),
+            lambda: wanzoche.audit(SLOT, "hello"),
+            lambda: Paths(SLOT)("steal"),
+            late,
+            lambda: Paths(SLOT)("deposit").leave(),
+            takes_nothing,
+            lambda: Paths(SLOT, room=1).enter("deposit"),
+        ):
+            with self.assertRaises(wanzoche.WanzocheError) as caught:
+                call()
+            yield caught.exception
+        yield Paths(SLOT).why("remove")
+        yield Closed("these paths were closed")
+        yield Forked("these paths belong to the parent")
+
+    def test_copies(self):
+        kinds = set()
+        for error in self.raised():
+            kinds.add(type(error))
+            error.more = [1]
+            for other in (copy.copy(error), copy.deepcopy(error), pickle.loads(pickle.dumps(error))):
+                self.assertIs(type(other), type(error))
+                self.assertEqual((str(other), other.args, other.__dict__), (str(error), error.args, error.__dict__))
+        self.assertEqual(len(kinds), 10)
+
+    def test_another_process(self):
+        with concurrent.futures.ProcessPoolExecutor(1, multiprocessing.get_context("spawn")) as pool:
+            error = pool.submit(late).exception(60)
+            self.assertIs(type(error), Timeout)
+            self.assertEqual((error.operation, error.path, error.resource, error.text), ("remove", 0, "slot", "deposit ; remove"))
+            self.assertIsNone(pool.submit(len, ()).exception(60))  # the pool goes on
+
+
+class Logs(unittest.TestCase):
+    def test_lines_that_come_while_the_log_is_written_go_to_it_too(self):
+        log, more = [], []
+
+        def slow(lines):
+            log.append(lines)
+            if more:
+                more.pop().leave()
+
+        paths = Paths(BOOK, room=8, log=slow)
+        more += [paths.enter("read") for _ in range(3)]
+        paths.rotate()
+        self.assertEqual([part.count("\n") for part in log], [3, 1, 1, 1])
+        self.assertEqual(paths.journal(), "")
+        self.assertTrue(paths.audit("".join(log)))
+
+    def test_a_log_that_raises_gets_only_what_it_has_not(self):
+        log, more, full = [], [], [False, True]
+
+        def fails_once(lines):
+            if full.pop(0) if full else False:
+                raise OSError("the disk is full")
+            log.append(lines)
+            if more:
+                more.pop().leave()
+
+        paths = Paths(BOOK, log=fails_once)
+        more.append(paths.enter("read"))
+        with self.assertRaises(OSError):
+            paths.rotate()
+        self.assertEqual((log, paths.journal()), (["1 start read: started 0\n"], "1 finish 0: finished\n"))
+        with self.assertRaises(ValueError):
+            paths.audit()
+        paths.rotate()
+        self.assertEqual((log[1:], paths.journal()), (["1 finish 0: finished\n"], ""))
+
+    def test_a_log_may_ask_but_not_rotate(self):
+        told = []
+
+        def asks(lines):
+            told.append((lines, paths.report().startable, paths.journal()))
+            with self.assertRaisesRegex(RuntimeError, "^this thread is rotating these paths: "):
+                paths.rotate()
+
+        paths = Paths(SLOT, log=asks)
+        with paths("deposit"):
+            pass
+        lines = paths.journal()
+        paths.rotate()
+        self.assertEqual((told, paths.journal()), ([(lines, ("remove",), lines)], ""))
 
 
 class Texts(unittest.TestCase):
@@ -210,23 +325,33 @@ class Ends(unittest.TestCase):
             entry.put(3)
 
     @unittest.skipUnless(hasattr(os, "fork"), "there is no fork")
-    def test_a_forked_child_has_to_open_its_own(self):
+    def test_in_a_forked_child_each_call_says_so(self):
         paths = Paths(SLOT)
-        with paths("deposit"):
-            child = os.fork()
-            if child == 0:
-                status = 1
-                try:
-                    try:
-                        paths.enter("remove", timeout=0)
-                    except Forked:
-                        with Paths(SLOT)("deposit"):
-                            status = 0
-                finally:
-                    os._exit(status)
-            self.assertEqual(os.waitpid(child, 0)[1], 0)
+        entry, unused = paths.enter("deposit"), paths("remove")
+        calls = [
+            lambda: paths("remove"), lambda: paths.aio("remove"), lambda: paths.enter("remove"), lambda: paths.try_enter("remove"),
+            lambda: paths.guards("remove"), lambda: paths.can_start("remove"), lambda: paths.why("remove"), paths.report, paths.journal,
+            paths.rotate, paths.audit, lambda: paths.audit(""), unused.__enter__, lambda: entry.put(1), entry.leave,
+        ]
+        child = os.fork()
+        if child == 0:
+            told = [self.forked(call) for call in calls]
+            paths.close()  # does nothing
+            with Paths(SLOT)("deposit"):
+                os._exit(0 if told == [True] * len(calls) else 1)
+        self.assertEqual(os.waitpid(child, 0)[1], 0)
+        entry.leave()
         with paths("remove"):
             pass
+        self.assertTrue(paths.audit())
+
+    @staticmethod
+    def forked(call):
+        try:
+            call()
+        except Forked:
+            return True
+        return False
 
 
 if __name__ == "__main__":

@@ -2,6 +2,7 @@
 
 import asyncio
 import threading
+import time
 import unittest
 
 from wanzoche import Paths, Timeout
@@ -127,6 +128,68 @@ class Tasks(unittest.TestCase):
         asyncio.run(main())
         thread.join(10)
         self.assertTrue(paths.audit())
+
+    def test_a_loop_that_has_ended_holds_nobody_up(self):
+        for close in (False, True):
+            paths = Paths(SLOT)
+            loop = asyncio.new_event_loop()
+            left = loop.create_task(self.remove(paths))
+            loop.run_until_complete(asyncio.sleep(0.01))
+            self.assertEqual(len(paths._queues.waiters), 1)
+            if close:
+                loop.close()
+            thread = threading.Thread(target=lambda: paths.enter("remove").leave())
+            thread.start()
+            while all(each.loop for each in list(paths._queues.waiters)):
+                time.sleep(0.001)
+
+            async def main():
+                waiting = asyncio.ensure_future(self.remove(paths))
+                await asyncio.sleep(0.01)
+                for _ in range(2):
+                    async with paths.aio("deposit", timeout=20):
+                        pass
+                await asyncio.wait_for(waiting, 20)
+
+            asyncio.run(main())
+            thread.join(20)
+            self.assertFalse(thread.is_alive())
+            with paths("deposit"):
+                pass
+            if not close:  # it may go on, and then has its turn
+                loop.run_until_complete(asyncio.wait_for(left, 20))
+                loop.close()
+            left._log_destroy_pending = False
+
+    def test_an_entry_that_is_cancelled_before_each_step(self):
+        paths = Paths(SLOT)
+
+        async def main(steps):
+            waiting = asyncio.ensure_future(self.remove(paths))
+            other = asyncio.ensure_future(self.remove(paths))
+            deposit = asyncio.ensure_future(self.deposit(paths))
+            for _ in range(steps):
+                await asyncio.sleep(0)
+            cancelled = waiting.cancel()
+            await asyncio.wait([waiting, deposit])
+            if waiting.cancelled():
+                await asyncio.wait_for(other, 20)
+            else:
+                other.cancel()
+            return cancelled
+
+        steps = 0
+        while asyncio.run(main(steps)):
+            self.assertEqual((paths.report().live, len(paths._queues.waiters)), ((), 0))
+            if paths.can_start("remove"):
+                paths.enter("remove").leave()
+            steps += 1
+        self.assertGreater(steps, 2)
+
+    @staticmethod
+    async def deposit(paths):
+        async with paths.aio("deposit"):
+            pass
 
     @staticmethod
     async def remove(paths):

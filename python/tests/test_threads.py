@@ -4,7 +4,7 @@ import threading
 import time
 import unittest
 
-from wanzoche import Closed, Paths, Timeout
+from wanzoche import Closed, NotInProgress, Paths, Timeout
 
 from .declarations import BOOK, LINE, SLOT
 
@@ -110,12 +110,85 @@ class Threads(unittest.TestCase):
         threads = [threading.Thread(target=work, args=(n,)) for n in range(4)]
         for thread in threads:
             thread.start()
-        while paths._waiting < 4:
+        while len(paths._queues.waiters) < 4:
             time.sleep(0.001)
         paths.close()
         for thread in threads:
             thread.join(10)
         self.assertEqual(len(told), 4)
+
+    def test_one_entry_is_entered_by_one_thread_at_a_time(self):
+        paths = Paths(BOOK)
+        entry, within, refused = paths("write"), [0], []
+
+        def work(_):
+            for _ in range(2000):
+                try:
+                    with entry:
+                        within[0] += 1
+                        alone = within[0] == 1
+                        within[0] -= 1
+                        self.assertTrue(alone)
+                except RuntimeError as error:
+                    refused.append(error)
+
+        run(4, work)
+        with entry:
+            run(1, lambda _: self.assertRaisesRegex(RuntimeError, "^this entry of write is in progress already$", entry.__enter__))
+        self.assertEqual(paths.report().live, ())
+        self.assertTrue(paths.audit())
+
+    def test_one_entry_is_left_by_one_thread(self):
+        paths = Paths(BOOK, room=1048576)
+        for _ in range(300):
+            entry, left = paths.enter("write"), []
+
+            def leave(_):
+                try:
+                    entry.leave()
+                    left.append(True)
+                except NotInProgress:
+                    pass
+
+            run(4, leave)
+            self.assertEqual(left, [True])
+        self.assertEqual(paths.report().live, ())
+
+    def test_a_finish_that_frees_two_operations_wakes_both(self):
+        paths = Paths("resource r cell operation x, y, z path x ; y end path x ; z end end")
+        done = []
+
+        def waits(name):
+            with paths(name):
+                done.append(name)
+
+        threads = [threading.Thread(target=waits, args=(name,)) for name in ("y", "z")]
+        for thread in threads:
+            thread.start()
+        while len(paths._queues.waiters) < 2:
+            time.sleep(0.001)
+        paths.enter("x").leave()
+        for thread in threads:
+            thread.join(20)
+        self.assertEqual(sorted(done), ["y", "z"])
+
+    def test_readers_that_wait_are_all_woken(self):
+        paths = Paths(BOOK)
+        inside = threading.Barrier(THREADS + 1)
+
+        def read():
+            with paths("read"):
+                inside.wait(20)
+
+        threads = [threading.Thread(target=read) for _ in range(THREADS)]
+        with paths("write"):
+            for thread in threads:
+                thread.start()
+            while len(paths._queues.waiters) < THREADS:
+                time.sleep(0.001)
+        inside.wait(20)  # all of them are in progress at once
+        for thread in threads:
+            thread.join(20)
 
     def test_any_thread_may_leave(self):
         paths = Paths(SLOT)

@@ -9,6 +9,7 @@
 deposit is blocked: path 0 of slot: deposit ; remove; in progress: nothing of it
 """
 
+from ._entries import AsyncEntry, Entry
 from ._errors import (
     Blocked,
     Closed,
@@ -22,7 +23,7 @@ from ._errors import (
     UseRefused,
     WanzocheError,
 )
-from ._paths import AsyncEntry, Entry, Paths, audit
+from ._paths import Paths, audit
 from ._texts import Live, Path, Report, Verdict
 
 __all__ = [

@@ -2,17 +2,23 @@
 
 from __future__ import annotations
 
-from typing import Optional, Sequence, Tuple
+from typing import Any, Optional, Sequence, Tuple
 
 
 class WanzocheError(Exception):
-    """Anything that goes wrong here."""
+    """What goes wrong with paths. Each of these can be copied and pickled, as it is when it comes from another process."""
+
+    _made_of: Tuple[Any, ...]
+
+    def __reduce__(self) -> Any:
+        return type(self), getattr(self, "_made_of", self.args), self.__dict__
 
 
 class DeclarationError(WanzocheError, ValueError):
     """The text isn't a declaration. `offset` is where in its bytes; `line` and `column` count from 1."""
 
     def __init__(self, why: str, text: bytes, offset: Optional[int]) -> None:
+        self._made_of = (why, text, offset)
         self.offset = offset
         self.line: Optional[int] = None
         self.column: Optional[int] = None
@@ -33,6 +39,7 @@ class JournalError(WanzocheError, ValueError):
     """The text isn't a journal. `line` counts from 0, as those of a text do; None if it is too long."""
 
     def __init__(self, why: str, line: Optional[int]) -> None:
+        self._made_of = (why, line)
         self.line = line
         super().__init__(why if line is None else "{} {}".format(why, line))
 
@@ -51,6 +58,7 @@ class Blocked(WanzocheError):
     def __init__(
         self, operation: str, path: int, resource: str, text: str, in_progress: Sequence[Tuple[str, str]], after: Optional[float] = None
     ) -> None:
+        self._made_of = (operation, path, resource, text, tuple(in_progress), after)
         self.operation = operation
         self.path = path
         self.resource = resource
@@ -84,4 +92,4 @@ class Closed(WanzocheError):
 
 
 class Forked(Closed):
-    """The paths belong to the parent of this process. Open new ones in the child."""
+    """The paths belong to the parent of this process. Open others in the child."""

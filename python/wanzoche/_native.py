@@ -4,7 +4,10 @@ from __future__ import annotations
 
 import ctypes
 import ctypes.util
+import functools
 import os
+import sys
+import threading
 from ctypes import c_bool, c_char_p, c_int64, c_size_t, c_uint32, c_uint64, c_void_p
 from typing import Any
 
@@ -21,6 +24,15 @@ class Answer(ctypes.Structure):
     _fields_ = [("code", c_uint32), ("number", c_uint64)]
     code: int
     number: int
+
+
+class Record(ctypes.Structure):
+    """An operation that is begun and ended: a `wanzoche_record`."""
+
+    _fields_ = [("number", c_uint64), ("worker", c_uint32), ("live", c_bool)]
+    number: int
+    worker: int
+    live: bool
 
 
 CLOSED = 0
@@ -66,35 +78,49 @@ def _path() -> str:
     if installed:
         return installed
     raise ImportError(
-        "libwanzoche.so isn't at {}. Build it by ./build_c, which puts it into the package, or name it by the variable "
-        "WANZOCHE_LIBRARY.".format(wanted)
+        "libwanzoche.so isn't at {}. `pip install ./python` builds it into the package; to use one that lies elsewhere, as "
+        "out/lib/libwanzoche.so after `make`, name it by the variable WANZOCHE_LIBRARY.".format(wanted)
     )
 
 
 _at = _path()
-# A call by the first keeps the interpreter's lock: these are shorter than giving it up. The others may take long.
-_quick: Any = ctypes.PyDLL(_at)
-_long: Any = ctypes.CDLL(_at)
+# A call by the first keeps the interpreter's lock, so no two of them are in one handle at once, and none is cut in two by a signal handler,
+# a finalizer or a fork. The second is for calls without a handle, or with one that nobody else has yet.
+_in_turn: Any = ctypes.PyDLL(_at)
+_aside: Any = ctypes.CDLL(_at)
+_turn = threading.RLock()
+
+
+def _has_lock() -> bool:
+    """Whether this interpreter has a lock that a call can keep: all have, but for builds that are called free-threaded."""
+    return bool(getattr(sys, "_is_gil_enabled", lambda: True)())
 
 
 def _declared(library: Any, name: str, result: Any, *arguments: Any) -> Any:
     function = getattr(library, "wanzoche_" + name)
     function.restype, function.argtypes = result, list(arguments)
-    return function
+    if library is _aside or _has_lock():
+        return function
+
+    @functools.wraps(function, ("__name__",))
+    def one_at_a_time(*given: Any) -> Any:
+        with _turn:
+            return function(*given)
+
+    return one_at_a_time
 
 
-start = _declared(_quick, "start", Answer, c_void_p, c_uint32, c_uint32)
-use = _declared(_quick, "use", Answer, c_void_p, c_uint32, c_uint64, c_uint32, c_uint64)
-finish = _declared(_quick, "finish", Answer, c_void_p, c_uint32, c_uint64)
-can_start = _declared(_quick, "can_start", Answer, c_void_p, c_uint32)
-rotate = _declared(_quick, "rotate", Answer, c_void_p)
-live = _declared(_quick, "live", c_uint32, c_void_p)
-lines = _declared(_quick, "lines", c_size_t, c_void_p)
-operation = _declared(_quick, "operation", c_int64, c_void_p, c_char_p, c_size_t)
-open = _declared(_long, "open", Answer, c_void_p, c_char_p, c_size_t, c_uint32, c_char_p, c_size_t)
-close = _declared(_long, "close", None, c_void_p)
-journal = _declared(_long, "journal", Answer, c_void_p, c_char_p, c_size_t)
-report = _declared(_long, "report", Answer, c_void_p, c_char_p, c_size_t)
-declaration = _declared(_long, "declaration", Answer, c_void_p, c_char_p, c_size_t)
-audit = _declared(_long, "audit", Answer, c_char_p, c_size_t, c_uint32, c_char_p, c_size_t, c_char_p, c_size_t)
-words = _declared(_quick, "words", c_char_p, c_uint32)
+begin = _declared(_in_turn, "begin", c_uint32, c_void_p, c_uint32, c_uint32, c_void_p)
+end = _declared(_in_turn, "end", c_uint32, c_void_p, c_void_p)
+use = _declared(_in_turn, "use", Answer, c_void_p, c_uint32, c_uint64, c_uint32, c_uint64)
+can_start = _declared(_in_turn, "can_start", Answer, c_void_p, c_uint32)
+rotate_at = _declared(_in_turn, "rotate_at", Answer, c_void_p, c_size_t, c_void_p)
+live = _declared(_in_turn, "live", c_uint32, c_void_p)
+lines = _declared(_in_turn, "lines", c_size_t, c_void_p)
+close = _declared(_in_turn, "close", None, c_void_p)
+journal = _declared(_in_turn, "journal", Answer, c_void_p, c_char_p, c_size_t)
+report = _declared(_in_turn, "report", Answer, c_void_p, c_char_p, c_size_t)
+declaration = _declared(_in_turn, "declaration", Answer, c_void_p, c_char_p, c_size_t)
+open = _declared(_aside, "open", Answer, c_void_p, c_char_p, c_size_t, c_uint32, c_char_p, c_size_t)
+audit = _declared(_aside, "audit", Answer, c_char_p, c_size_t, c_uint32, c_char_p, c_size_t, c_char_p, c_size_t)
+words = _declared(_aside, "words", c_char_p, c_uint32)

@@ -1,0 +1,131 @@
+"""What the tests of interrupts share: something that happens before the n-th instruction that the package runs."""
+
+import contextlib
+import faulthandler
+import gc
+import os
+import sys
+import threading
+import types
+
+import wanzoche
+
+_PACKAGE = os.path.dirname(wanzoche.__file__)
+
+
+class Interrupt(BaseException):
+    """What the tests raise, as a signal raises KeyboardInterrupt."""
+
+
+def interrupt():
+    raise Interrupt
+
+
+class _Countdown:
+    """Lets an action happen before an instruction of the thread that made it."""
+
+    def __init__(self, number, action):
+        self.left = number
+        self.action = action
+        self.thread = threading.get_ident()
+
+    def step(self, *_):
+        if self.left >= 0 and threading.get_ident() == self.thread:
+            self.left -= 1
+            if self.left < 0:
+                self.action()
+
+
+def at_instruction(number, action, call):
+    """Calls, and lets the action happen before the instruction of this number that the package runs, from 0. Whether there was one."""
+    countdown = _Countdown(number, action)
+    with _quiet_finalizers(), _stepping(countdown.step):
+        try:
+            call()
+        except Interrupt:
+            pass
+    return countdown.left < 0
+
+
+def each_instruction(action, call):
+    """Does that for each instruction in turn, and yields after each."""
+    number = 0
+    while at_instruction(number, action, call):
+        number += 1
+        yield number
+
+
+if sys.version_info >= (3, 12):
+
+    def _codes_of(code):
+        yield code
+        for part in code.co_consts:
+            if isinstance(part, types.CodeType):
+                yield from _codes_of(part)
+
+    def _all_codes():
+        """The code of each function of the package."""
+        for function in gc.get_objects():
+            if isinstance(function, types.FunctionType) and os.path.dirname(function.__code__.co_filename) == _PACKAGE:
+                yield from _codes_of(function.__code__)
+
+    @contextlib.contextmanager
+    def _stepping(step, codes=frozenset(_all_codes())):
+        """Calls before each instruction of the package."""
+        monitoring = sys.monitoring
+        tool, event = monitoring.DEBUGGER_ID, monitoring.events.INSTRUCTION
+        monitoring.use_tool_id(tool, "interrupts")
+        monitoring.register_callback(tool, event, step)
+        for code in codes:
+            monitoring.set_local_events(tool, code, event)
+        try:
+            yield
+        finally:
+            for code in codes:
+                monitoring.set_local_events(tool, code, 0)
+            monitoring.register_callback(tool, event, None)
+            monitoring.free_tool_id(tool)
+
+else:
+
+    @contextlib.contextmanager
+    def _stepping(step):
+        """Calls before each instruction of the package that this thread runs."""
+
+        def trace(frame, event, _):
+            if event == "opcode":
+                step()
+            return trace
+
+        def begin(frame, event, _):
+            if os.path.dirname(frame.f_code.co_filename) != _PACKAGE:
+                return None
+            frame.f_trace_opcodes = True
+            return trace
+
+        sys.settrace(begin)
+        try:
+            yield
+        finally:
+            sys.settrace(None)
+
+
+@contextlib.contextmanager
+def _quiet_finalizers():
+    """Says nothing of an interrupt of a finalizer, which Python can't hand on."""
+    before = sys.unraisablehook
+    sys.unraisablehook = lambda what: None if issubclass(what.exc_type, Interrupt) else before(what)
+    try:
+        yield
+    finally:
+        sys.unraisablehook = before
+
+
+@contextlib.contextmanager
+def no_longer_than(seconds):
+    """Ends the process with a traceback of all threads if the block takes longer: it hangs."""
+    faulthandler.dump_traceback_later(seconds, exit=True)
+    try:
+        yield
+    finally:
+        faulthandler.cancel_dump_traceback_later()
