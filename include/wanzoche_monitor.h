@@ -238,13 +238,23 @@ static inline struct timespec wanzoche_in(int64_t milliseconds) {
     return t;
 }
 
-/* Give way to others, and start if no path forbids it then; else the lock is
-** held without a break since the last look. Under the lock. */
+/* Whether a time limit is over; null is none. */
+static inline bool wanzoche_is_over(const struct timespec *until) {
+    struct timespec now;
+    if (until == NULL) return false;
+    now = wanzoche_in(0);
+    return now.tv_sec > until->tv_sec ||
+           (now.tv_sec == until->tv_sec && now.tv_nsec >= until->tv_nsec);
+}
+
+/* Give way to others while there is time, and start if no path forbids it
+** then; else the lock is held without a break since the last look. Under the
+** lock. */
 static inline wanzoche_answer
 wanzoche_give_way(wanzoche_monitor *m, uint32_t worker, uint32_t operation,
-                  wanzoche_answer blocked) {
+                  const struct timespec *until, wanzoche_answer blocked) {
     int n;
-    for (n = 0; n < WANZOCHE_YIELDS; n++) {
+    for (n = 0; n < WANZOCHE_YIELDS && !wanzoche_is_over(until); n++) {
         pthread_mutex_unlock(&m->lock);
         sched_yield();
         pthread_mutex_lock(&m->lock);
@@ -282,8 +292,8 @@ wanzoche_wait(wanzoche_monitor *m, uint32_t worker, uint32_t operation,
 
 /*
 ** Start an operation for a worker, and wait until it is admitted, but no
-** longer than this many milliseconds; without a limit if they are negative,
-** not at all if they are 0.
+** longer than this many milliseconds from the call; without a limit if they
+** are negative, not at all if they are 0.
 **
 ** WANZOCHE_STARTED  the operation is in progress; the number is its activation
 ** WANZOCHE_BLOCKED  the time is over; the number is the path that forbids the
@@ -297,20 +307,20 @@ static inline wanzoche_answer wanzoche_enter(wanzoche_monitor *m, uint32_t worke
                                              uint32_t operation,
                                              int64_t milliseconds) {
     const wanzoche_answer closed = {WANZOCHE_CLOSED, 0};
+    struct timespec limit, *until = NULL;
     wanzoche_answer a;
     bool has_next = false;
     if (m == NULL || m->operations == 0) return closed;
+    if (milliseconds > 0) {
+        limit = wanzoche_in(milliseconds);
+        until = &limit;
+    }
     pthread_mutex_lock(&m->lock);
     a = wanzoche_start_in_room(m, worker, operation);
     if (a.code == WANZOCHE_BLOCKED && milliseconds != 0)
-        a = wanzoche_give_way(m, worker, operation, a);
+        a = wanzoche_give_way(m, worker, operation, until, a);
     if (a.code == WANZOCHE_BLOCKED && milliseconds != 0) {
-        if (milliseconds < 0) {
-            a = wanzoche_wait(m, worker, operation, NULL);
-        } else {
-            struct timespec until = wanzoche_in(milliseconds);
-            a = wanzoche_wait(m, worker, operation, &until);
-        }
+        a = wanzoche_wait(m, worker, operation, until);
         /* Others of this operation may start, too, as readers in braces do. */
         has_next = wanzoche_has_next(m, operation);
     }

@@ -102,6 +102,30 @@ static void devices(void) {
     wanzoche_close(&w);
 }
 
+/* A record has what wanzoche_use needs while its operation is in progress, and is begun and ended once. */
+static void records(void) {
+    wanzoche w = WANZOCHE_CLOSED_HANDLE;
+    wanzoche_record first = {0, 0, false}, second = first, third = first;
+    CHECK(is(open_with(&w, SLOT, 11, NULL), WANZOCHE_OPENED, 0));
+    CHECK(wanzoche_begin(&w, 7, 1, &second) == WANZOCHE_BLOCKED && !second.live && second.number == 0);
+    CHECK(wanzoche_begin(&w, 7, 0, &first) == WANZOCHE_STARTED && first.live && first.number == 0 && first.worker == 7);
+    CHECK(wanzoche_begin(&w, 8, 0, &first) == WANZOCHE_NOT_YOURS && first.live && first.number == 0 && first.worker == 7);
+    CHECK(wanzoche_lines(&w) == 2 && wanzoche_live(&w) == 1);
+    CHECK(is(wanzoche_use(&w, first.worker, first.number, WANZOCHE_PUT, 3), WANZOCHE_USED, 0));
+    CHECK(wanzoche_begin(&w, 8, 2, &third) == WANZOCHE_UNKNOWN_OPERATION && !third.live);
+    CHECK(wanzoche_end(&w, &third) == WANZOCHE_STALE && wanzoche_live(&w) == 1);
+    CHECK(wanzoche_end(&w, &first) == WANZOCHE_FINISHED && !first.live);
+    CHECK(wanzoche_end(&w, &first) == WANZOCHE_STALE && wanzoche_lines(&w) == 5);
+    CHECK(wanzoche_begin(&w, 9, 1, &second) == WANZOCHE_STARTED && second.number == 1 && second.worker == 9);
+    CHECK(wanzoche_end(&w, &second) == WANZOCHE_FINISHED);
+    CHECK(wanzoche_begin(&w, 7, 0, &first) == WANZOCHE_STARTED && first.number == 2);
+    CHECK(wanzoche_begin(&w, 7, 1, &third) == WANZOCHE_BLOCKED && third.number == 0);
+    CHECK(wanzoche_begin(&w, 7, 1, &third) == WANZOCHE_NO_ROOM && !third.live);
+    wanzoche_close(&w);
+    CHECK(wanzoche_end(&w, &first) == WANZOCHE_CLOSED && !first.live);
+    CHECK(wanzoche_end(&w, &first) == WANZOCHE_STALE);
+}
+
 /* A null pointer, a closed handle and a second close are answers; a second open changes nothing. */
 static void closed_ones(void) {
     wanzoche w = WANZOCHE_CLOSED_HANDLE, *handles[] = {NULL, &w};
@@ -115,8 +139,16 @@ static void closed_ones(void) {
         CHECK(is(wanzoche_use(h, 1, 0, WANZOCHE_PUT, 1), WANZOCHE_CLOSED, 0));
         CHECK(is(wanzoche_use(h, 1, 0, 4, 1), WANZOCHE_NO_VERB, 0));
         CHECK(is(wanzoche_finish(h, 1, 0), WANZOCHE_CLOSED, 0));
+        wanzoche_record record = {0, 0, false};
+        CHECK(wanzoche_begin(h, 7, 0, &record) == WANZOCHE_CLOSED && !record.live && record.number == 0);
+        CHECK(wanzoche_begin(h, 7, 0, NULL) == WANZOCHE_STALE && wanzoche_end(h, NULL) == WANZOCHE_STALE);
+        CHECK(wanzoche_end(h, &record) == WANZOCHE_STALE);
+        record.live = true;
+        CHECK(wanzoche_end(h, &record) == WANZOCHE_CLOSED && !record.live);
         CHECK(is(wanzoche_can_start(h, 0), WANZOCHE_CLOSED, 0));
         CHECK(is(wanzoche_rotate(h), WANZOCHE_CLOSED, 0));
+        uint64_t rotated = 5;
+        CHECK(is(wanzoche_rotate_at(h, 0, &rotated), WANZOCHE_CLOSED, 0) && rotated == 5);
         CHECK(is(wanzoche_journal(h, text, sizeof text), WANZOCHE_CLOSED, 0));
         CHECK(is(wanzoche_report(h, text, sizeof text), WANZOCHE_CLOSED, 0));
         CHECK(is(wanzoche_declaration(h, text, sizeof text), WANZOCHE_CLOSED, 0));
@@ -137,7 +169,17 @@ static void closed_ones(void) {
     wanzoche_close(&moved);
 }
 
-/* Each fault of a text comes with its place and its words, and leaves the handle closed. */
+/* A text of this length has a fault here, whether it is opened or a journal is audited under it; the handle stays closed. */
+static void has_fault(const char *text, size_t length, uint32_t code, uint64_t at, const char *words) {
+    wanzoche w = WANZOCHE_CLOSED_HANDLE;
+    char why[WANZOCHE_MESSAGE], audited[WANZOCHE_MESSAGE];
+    CHECK(is(wanzoche_open(&w, text, length, 0, why, sizeof why), code, at) && !strcmp(why, words) && !w.live);
+    CHECK(!strncmp(words, wanzoche_words(code), strlen(wanzoche_words(code))));
+    CHECK(is(wanzoche_audit(text, length, 0, "hello", 5, audited, sizeof audited), code, at));
+    CHECK(!strncmp(audited, "declaration: ", 13) && !strcmp(audited + 13, words));
+    if (strcmp(why, words)) printf("%s, not %s, of %.60s\n", why, words, text);
+}
+
 static void faults(void) {
     static const struct { const char *text; uint32_t code; uint64_t at; const char *why; } table[] = {
         {"", WANZOCHE_UNEXPECTED, 0, "unexpected at 0"},
@@ -153,22 +195,43 @@ static void faults(void) {
         {"resource a queue 0 operation b end", WANZOCHE_BAD_CAPACITY, 17, "bad capacity at 17"},
         {"resource a cell operation b path { b : 0 } end end", WANZOCHE_BAD_COUNT, 39, "bad count at 39"},
     };
+    for (size_t n = 0; n < sizeof table / sizeof *table; n++)
+        has_fault(table[n].text, strlen(table[n].text), table[n].code, table[n].at, table[n].why);
+    char *spaces = malloc(65537), parentheses[67] = "resource a cell operation b path ";
+    memset(parentheses + 33, '(', 33);
+    has_fault(parentheses, 66, WANZOCHE_TOO_DEEP, 65, "too deep at 65");
+    memset(spaces, ' ', 65537);
+    has_fault(spaces, 65537, WANZOCHE_TOO_LONG, 0, "text too long");
+    free(spaces);
+}
+
+/* `before`, so many pieces with their number in each, of which the last has the fault this far behind its beginning, and `behind`. */
+static void is_one_too_many(const char *before, unsigned pieces, const char *piece, uint64_t behind, const char *after) {
+    char text[16384], words[WANZOCHE_MESSAGE];
+    size_t length = (size_t)sprintf(text, "%s", before), last = 0;
+    for (unsigned n = 0; n < pieces; n++) {
+        last = length;
+        length += (size_t)sprintf(text + length, piece, n, n);
+    }
+    length += (size_t)sprintf(text + length, "%s", after);
+    snprintf(words, sizeof words, "too many at %llu", (unsigned long long)(last + behind));
+    has_fault(text, length, WANZOCHE_TOO_MANY, last + behind, words);
+}
+
+/* 64 resources, 256 operations, 256 paths and 64 names in a path are the most. */
+static void too_many(void) {
+    char names[1024] = "resource a cell operation ";
+    is_one_too_many("", 65, "resource r%u cell operation o%u end ", 9, "");
+    is_one_too_many("resource a cell operation ", 257, "o%u, ", 0, "last end");
+    is_one_too_many("resource a cell operation b ", 257, "path b end ", 0, "end");
+    for (unsigned n = 0; n < 65; n++) sprintf(names + strlen(names), n < 64 ? "o%u, " : "o%u path ", n);
+    is_one_too_many(names, 65, "o%u ; ", 0, "o99 end end");
+}
+
+/* A message is cut to its buffer, which may be null, and so may a text; a room is refused behind the faults of its text. */
+static void messages(void) {
     wanzoche w = WANZOCHE_CLOSED_HANDLE;
     char why[WANZOCHE_MESSAGE], few[6];
-    for (size_t n = 0; n < sizeof table / sizeof *table; n++) {
-        CHECK(is(open_with(&w, table[n].text, 0, why), table[n].code, table[n].at));
-        CHECK(!strcmp(why, table[n].why));
-        CHECK(!strncmp(why, wanzoche_words(table[n].code), strlen(wanzoche_words(table[n].code))));
-        CHECK(!w.live);
-    }
-    char *parentheses = malloc(256), *spaces = malloc(65537);
-    strcpy(parentheses, "resource a cell operation b path ");
-    memset(parentheses + 33, '(', 33);
-    CHECK(is(wanzoche_open(&w, parentheses, 66, 1, why, sizeof why), WANZOCHE_TOO_DEEP, 65) && !strcmp(why, "too deep at 65"));
-    memset(spaces, ' ', 65537);
-    CHECK(is(wanzoche_open(&w, spaces, 65537, 1, why, sizeof why), WANZOCHE_TOO_LONG, 0) && !strcmp(why, "text too long"));
-    free(parentheses);
-    free(spaces);
     CHECK(is(wanzoche_open(&w, "resource", 8, 1, few, sizeof few), WANZOCHE_UNEXPECTED, 8) && !strcmp(few, "unexp"));
     CHECK(is(wanzoche_open(&w, "resource", 8, 1, few, 1), WANZOCHE_UNEXPECTED, 8) && few[0] == 0);
     CHECK(is(wanzoche_open(&w, "resource", 8, 1, NULL, 5), WANZOCHE_UNEXPECTED, 8));
@@ -196,6 +259,7 @@ static void buffers(void) {
 static void rotations(void) {
     wanzoche w = WANZOCHE_CLOSED_HANDLE;
     char first[128], second[128], all[512];
+    uint64_t rotated = 8;
     CHECK(is(open_with(&w, SLOT, 4, NULL), WANZOCHE_OPENED, 0));
     CHECK(is(wanzoche_start(&w, 1, 0), WANZOCHE_STARTED, 0));
     CHECK(is(wanzoche_start(&w, 2, 1), WANZOCHE_BLOCKED, 0));
@@ -205,12 +269,15 @@ static void rotations(void) {
     CHECK(is(wanzoche_finish(&w, 2, 0), WANZOCHE_NO_ROOM, 0));
     CHECK(wanzoche_room_left(&w) == 0 && wanzoche_lines(&w) == 3);
     CHECK(wanzoche_journal(&w, first, sizeof first).code == WANZOCHE_WRITTEN);
-    CHECK(is(wanzoche_rotate(&w), WANZOCHE_ROTATED, 0));
+    CHECK(is(wanzoche_rotate_at(&w, 2, &rotated), WANZOCHE_TOO_SMALL, 3) && is(wanzoche_rotate_at(&w, 4, NULL), WANZOCHE_TOO_SMALL, 3));
+    CHECK(wanzoche_lines(&w) == 3 && rotated == 8);
+    CHECK(is(wanzoche_rotate_at(&w, 3, &rotated), WANZOCHE_ROTATED, 0) && rotated == 9);
     CHECK(wanzoche_lines(&w) == 0 && wanzoche_live(&w) == 1 && wanzoche_room_left(&w) == 3);
     CHECK(is(wanzoche_finish(&w, 1, 0), WANZOCHE_FINISHED, 0));
     CHECK(is(wanzoche_start(&w, 2, 1), WANZOCHE_STARTED, 1));
     CHECK(wanzoche_journal(&w, second, sizeof second).code == WANZOCHE_WRITTEN);
     for (int n = 0; n < 1000; n++) CHECK(is(wanzoche_rotate(&w), WANZOCHE_ROTATED, 0));
+    CHECK(is(wanzoche_rotate_at(&w, 0, NULL), WANZOCHE_ROTATED, 0));
     snprintf(all, sizeof all, "journal 2 room 7\n%s%s", first, second);
     CHECK(is(wanzoche_audit(SLOT, strlen(SLOT), 0, all, strlen(all), NULL, 0), WANZOCHE_SOUND, 0));
     wanzoche_close(&w);
@@ -268,8 +335,11 @@ int main(void) {
     a_slot();
     texts();
     devices();
+    records();
     closed_ones();
     faults();
+    too_many();
+    messages();
     buffers();
     rotations();
     audits();

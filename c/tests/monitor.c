@@ -1,5 +1,16 @@
-/* The monitor: time limits, cancelled threads, readers together, the log. */
+/* The monitor: time limits, cancelled threads, who is woken, the log. */
+#include <pthread.h>
+#include <sched.h>
+#include <time.h>
+
+/* The monitor's clock and its giving way are these, so that a test can say how time passes. */
+static int clock_of_test(clockid_t clock, struct timespec *now);
+static int yield_of_test(void);
+#define clock_gettime clock_of_test
+#define sched_yield yield_of_test
 #include "wanzoche_monitor.h"
+#undef clock_gettime
+#undef sched_yield
 
 #include <stdio.h>
 #include <string.h>
@@ -48,6 +59,34 @@ static void deposit(void) {
     wanzoche_answer a = wanzoche_enter(&m, 1, DEPOSIT, 0);
     CHECK(a.code == WANZOCHE_STARTED);
     CHECK(wanzoche_leave(&m, 1, a.number).code == WANZOCHE_FINISHED);
+}
+
+/* While the clock stands still, only giving way takes time, five milliseconds, and the clock shows a time that is long over. */
+static bool stands_still;
+static struct timespec still;
+static int yields;
+
+static int clock_of_test(clockid_t clock, struct timespec *now) {
+    *now = still;
+    return stands_still ? 0 : clock_gettime(clock, now);
+}
+
+static int yield_of_test(void) {
+    if (!stands_still) return sched_yield();
+    still.tv_nsec += 5000000;
+    yields++;
+    return 0;
+}
+
+/* A limit counts from the call: ten times of giving way are its fifty milliseconds. */
+static void limits_count_from_the_call(void) {
+    open_with(SLOT, 4096);
+    stands_still = true;
+    CHECK(wanzoche_enter(&m, 1, REMOVE, 50).code == WANZOCHE_BLOCKED && yields == 10);
+    CHECK(wanzoche_enter(&m, 1, REMOVE, 0).code == WANZOCHE_BLOCKED && yields == 10);
+    CHECK(wanzoche_enter(&m, 1, REMOVE, 10000).code == WANZOCHE_BLOCKED && yields == 10 + WANZOCHE_YIELDS);
+    stands_still = false;
+    wanzoche_monitor_close(&m);
 }
 
 static void time_limits(void) {
@@ -168,6 +207,32 @@ static void readers_together(void) {
     wanzoche_monitor_close(&m);
 }
 
+static pthread_barrier_t all_in;
+
+static void *waits_for(void *operation) {
+    uint32_t mine = (uint32_t)(size_t)operation;
+    wanzoche_answer a = wanzoche_enter(&m, mine + 2, mine, -1);
+    CHECK(a.code == WANZOCHE_STARTED);
+    pthread_barrier_wait(&all_in); /* none of them leaves before all are in */
+    CHECK(wanzoche_leave(&m, mine + 2, a.number).code == WANZOCHE_FINISHED);
+    return NULL;
+}
+
+/* One leave lets three operations in, for which a thread waits each, and no other leave comes. */
+static void one_leave_for_three(void) {
+    open_with("resource r cell operation x, a, b, c path x ; a end path x ; b end path x ; c end end", 4096);
+    wanzoche_answer x = wanzoche_enter(&m, 1, 0, 0);
+    pthread_t t[3];
+    CHECK(x.code == WANZOCHE_STARTED);
+    pthread_barrier_init(&all_in, NULL, 3);
+    for (size_t n = 0; n < 3; n++) pthread_create(&t[n], NULL, waits_for, (void *)(n + 1));
+    until_waiting(3);
+    CHECK(wanzoche_leave(&m, 1, x.number).code == WANZOCHE_FINISHED);
+    for (size_t n = 0; n < 3; n++) pthread_join(t[n], NULL);
+    pthread_barrier_destroy(&all_in);
+    wanzoche_monitor_close(&m);
+}
+
 static void *has_its_own(void *me) {
     wanzoche w = WANZOCHE_CLOSED_HANDLE;
     char text[4096];
@@ -251,6 +316,7 @@ static void the_log(void) {
 int main(int arguments, char **argument) {
     (void)argument;
     closed_ones();
+    limits_count_from_the_call();
     time_limits();
     if (arguments == 1) {
         cancelled_while_waiting();
@@ -258,6 +324,7 @@ int main(int arguments, char **argument) {
         cancelled_in_the_log();
     }
     readers_together();
+    one_leave_for_three();
     handles_apart();
     the_log();
     printf("monitor: %d failures\n", failures);
