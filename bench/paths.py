@@ -3,6 +3,7 @@
     make library && WANZOCHE_LIBRARY=out/lib/libwanzoche.so PYTHONPATH=python python3 bench/paths.py
 """
 
+import ctypes
 import statistics
 import threading
 import time
@@ -14,7 +15,8 @@ BUFFER = "resource buffer cell operation put, get path { put ; get : 8 } end pat
 EACH, ROUNDS, THREADS, ITEMS = 5000, 41, 4, 2000
 lock, condition, busy = threading.Lock(), threading.Condition(), [False]
 paths, buffer_paths = Paths(BOOK), Paths(BUFFER)
-at = paths._at
+at, record = paths._at, _native.Record()
+record_at = ctypes.addressof(record)
 
 
 def locked() -> None:
@@ -42,11 +44,10 @@ def by_paths() -> None:
 
 def library_alone() -> None:
     for _ in range(EACH):
-        answer = _native.start(at, 1, 1)
-        if answer.code == _native.NO_ROOM:
-            _native.rotate(at)
-            answer = _native.start(at, 1, 1)
-        _native.finish(at, 1, answer.number)
+        if _native.begin(at, 1, 1, record_at) == _native.NO_ROOM:
+            _native.rotate_at(at, _native.lines(at), None)
+            _native.begin(at, 1, 1, record_at)
+        _native.end(at, record_at)
 
 
 items, not_full, not_empty = [], threading.Condition(lock), threading.Condition(lock)

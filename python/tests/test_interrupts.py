@@ -38,7 +38,7 @@ class Interrupts(unittest.TestCase):
         if after_tasks:
             gc.collect()  # a loop that was interrupted and its tasks hold each other
         self.assertEqual(paths.report().live, ())
-        self.assertEqual(paths._queues.waiters, set())
+        self.assertEqual(paths.waiting(), {})
 
 
 class AtRandomMoments(Interrupts):
@@ -239,16 +239,16 @@ def woken_before_another(paths, others):
     """How a thread waits whose turn has come when another waits behind it."""
     wait = ThreadWaiter.wait
 
-    def waits(waiter):
+    def waits(waiter, *limit):
         if not others:
             others.append(threading.Thread(target=lambda: paths.enter("remove").leave()))
             others[0].start()
-            while len(paths._queues.waiters) < 2:
+            while paths.waiting() != {"remove": 2}:
                 time.sleep(0.0001)
             deposit = threading.Thread(target=lambda: paths.enter("deposit").leave())
             deposit.start()
             deposit.join()
-        return wait(waiter)
+        return wait(waiter, *limit)
 
     return waits
 

@@ -131,6 +131,33 @@ class Refusals(unittest.TestCase):
         with self.assertRaisesRegex(DeclarationError, "^text too long$"):
             Paths(" " * 65537)
 
+    def test_each_fault_of_a_declaration_has_its_place(self):
+        faults = [
+            ("", "unexpected", 0),
+            ("resource", "unexpected", 8),
+            ("resource ?", "bad byte", 9),
+            ("resource \xe9", "bad byte", 9),
+            ("resource abcdefghabcdefghabcdefghabcdefghi", "word too long", 9),
+            ("resource a queue 1234567890", "number too long", 17),
+            ("resource a cell operation b end resource a cell operation c end", "duplicate resource", 41),
+            ("resource a cell operation b, b end", "duplicate operation", 29),
+            ("resource a cell operation b path c end end", "undeclared", 33),
+            ("resource a cell operation b path b ; b end end", "repeated name", 37),
+            ("resource a cell operation b path { { b } } end end", "nested braces", 35),
+            ("resource a cell operation b path " + "(" * 33, "too deep", 65),
+            ("resource a queue 0 operation b end", "bad capacity", 17),
+            ("resource a cell operation b path { b : 0 } end end", "bad count", 39),
+            ("resource a cell operation " + ", ".join(map("o{}".format, range(257))) + " end", "too many", 26 + 10 * 4 + 90 * 5 + 156 * 6),
+        ]
+        for text, words, offset in faults:
+            for refused in (lambda: Paths(text), lambda: wanzoche.audit(text, "")):
+                with self.subTest(text), self.assertRaisesRegex(DeclarationError, "^{} in line 1, column".format(words)) as caught:
+                    refused()
+                self.assertEqual((caught.exception.offset, caught.exception.line, caught.exception.column), (offset, 1, offset + 1))
+        for refused in (lambda: Paths(" " * 65537), lambda: wanzoche.audit(" " * 65537, "")):
+            with self.assertRaisesRegex(DeclarationError, "^text too long$"):
+                refused()
+
     def test_a_room_and_a_name_are_refused(self):
         for room in (0, -1, 1048577):
             with self.assertRaises(ValueError):

@@ -135,12 +135,12 @@ class Tasks(unittest.TestCase):
             loop = asyncio.new_event_loop()
             left = loop.create_task(self.remove(paths))
             loop.run_until_complete(asyncio.sleep(0.01))
-            self.assertEqual(len(paths._queues.waiters), 1)
+            self.assertEqual(paths.waiting(), {"remove": 1})
             if close:
                 loop.close()
             thread = threading.Thread(target=lambda: paths.enter("remove").leave())
             thread.start()
-            while all(each.loop for each in list(paths._queues.waiters)):
+            while paths.waiting() != {"remove": 1 if close else 2}:
                 time.sleep(0.001)
 
             async def main():
@@ -180,7 +180,7 @@ class Tasks(unittest.TestCase):
 
         steps = 0
         while asyncio.run(main(steps)):
-            self.assertEqual((paths.report().live, len(paths._queues.waiters)), ((), 0))
+            self.assertEqual((paths.report().live, paths.waiting()), ((), {}))
             if paths.can_start("remove"):
                 paths.enter("remove").leave()
             steps += 1

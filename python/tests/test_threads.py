@@ -110,7 +110,7 @@ class Threads(unittest.TestCase):
         threads = [threading.Thread(target=work, args=(n,)) for n in range(4)]
         for thread in threads:
             thread.start()
-        while len(paths._queues.waiters) < 4:
+        while paths.waiting() != {"remove": 4}:
             time.sleep(0.001)
         paths.close()
         for thread in threads:
@@ -135,6 +135,29 @@ class Threads(unittest.TestCase):
         run(4, work)
         with entry:
             run(1, lambda _: self.assertRaisesRegex(RuntimeError, "^this entry of write is in progress already$", entry.__enter__))
+        self.assertEqual(paths.report().live, ())
+        self.assertTrue(paths.audit())
+
+    def test_one_entry_for_which_many_wait_is_entered_by_one(self):
+        paths = Paths(BOOK)
+        entry, entered, refused = paths("read"), [], []
+
+        def read():
+            try:
+                entered.append(entry.__enter__().activation)
+            except RuntimeError as error:
+                refused.append(str(error))
+
+        threads = [threading.Thread(target=read) for _ in range(4)]
+        with paths("write"):
+            for thread in threads:
+                thread.start()
+            while paths.waiting() != {"read": 4}:
+                time.sleep(0.001)
+        for thread in threads:
+            thread.join(20)
+        self.assertEqual((entered, refused), ([1], ["this entry of read is in progress already"] * 3))
+        entry.leave()
         self.assertEqual(paths.report().live, ())
         self.assertTrue(paths.audit())
 
@@ -165,7 +188,7 @@ class Threads(unittest.TestCase):
         threads = [threading.Thread(target=waits, args=(name,)) for name in ("y", "z")]
         for thread in threads:
             thread.start()
-        while len(paths._queues.waiters) < 2:
+        while paths.waiting() != {"y": 1, "z": 1}:
             time.sleep(0.001)
         paths.enter("x").leave()
         for thread in threads:
@@ -184,7 +207,7 @@ class Threads(unittest.TestCase):
         with paths("write"):
             for thread in threads:
                 thread.start()
-            while len(paths._queues.waiters) < THREADS:
+            while paths.waiting() != {"read": THREADS}:
                 time.sleep(0.001)
         inside.wait(20)  # all of them are in progress at once
         for thread in threads:

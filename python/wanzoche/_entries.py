@@ -67,7 +67,7 @@ class _Operation(native.Record):
         """After an exception: it isn't in progress, nobody waits for it, and others have their turn. To do so twice does no harm."""
         paths = self.paths
         if waiter is not None:
-            paths._queues.quit(self.op, waiter)
+            paths._queues.quit(waiter)
         if self.worker == worker:  # or another thread has begun the same entry
             _end(paths._at, self.at)
         paths._queues.wake_all()
@@ -92,11 +92,11 @@ def _turn(operation: _Operation, worker: int, waiter_of: Optional[Type[Waiter]])
         if code != _STARTED and not operation.admitted(code, worker):
             if waiter_of is None:
                 return int(code)
-            waiter = waiter_of(operation.timeout)
-            paths._queues.join(operation.op, waiter)
+            waiter = waiter_of(operation.op, operation.timeout)
+            paths._queues.join(waiter)
             while not operation.admitted_by_now(worker, waiter):
                 yield waiter
-            paths._queues.quit(operation.op, waiter)
+            paths._queues.quit(waiter)
         yield None
         code = _end(paths._at, operation.at)
         if paths._queues.waiters:
@@ -104,7 +104,7 @@ def _turn(operation: _Operation, worker: int, waiter_of: Optional[Type[Waiter]])
         return int(code)
     except _InUse:
         if waiter is not None:
-            paths._queues.quit(operation.op, waiter)
+            paths._queues.quit(waiter)
         raise
     except BaseException as error:
         dropped = operation.live and isinstance(error, GeneratorExit)

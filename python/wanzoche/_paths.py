@@ -10,6 +10,7 @@ import itertools
 import os
 import threading
 import weakref
+from collections import Counter
 from types import TracebackType
 from typing import Any, Awaitable, Callable, Dict, List, Optional, Tuple, Type, TypeVar, Union, cast
 
@@ -152,6 +153,13 @@ class Paths:
     def report(self) -> Report:
         """What can be started now, which path blocks what, and what is in progress."""
         return read_report(self._text_of(native.report))
+
+    def waiting(self) -> Dict[str, int]:
+        """How many threads and tasks wait for each operation, of those for which any does."""
+        if native.can_start(self._at, 0).code == native.CLOSED:
+            raise self._closed()
+        waiters = Counter(self._queues.operations())
+        return {name: waiters[op] for op, name in enumerate(self._operations) if waiters[op]}
 
     def journal(self) -> str:
         """The lines that the log hasn't got, since the last rotation, as a text: one for each start, use and finish, and for each that

@@ -15,7 +15,7 @@ import asyncio
 import threading
 import time
 from collections import OrderedDict
-from typing import Dict, Optional, Set
+from typing import Dict, Iterator, Optional, Set
 
 from . import _native as native
 
@@ -23,9 +23,10 @@ from . import _native as native
 class Waiter:
     """Who waits for one operation, and until when."""
 
-    __slots__ = ("loop", "_until")
+    __slots__ = ("op", "loop", "_until")
 
-    def __init__(self, seconds: Optional[float]) -> None:
+    def __init__(self, op: int, seconds: Optional[float]) -> None:
+        self.op = op
         self.loop: Optional[asyncio.AbstractEventLoop] = None
         self._until = None if seconds is None else time.monotonic() + seconds
 
@@ -43,8 +44,8 @@ class ThreadWaiter(Waiter):
 
     __slots__ = ("_asleep",)
 
-    def __init__(self, seconds: Optional[float]) -> None:
-        super().__init__(seconds)
+    def __init__(self, op: int, seconds: Optional[float]) -> None:
+        super().__init__(op, seconds)
         self._asleep = threading.Lock()
         self._asleep.acquire()
 
@@ -68,8 +69,8 @@ class TaskWaiter(Waiter):
 
     __slots__ = ("_awake",)
 
-    def __init__(self, seconds: Optional[float]) -> None:
-        super().__init__(seconds)
+    def __init__(self, op: int, seconds: Optional[float]) -> None:
+        super().__init__(op, seconds)
         self.loop = asyncio.get_running_loop()
         self._awake = asyncio.Event()
 
@@ -106,21 +107,25 @@ class Queues:
         self._queues: "Dict[int, Dict[_Loop, OrderedDict[Waiter, None]]]" = {}
         self.waiters: Set[Waiter] = set()
 
-    def join(self, op: int, waiter: Waiter) -> None:
-        """The waiter is woken once the operation may start."""
+    def join(self, waiter: Waiter) -> None:
+        """The waiter is woken once its operation may start."""
         self.waiters.add(waiter)
-        queues = self._queues.setdefault(op, {})
+        queues = self._queues.setdefault(waiter.op, {})
         for loop in [each for each in list(queues) if each is not None and each.is_closed()]:
             self.waiters.difference_update(queues.pop(loop, ()))
         queues.setdefault(waiter.loop, OrderedDict())[waiter] = None
 
-    def quit(self, op: int, waiter: Waiter) -> None:
+    def quit(self, waiter: Waiter) -> None:
         """The waiter waits no more, and the next is woken. To do so twice does no harm."""
-        queue = self._queues.get(op, {}).get(waiter.loop)
+        queue = self._queues.get(waiter.op, {}).get(waiter.loop)
         if queue is not None:
             queue.pop(waiter, None)
         self.waiters.discard(waiter)
-        self.wake(op)
+        self.wake(waiter.op)
+
+    def operations(self) -> Iterator[int]:
+        """The operation for which each waits."""
+        return (waiter.op for waiter in list(self.waiters) if waiter.loop is None or not waiter.loop.is_closed())
 
     def wake(self, op: int) -> None:
         """If the operation may start, wakes the first thread that waits for it, and the first task of each loop."""
