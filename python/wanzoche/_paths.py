@@ -251,7 +251,7 @@ class Paths:
         rotation: Any = self._rotation
         if rotation._is_owned():  # as threading.Condition asks of its lock
             raise RuntimeError("this thread is rotating these paths: their log, and what interrupts it, have to do without a rotation")
-        try:  # not `with`, which Python 3.8 and 3.9 can leave without a release when a signal comes
+        try:  # not `with`, which Python 3.8 can leave without a release when a signal comes
             rotation.acquire()
             if before is None or before == self._rotations.value:
                 self._hand_over()
