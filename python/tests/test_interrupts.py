@@ -174,6 +174,30 @@ class BeforeEachInstruction(Interrupts):
 
         self.each_turn(interrupt, late, 60)
 
+    def test_one_whose_time_is_over(self):
+        paths = Paths(SLOT)
+
+        def late():
+            try:
+                paths.enter("remove", timeout=0)
+            except Timeout:
+                pass
+
+        self.check(late, lambda: self.nothing_is_left(paths), 60)
+
+    def test_one_that_is_in_progress_already(self):
+        paths = Paths(BOOK)
+        entry = paths.enter("read")
+
+        def again():
+            try:
+                entry.__enter__()
+            except RuntimeError:
+                pass
+
+        self.check(again, lambda: self.assertEqual(([each.activation for each in paths.report().live], paths.waiting()), ([0], {})), 10)
+        entry.leave()
+
     def each_turn(self, action, remove, least):
         """Before each instruction of a remove that is woken while another waits behind it: the other comes to its turn all the same."""
         for times in itertools.count():

@@ -43,13 +43,17 @@ class _Operation(native.Record):
             before = paths._rotations.value
             code = _begin(paths._at, worker, self.op, self.at)
         if code == native.NOT_YOURS:
-            raise _InUse("this entry of {} is in progress already".format(self.name))
+            raise self.in_use()
         if code == native.NO_ROOM:
             running = native.live(paths._at)
             raise OutOfRoom("no room for {}: {} in progress, in a room of {} lines".format(self.name, running, paths._room))
         if code == native.CLOSED:
             raise paths._closed()
         return code == _STARTED
+
+    def in_use(self) -> _InUse:
+        """What a second that enters it gets."""
+        return _InUse("this entry of {} is in progress already".format(self.name))
 
     def admitted_by_now(self, worker: int, waiter: Waiter) -> bool:
         """Tries once more, where no path forbids it. Raises `Timeout` if the time is over."""
@@ -63,14 +67,18 @@ class _Operation(native.Record):
             raise Timeout(why.operation, why.path, why.resource, why.text, why.in_progress, self.timeout)
         return False
 
-    def undo(self, worker: int, waiter: Optional[Waiter]) -> None:
-        """After an exception: it isn't in progress, nobody waits for it, and others have their turn. To do so twice does no harm."""
+    def undo(self, error: BaseException, worker: int, waiter: Optional[Waiter]) -> None:
+        """After an exception: what was begun isn't in progress, nobody waits for it, and others have their turn. To do so twice does no
+        harm."""
         paths = self.paths
+        dropped = self.live and isinstance(error, GeneratorExit)
         if waiter is not None:
             paths._queues.quit(waiter)
-        if self.worker == worker:  # or another thread has begun the same entry
+        if self.worker == worker and not isinstance(error, _InUse):  # else another turn has begun the same entry
             _end(paths._at, self.at)
-        paths._queues.wake_all()
+        paths._queues.wake_all(again=True)
+        if dropped:
+            warnings.warn("an entry of {} was dropped in progress, and is finished now".format(self.name), ResourceWarning)
 
 
 _Turn = Generator[Optional[Waiter], None, int]
@@ -87,34 +95,30 @@ def _turn(operation: _Operation, worker: int, waiter_of: Optional[Type[Waiter]])
     was begun is known here at each instruction.
     """
     paths, waiter = operation.paths, None
+    if operation.live:
+        raise operation.in_use()
     try:
-        code = _begin(paths._at, worker, operation.op, operation.at)
-        if code != _STARTED and not operation.admitted(code, worker):
-            if waiter_of is None:
-                return int(code)
-            waiter = waiter_of(operation.op, operation.timeout)
-            paths._queues.join(waiter)
-            while not operation.admitted_by_now(worker, waiter):
-                yield waiter
-            paths._queues.quit(waiter)
-        yield None
-        code = _end(paths._at, operation.at)
-        if paths._queues.waiters:
-            paths._queues.wake_all()
-        return int(code)
-    except _InUse:
-        if waiter is not None:
-            paths._queues.quit(waiter)
-        raise
-    except BaseException as error:
-        dropped = operation.live and isinstance(error, GeneratorExit)
         try:
-            operation.undo(worker, waiter)
-        except BaseException:
-            operation.undo(worker, waiter)
+            code = _begin(paths._at, worker, operation.op, operation.at)
+            if code != _STARTED and not operation.admitted(code, worker):
+                if waiter_of is None:
+                    return int(code)
+                waiter = waiter_of(operation.op, operation.timeout)
+                paths._queues.join(waiter)
+                while not operation.admitted_by_now(worker, waiter):
+                    yield waiter
+                    paths._queues.asks(waiter)
+                paths._queues.quit(waiter)
+            yield None
+            code = _end(paths._at, operation.at)
+            if paths._queues.due:
+                paths._queues.wake_all()
+            return int(code)
+        except BaseException as error:
+            operation.undo(error, worker, waiter)
             raise
-        if dropped:
-            warnings.warn("an entry of {} was dropped in progress, and is finished now".format(operation.name), ResourceWarning)
+    except BaseException as error:
+        operation.undo(error, worker, waiter)  # again, for an interrupt may have cut it off
         raise
 
 

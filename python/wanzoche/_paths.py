@@ -10,7 +10,6 @@ import itertools
 import os
 import threading
 import weakref
-from collections import Counter
 from types import TracebackType
 from typing import Any, Awaitable, Callable, Dict, List, Optional, Tuple, Type, TypeVar, Union, cast
 
@@ -158,8 +157,8 @@ class Paths:
         """How many threads and tasks wait for each operation, of those for which any does."""
         if native.can_start(self._at, 0).code == native.CLOSED:
             raise self._closed()
-        waiters = Counter(self._queues.operations())
-        return {name: waiters[op] for op, name in enumerate(self._operations) if waiters[op]}
+        waiting = {name: self._queues.waiting(op) for name, op in self._numbers.items()}
+        return {name: number for name, number in waiting.items() if number}
 
     def journal(self) -> str:
         """The lines that the log hasn't got, since the last rotation, as a text: one for each start, use and finish, and for each that

@@ -15,7 +15,7 @@ import asyncio
 import threading
 import time
 from collections import OrderedDict
-from typing import Dict, Iterator, Optional, Set
+from typing import Dict, Optional, Set, Tuple
 
 from . import _native as native
 
@@ -93,74 +93,105 @@ class TaskWaiter(Waiter):
 _Loop = Optional[asyncio.AbstractEventLoop]
 
 
+class Queue:
+    """Who waits for one operation, in the order in which they came: threads, or the tasks of one loop."""
+
+    __slots__ = ("op", "loop", "waiters")
+
+    def __init__(self, op: int, loop: _Loop) -> None:
+        self.op = op
+        self.loop = loop
+        self.waiters: "OrderedDict[Waiter, None]" = OrderedDict()
+
+    def is_over(self) -> bool:
+        """Whether nobody can wait here any more, since the loop is closed."""
+        return self.loop is not None and self.loop.is_closed()
+
+    def first(self) -> Optional[Waiter]:
+        """Who came first; None if nobody waits."""
+        while self.waiters:
+            try:
+                return next(iter(self.waiters))
+            except (RuntimeError, StopIteration):
+                pass  # another thread changed it meanwhile
+        return None
+
+
 class Queues:
-    """Who waits at the system of a handle, in the order in which they came.
+    """Who waits at the system of a handle.
 
     Each operation has a queue for threads, and one for the tasks of each loop: a loop that ends while the first of its tasks is being
-    woken holds up nobody else.
+    woken holds up nobody else. A queue is in `due` if its first has to be woken once the operation may start, and not if one of it has been
+    woken already: that one asks again, or quits, and puts the queue back.
     """
 
-    __slots__ = ("_at", "_queues", "waiters")
+    __slots__ = ("_at", "_queues", "due")
 
     def __init__(self, at: int) -> None:
         self._at = at
-        self._queues: "Dict[int, Dict[_Loop, OrderedDict[Waiter, None]]]" = {}
-        self.waiters: Set[Waiter] = set()
+        self._queues: Dict[Tuple[int, _Loop], Queue] = {}
+        self.due: Set[Queue] = set()
 
     def join(self, waiter: Waiter) -> None:
-        """The waiter is woken once its operation may start."""
-        self.waiters.add(waiter)
-        queues = self._queues.setdefault(waiter.op, {})
-        for loop in [each for each in list(queues) if each is not None and each.is_closed()]:
-            self.waiters.difference_update(queues.pop(loop, ()))
-        queues.setdefault(waiter.loop, OrderedDict())[waiter] = None
+        """The waiter waits for its operation, behind those that wait for it already."""
+        queue = self._queues.get((waiter.op, waiter.loop)) or self._new_queue(waiter)
+        queue.waiters[waiter] = None
+        self.due.add(queue)
+
+    def asks(self, waiter: Waiter) -> None:
+        """The waiter was woken, and is going to ask whether it may start."""
+        queue = self._queues.get((waiter.op, waiter.loop))
+        if queue is not None:
+            self.due.add(queue)
 
     def quit(self, waiter: Waiter) -> None:
         """The waiter waits no more, and the next is woken. To do so twice does no harm."""
-        queue = self._queues.get(waiter.op, {}).get(waiter.loop)
+        queue = self._queues.get((waiter.op, waiter.loop))
         if queue is not None:
-            queue.pop(waiter, None)
-        self.waiters.discard(waiter)
-        self.wake(waiter.op)
+            queue.waiters.pop(waiter, None)
+            self.due.add(queue)
+            self._wake_first(queue)
 
-    def operations(self) -> Iterator[int]:
-        """The operation for which each waits."""
-        return (waiter.op for waiter in list(self.waiters) if waiter.loop is None or not waiter.loop.is_closed())
+    def waiting(self, op: int) -> int:
+        """How many wait for the operation."""
+        return sum(len(queue.waiters) for queue in list(self._queues.values()) if queue.op == op and not queue.is_over())
 
-    def wake(self, op: int) -> None:
-        """If the operation may start, wakes the first thread that waits for it, and the first task of each loop."""
-        queues = self._queues.get(op)
-        if not queues or not any(queues.values()) or native.can_start(self._at, op).code == native.BLOCKED:
-            return
-        for loop in list(queues):
-            self._wake_first(queues, loop)
-
-    def wake_all(self) -> None:
-        """The same for each operation."""
-        for op in list(self._queues):
-            self.wake(op)
+    def wake_all(self, again: bool = False) -> None:
+        """Wakes the first of each queue whose operation may start, if it is due; of all queues after an interrupt, which may have come just
+        before a wake."""
+        for queue in list(self._queues.values() if again else self.due):
+            self._wake_first(queue)
 
     def end_all(self) -> None:
         """Wakes all that wait."""
-        for waiter in list(self.waiters):
-            try:
-                waiter.wake()
-            except RuntimeError:
-                self.waiters.discard(waiter)
+        for queue in list(self._queues.values()):
+            for waiter in list(queue.waiters):
+                self._wake(queue, waiter)
 
-    def _wake_first(self, queues: "Dict[_Loop, OrderedDict[Waiter, None]]", loop: _Loop) -> None:
-        first = _first(queues.get(loop))
+    def _new_queue(self, waiter: Waiter) -> Queue:
+        for queue in list(self._queues.values()):
+            if queue.is_over():
+                self._drop(queue)
+        return self._queues.setdefault((waiter.op, waiter.loop), Queue(waiter.op, waiter.loop))
+
+    def _wake_first(self, queue: Queue) -> None:
+        if queue.waiters:
+            if native.can_start(self._at, queue.op).code != native.BLOCKED:
+                self.due.discard(queue)
+                first = queue.first()
+                if first is not None:
+                    self._wake(queue, first)
+        else:
+            self.due.discard(queue)
+            if queue.waiters:  # one that came meanwhile
+                self.due.add(queue)
+
+    def _wake(self, queue: Queue, waiter: Waiter) -> None:
         try:
-            if first is not None:
-                first.wake()
+            waiter.wake()
         except RuntimeError:
-            self.waiters.difference_update(queues.pop(loop, ()))
+            self._drop(queue)
 
-
-def _first(queue: "Optional[OrderedDict[Waiter, None]]") -> Optional[Waiter]:
-    while queue:
-        try:
-            return next(iter(queue))
-        except (RuntimeError, StopIteration):
-            pass  # another thread changed it meanwhile
-    return None
+    def _drop(self, queue: Queue) -> None:
+        self._queues.pop((queue.op, queue.loop), None)
+        self.due.discard(queue)
