@@ -320,9 +320,10 @@ class Texts(unittest.TestCase):
     def test_audits(self):
         self.assertEqual(str(wanzoche.audit(SLOT, "1 start remove: started 0\n")), "wrong line 0")
         self.assertTrue(wanzoche.audit(SLOT, ""))
-        with self.assertRaisesRegex(JournalError, "^bad line 1$"):
+        with self.assertRaisesRegex(JournalError, "^bad line 1, which is line 2 counted from 1:\n  hello$") as caught:
             wanzoche.audit(SLOT, "1 start remove: blocked 0\nhello\n")
-        with self.assertRaisesRegex(JournalError, "^undeclared in line 0$"):
+        self.assertEqual(caught.exception.line, 2)
+        with self.assertRaisesRegex(JournalError, "^undeclared in line 0, which is line 1 counted from 1:\n  1 start steal: blocked 0$"):
             wanzoche.audit(SLOT, "1 start steal: blocked 0\n")
         with self.assertRaises(DeclarationError):
             wanzoche.audit("resource", "")

@@ -36,12 +36,17 @@ class DeclarationError(WanzocheError, ValueError):
 
 
 class JournalError(WanzocheError, ValueError):
-    """The text isn't a journal. `line` counts from 0, as those of a text do; None if it is too long."""
+    """The text isn't a journal. `line` counts from 1; None if the text is too long."""
 
-    def __init__(self, why: str, line: Optional[int]) -> None:
-        self._made_of = (why, line)
-        self.line = line
-        super().__init__(why if line is None else "{} {}".format(why, line))
+    def __init__(self, why: str, text: bytes, number: Optional[int]) -> None:
+        self._made_of = (why, text, number)
+        self.line: Optional[int] = None
+        if number is None:
+            super().__init__(why)
+            return
+        self.line = number + 1
+        shown = text.split(b"\n", self.line)[number].decode("utf-8", "replace")
+        super().__init__("{} {}, which is line {} counted from 1:\n  {}".format(why, number, self.line, shown))
 
 
 class UnknownOperation(WanzocheError, LookupError):

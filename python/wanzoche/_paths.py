@@ -329,7 +329,7 @@ def audit(declaration: Union[str, bytes], journal: str, room: int = native.MOST_
     if native.TOO_LONG <= answer.code <= native.TOO_MANY:
         raise _declaration_error(answer, source)
     told = native.words(answer.code).decode()
-    raise JournalError(told, None if answer.code == native.JOURNAL_TOO_LONG else answer.number)
+    raise JournalError(told, text, None if answer.code == native.JOURNAL_TOO_LONG else answer.number)
 
 
 def _declaration_error(answer: native.Answer, source: bytes) -> DeclarationError:

@@ -14,12 +14,13 @@ ghost use Rattle.path_explain.specs.Explanations.{IsExplanation, IsExplanationOv
 
 use crate::declared::declaration_in_words;
 use crate::faults::{FileNames, Subject, tell_place};
+use crate::held::push_held;
 use crate::standing::{Moment, push_standing};
 use crate::why::push_why;
 use path_decl::Decl;
 use path_lines::{push_line, read_attempts};
 use path_locate::TextKind;
-use path_model::{Attempt, Line, OutOfMemory};
+use path_model::{Attempt, Line, OutOfMemory, Reply};
 use path_read::read;
 use path_shelf::Device;
 use path_streams::{Fault, Status, put_text};
@@ -28,8 +29,11 @@ use path_trace::read_own;
 use std::alloc::Allocator;
 use std::io::Write;
 
-/// The system's declaration as it stands.
-fn moment_of<D: Device, A: Allocator + Copy>(system: &Controller<D, A>) -> Moment<'_, A>
+/// The system's declaration as it stands after so many attempts.
+fn moment_of<D: Device, A: Allocator + Copy>(
+    system: &Controller<D, A>,
+    attempts: usize,
+) -> Moment<'_, A>
     ensures { result.gate.now.paths ≡ paths_of result.decl.now.declaration }
 {
     Moment {
@@ -37,37 +41,52 @@ fn moment_of<D: Device, A: Allocator + Copy>(system: &Controller<D, A>) -> Momen
         gate: system.gate(),
         live: system.live(),
         lines: system.lines(),
+        attempts: attempts as u64,
     }
 }
 
-/// Why an attempt got this reply, in lines of their own. Fails only if allocation fails.
+/// Why the attempt of this number got this reply, in lines of their own. Fails only if allocation fails.
 fn why<D: Device, A: Allocator + Copy>(
     alloc: A,
     system: &Controller<D, A>,
+    number: usize,
     line: &Line,
 ) -> Result<String<A>, OutOfMemory> {
     let mut text = String::new(alloc);
-    push_why(alloc, &mut text, &moment_of(system), line)?;
+    push_why(alloc, &mut text, &moment_of(system, number), line)?;
     Ok(text)
 }
 
-/// How each resource stands. Fails only if allocation fails.
+/// How each resource stands after so many attempts, of which these lines are left, and who waits. Fails only if allocation fails.
 fn standing<D: Device, A: Allocator + Copy>(
     alloc: A,
     system: &Controller<D, A>,
+    attempts: usize,
+    lines: &[Line],
 ) -> Result<String<A>, OutOfMemory> {
     let mut text = String::new(alloc);
-    push_standing(alloc, &mut text, &moment_of(system))?;
+    push_standing(alloc, &mut text, &moment_of(system, attempts))?;
+    push_held(alloc, &mut text, system.decl(), lines, system.live())?;
     Ok(text)
 }
 
-/// Steps the system, and appends the attempt with its number and its reply, and why it was refused. Fails only if allocation fails.
+/// Appends a line that the journal keeps: any but that of an attempt without room.
+fn keep<A: Allocator + Copy>(lines: &mut Vec<Line, A>, line: Line) -> Result<(), OutOfMemory> {
+    match line.reply {
+        Reply::NoRoom => Ok(()),
+        _ => Ok(lines.push(line)?),
+    }
+}
+
+/// Steps the system, appends its line, and appends the attempt with its number and its reply, and why it was refused. Fails only if
+/// allocation fails.
 fn push_step<D: Device, A: Allocator + Copy>(
     alloc: A,
     system: &mut Controller<D, A>,
     number: usize,
     worker: u32,
     attempt: Attempt,
+    lines: &mut Vec<Line, A>,
     text: &mut String<A>,
 ) -> Result<(), OutOfMemory>
     requires { system.old.earlier ≡ [] }
@@ -80,20 +99,22 @@ fn push_step<D: Device, A: Allocator + Copy>(
         attempt,
         reply,
     };
+    keep(lines, line)?;
     write!(text, "{number}: ")?;
     push_line(text, system.decl(), &line)?;
     text.push_str("\n")?;
-    let lines = why(alloc, system, &line)?;
-    text.push_str(&lines)?;
+    let reasons = why(alloc, system, number, &line)?;
+    text.push_str(&reasons)?;
     Ok(())
 }
 
-/// The system's replies to these attempts, in order, each with its number from 1 and why it was refused. Fails only if allocation
-/// fails.
+/// The system's replies to these attempts, in order, each with its number from 1 and why it was refused. Appends their lines. Fails only
+/// if allocation fails.
 fn steps<D: Device, A: Allocator + Copy>(
     alloc: A,
     system: &mut Controller<D, A>,
     entries: &[(u32, Attempt)],
+    lines: &mut Vec<Line, A>,
 ) -> Result<String<A>, OutOfMemory>
     requires earlier { system.old.earlier ≡ [] }
     requires opened { system.old.journal ≡ [] }
@@ -103,7 +124,7 @@ fn steps<D: Device, A: Allocator + Copy>(
     let mut text = String::new(alloc);
     for (i, entry) in entries.iter().enumerate() {
         let (worker, attempt) = *entry;
-        push_step(alloc, system, i + 1, worker, attempt, &mut text)?;
+        push_step(alloc, system, i + 1, worker, attempt, lines, &mut text)?;
     }
     Ok(text)
 }
@@ -120,9 +141,10 @@ fn explained<D: Device, A: Allocator + Copy>(
     ensures ok { IfOk result (λ text. IsExplanation (MayFail D.state) system.old.declaration system.old.room system.old.openings
         entries.now (string_bytes text)) }
 {
-    let mut text = steps(alloc, system, entries)?;
-    let lines = standing(alloc, system)?;
-    text.push_str(&lines)?;
+    let mut lines = Vec::new(alloc);
+    let mut text = steps(alloc, system, entries, &mut lines)?;
+    let rest = standing(alloc, system, entries.len(), &lines)?;
+    text.push_str(&rest)?;
     Ok(text)
 }
 

@@ -89,6 +89,7 @@ fn behind<A: Allocator + Copy>(
         gate: examined.gate(),
         live: &live,
         lines,
+        attempts: u64::from(lines).saturating_add(1),
     };
     if let Some(line) = owed {
         push_why(alloc, &mut text, &moment, &line)?;

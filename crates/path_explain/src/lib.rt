@@ -9,6 +9,7 @@ mod alike;
 mod declared;
 mod explain;
 mod faults;
+mod held;
 mod journal;
 mod names;
 mod refusal;

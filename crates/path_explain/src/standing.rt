@@ -19,6 +19,8 @@ pub struct Moment<'a, A: Allocator + Copy> {
     pub live: &'a [Activation],
     /// How many lines there are.
     pub lines: u32,
+    /// How many attempts there were: one for each line, and those without room.
+    pub attempts: u64,
 }
 
 /// Whether the operation is of this resource.

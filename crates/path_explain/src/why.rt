@@ -178,24 +178,42 @@ fn push_undeclared<A: Allocator + Copy>(
     Ok(())
 }
 
-/// Appends why an attempt had no room: what takes the places, and the least room that has them. A start takes one for its finish, too.
+/// How many places an attempt takes at most: a start takes one for its finish, too.
+fn places_for(attempt: Attempt) -> u64 {
+    match attempt {
+        Attempt::Start(_) => 2,
+        Attempt::Apply(_, _) | Attempt::Finish(_) => 1,
+    }
+}
+
+/// How many attempts before this one had no room.
+fn without_room(lines: u32, attempts: u64) -> u64 {
+    attempts.saturating_sub(1).saturating_sub(u64::from(lines))
+}
+
+/// Appends why an attempt had no room: what takes the places, and a room that has them. In that room an earlier attempt that had none here
+/// would have taken two places at most.
 fn push_no_room<A: Allocator + Copy>(
     text: &mut String<A>,
     moment: &Moment<'_, A>,
     line: &Line,
 ) -> Result<(), OutOfMemory> {
     let (lines, live) = (moment.lines, moment.live.len());
-    let wanted: u64 = match line.attempt {
-        Attempt::Start(_) => 2,
-        Attempt::Apply(_, _) | Attempt::Finish(_) => 1,
-    };
+    let wanted = places_for(line.attempt);
+    let before = without_room(lines, moment.attempts);
+    let kept = before.saturating_mul(2);
     let room = u64::from(lines)
         .saturating_add(live as u64)
-        .saturating_add(wanted);
+        .saturating_add(wanted)
+        .saturating_add(kept);
     write!(
         text,
-        "   places: {lines} for lines, {live} for finishes to come, {wanted} for it; "
+        "   places: {lines} for lines, {live} for finishes to come, "
     )?;
+    if before > 0 {
+        write!(text, "{kept} for {before} before it without room, ")?;
+    }
+    write!(text, "{wanted} for it; ")?;
     if room <= u64::from(MOST_LINES) {
         writeln!(text, "--room {room} would do")?;
     } else {

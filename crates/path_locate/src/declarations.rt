@@ -50,7 +50,8 @@ fn with_token<A: Allocator + Copy>(
     Ok(text)
 }
 
-/// Whether a token can go on behind these bytes: a text that ends with it isn't at fault there or before, by the grammar.
+/// Whether a token can go on behind these bytes: a text that ends with it isn't at fault there or before, by the grammar. None can if a
+/// token among these bytes is too long.
 fn goes_on<A: Allocator + Copy>(
     alloc: A,
     before: &[u8],
@@ -61,7 +62,12 @@ fn goes_on<A: Allocator + Copy>(
     match read(alloc, &text) {
         Err(DeclFault::OutOfMemory) => Err(OutOfMemory),
         Err(DeclFault::Unexpected(at) | DeclFault::TooDeep(at)) => Ok(at as usize > place),
-        Err(DeclFault::TooLong) => Ok(false),
+        Err(
+            DeclFault::TooLong
+            | DeclFault::BadByte(_)
+            | DeclFault::WordTooLong(_)
+            | DeclFault::NumberTooLong(_),
+        ) => Ok(false),
         _ => Ok(true),
     }
 }
@@ -243,7 +249,12 @@ fn place(text: &[u8], offset: u32) -> Spot<'_>
 /// Whether this can be the cause of a declaration's fault: white space has no meaning there.
 fn matters(likely: Likely) -> bool {
     match likely {
-        Likely::ByteOrderMark | Likely::UpperCase | Likely::LeadingZero | Likely::PastAscii => true,
+        Likely::ByteOrderMark
+        | Likely::UpperCase
+        | Likely::LeadingZero
+        | Likely::PastAscii
+        | Likely::Comment
+        | Likely::Sign => true,
         Likely::CarriageReturn | Likely::Tab | Likely::BlankLine | Likely::Space => false,
     }
 }

@@ -23,6 +23,10 @@ pub enum Likely {
     Space,
     /// The token has a byte past ASCII.
     PastAscii,
+    /// A comment begins there, as other languages have them.
+    Comment,
+    /// A name has a sign in it that names don't have, or a capital letter.
+    Sign,
 }
 
 impl Likely {
@@ -37,6 +41,9 @@ impl Likely {
             Likely::LeadingZero => "a number with a leading zero; write it without",
             Likely::Space => "a space too many",
             Likely::PastAscii => "a character that isn't ASCII",
+            Likely::Comment => "a comment; there are none, so take it out",
+            Likely::Sign =>
+                "a name has small letters a to z, digits and _, and begins with a letter",
         }
     }
 }
@@ -95,6 +102,31 @@ fn has_leading_zero(token: &[u8]) -> bool {
     }
 }
 
+/// Whether a name can have this byte behind its first.
+fn is_of_a_name(byte: u8) -> bool {
+    matches!(byte, b'a'..=b'z' | b'0'..=b'9' | b'_')
+}
+
+/// Whether a comment begins here: with `#`, but not with a number behind it, which is how an undeclared operation is written; or with `//`
+/// or `--`.
+fn begins_comment(rest: &[u8]) -> bool {
+    match rest {
+        [b'#', second, ..] => !second.is_ascii_digit(),
+        [b'#'] | [b'/', b'/', ..] | [b'-', b'-', ..] => true,
+        _ => false,
+    }
+}
+
+/// Whether the token is a name but for a sign or a capital letter, or the place is such a sign behind the letters of a name.
+fn is_name_with_sign(before: &[u8], token: &[u8]) -> bool {
+    let follows_name = before.last().is_some_and(|byte| is_of_a_name(*byte));
+    let begins = token.first().is_some_and(|byte| byte.is_ascii_alphabetic());
+    let has_sign = token
+        .iter()
+        .any(|byte| byte.is_ascii_graphic() && !is_of_a_name(*byte));
+    has_sign && (begins || follows_name)
+}
+
 /// What a token of one byte tells that is white space.
 fn told_by(byte: u8) -> Option<Likely> {
     match byte {
@@ -123,6 +155,12 @@ pub fn likely_at(spot: &Spot<'_>) -> Option<Likely> {
     }
     if is_blank(spot.text) {
         return Some(Likely::BlankLine);
+    }
+    if begins_comment(rest) {
+        return Some(Likely::Comment);
+    }
+    if is_name_with_sign(spot.text.get(..spot.at).unwrap_or(&[]), token) {
+        return Some(Likely::Sign);
     }
     told_by(*rest.first()?)
 }

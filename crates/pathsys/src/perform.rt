@@ -1,10 +1,10 @@
 //! Runs the command that the command line asks for.
 
-ghost use Rattle.std.specs.Prelude.{◌≢◌};
+ghost use Rattle.std.specs.Prelude.{◌≡◌, ◌≢◌};
 ghost use Rattle.clap.specs.Words.{kind_of};
 
 use crate::command::command;
-use crate::files::{read_named, read_stdin};
+use crate::files::{STDIN, read_named, read_stdin, tell_unread};
 use clap::error::ErrorKind;
 use clap::{ArgMatches, Command, Error};
 use path_commands::{JournalFile, audit_bytes, audit_files, check_to, compile_to};
@@ -12,8 +12,10 @@ use path_explain::{FileNames, explain_attempts, explain_declaration, explain_jou
 use path_follow::follow_bytes;
 use path_picture::{picture_bytes, picture_journal_bytes};
 use path_processes::run_bytes;
+use path_refusals::{Source, Subject, tell_place};
 use path_streams::{Fault, Status, tell, whole};
 use path_trace::{ROOM, trace_bytes};
+use std::alloc::Allocator;
 use std::env;
 use std::io::Write;
 use std::rt::{Env, Files};
@@ -48,6 +50,31 @@ fn file<'a, R: Files + Input + AllocGlobal>(
     read_named(rt, words.get_str(id).unwrap_or(""))
 }
 
+/// The name of the file under this id, as faults name it.
+fn name_of<'a>(words: &ArgMatches<'a>, id: &str) -> &'a str {
+    match words.get_str(id) {
+        Some("-") => STDIN,
+        Some(name) => name,
+        None => "",
+    }
+}
+
+/// Says on `err` where a text is at fault for which a command of these words ended with this status, and returns the status.
+fn with_place<A: Allocator + Copy, E: Write>(
+    alloc: A,
+    words: &ArgMatches<'_>,
+    declaration: &[u8],
+    subject: Subject<'_>,
+    status: Status,
+    err: &mut E,
+) -> Status
+    ensures { result ≡ status }
+{
+    let declaration = Source::whole(name_of(words, "DECL"), declaration);
+    let _said = tell_place(alloc, declaration, subject, status, err);
+    status
+}
+
 /// The room that the words name, or else the usual one.
 fn room_in(words: &ArgMatches<'_>) -> u32 {
     words.get_one("room").unwrap_or(ROOM)
@@ -61,7 +88,9 @@ fn check<'a, R: Files + Input + AllocGlobal, O: Write, E: Write>(
     err: &mut E,
 ) -> Result<Status, Fault<'a>> {
     let declaration = file(rt, words, "DECL")?;
-    Ok(check_to(rt.alloc(), &declaration, out, err))
+    let alloc = rt.alloc();
+    let status = check_to(alloc, &declaration, out, err);
+    Ok(with_place(alloc, words, &declaration, Subject::Nothing, status, err))
 }
 
 /// Prints the semaphores of the declaration of a file.
@@ -72,7 +101,9 @@ fn compile<'a, R: Files + Input + AllocGlobal, O: Write, E: Write>(
     err: &mut E,
 ) -> Result<Status, Fault<'a>> {
     let declaration = file(rt, words, "DECL")?;
-    Ok(compile_to(rt.alloc(), &declaration, out, err))
+    let alloc = rt.alloc();
+    let status = compile_to(alloc, &declaration, out, err);
+    Ok(with_place(alloc, words, &declaration, Subject::Nothing, status, err))
 }
 
 /// Traces the attempts of one file under the declaration of another.
@@ -84,8 +115,10 @@ fn trace<'a, R: Files + Input + AllocGlobal, O: Write, E: Write>(
 ) -> Result<Status, Fault<'a>> {
     let declaration = file(rt, words, "DECL")?;
     let attempts = file(rt, words, "ATTEMPTS")?;
-    let (room, report) = (room_in(words), words.get_flag("report"));
-    Ok(trace_bytes(rt.alloc(), &declaration, room, report, &attempts, out, err))
+    let (alloc, room, report) = (rt.alloc(), room_in(words), words.get_flag("report"));
+    let status = trace_bytes(alloc, &declaration, room, report, &attempts, out, err);
+    let subject = Subject::Attempts(Source::whole(name_of(words, "ATTEMPTS"), &attempts));
+    Ok(with_place(alloc, words, &declaration, subject, status, err))
 }
 
 /// Explains the attempts or the journal of one file under the declaration of another, or that declaration.
@@ -122,15 +155,10 @@ fn follow<'a, R: Files + Input + AllocGlobal, O: Write, E: Write>(
     err: &mut E,
 ) -> Result<Status, Fault<'a>> {
     let declaration = file(rt, words, "DECL")?;
+    let (alloc, room) = (rt.alloc(), room_in(words));
     let mut input = rt.reader();
-    Ok(follow_bytes(
-        rt.alloc(),
-        &declaration,
-        room_in(words),
-        &mut input,
-        out,
-        err,
-    ))
+    let status = follow_bytes(alloc, &declaration, room, &mut input, out, err);
+    Ok(with_place(alloc, words, &declaration, Subject::Nothing, status, err))
 }
 
 /// Draws the attempts or the journal of one file under the declaration of another.
@@ -144,10 +172,14 @@ fn picture<'a, R: Files + Input + AllocGlobal, O: Write, E: Write>(
     let (alloc, room) = (rt.alloc(), room_in(words));
     if let Some(name) = words.get_str("journal") {
         let journal = read_named(rt, name)?;
-        return Ok(picture_journal_bytes(alloc, &declaration, &journal, out, err));
+        let status = picture_journal_bytes(alloc, &declaration, &journal, out, err);
+        let subject = Subject::Journal(Source::whole(name_of(words, "journal"), &journal), room);
+        return Ok(with_place(alloc, words, &declaration, subject, status, err));
     }
     let attempts = file(rt, words, "ATTEMPTS")?;
-    Ok(picture_bytes(alloc, &declaration, room, &attempts, out, err))
+    let status = picture_bytes(alloc, &declaration, room, &attempts, out, err);
+    let subject = Subject::Attempts(Source::whole(name_of(words, "ATTEMPTS"), &attempts));
+    Ok(with_place(alloc, words, &declaration, subject, status, err))
 }
 
 /// The files of a journal's segments, in order.
@@ -176,6 +208,31 @@ fn hint_at_explain<E: Write>(words: &ArgMatches<'_>, journal: &str, err: &mut E)
     ));
 }
 
+/// The name of a file, as faults name it.
+fn shown(name: &str) -> &str {
+    if name == "-" { STDIN } else { name }
+}
+
+/// Says on `err` where the first of these files is at fault that isn't a journal, for an audit of all that ended with this status; where
+/// the declaration is, if that is refused.
+fn tell_refused_file<A: Allocator + Copy, E: Write>(
+    alloc: A,
+    words: &ArgMatches<'_>,
+    declaration: &[u8],
+    files: &[JournalFile<A>],
+    status: Status,
+    err: &mut E,
+) {
+    let declaration = Source::whole(name_of(words, "DECL"), declaration);
+    let mut said = false;
+    for file in files {
+        if !said && status != Status::Unsound {
+            let subject = Subject::Journal(Source::whole(shown(&file.name), &file.text), 1);
+            said = tell_place(alloc, declaration, subject, status, err);
+        }
+    }
+}
+
 /// Audits the journal of one file, or its segments in several, under the declaration of another.
 fn audit<'a, R: Files + Input + AllocGlobal, O: Write, E: Write>(
     rt: &R,
@@ -187,9 +244,13 @@ fn audit<'a, R: Files + Input + AllocGlobal, O: Write, E: Write>(
     let files = journal_files(rt, words)?;
     let (alloc, room) = (rt.alloc(), room_in(words));
     let [file] = files.as_slice() else {
-        return Ok(audit_files(alloc, &declaration, room, &files, out, err));
+        let status = audit_files(alloc, &declaration, room, &files, out, err);
+        tell_refused_file(alloc, words, &declaration, &files, status, err);
+        return Ok(status);
     };
     let status = audit_bytes(alloc, &declaration, room, &file.text, out, err);
+    let subject = Subject::Journal(Source::whole(shown(&file.name), &file.text), room);
+    let status = with_place(alloc, words, &declaration, subject, status, err);
     if status == Status::Unsound {
         hint_at_explain(words, &file.name, err);
     }
@@ -205,15 +266,15 @@ fn run<'a, R: Files + Input + AllocGlobal + Threads + Wait + Sync, O: Write, E: 
 ) -> Result<Status, Fault<'a>> {
     let declaration = file(rt, words, "DECL")?;
     let script = file(rt, words, "SCRIPT")?;
-    Ok(run_bytes(
-        rt,
-        rt.alloc(),
-        &declaration,
-        room_in(words),
-        &script,
-        out,
-        err,
-    ))
+    let (alloc, room) = (rt.alloc(), room_in(words));
+    let status = run_bytes(rt, alloc, &declaration, room, &script, out, err);
+    let subject = Subject::Script(Source::whole(name_of(words, "SCRIPT"), &script));
+    Ok(with_place(alloc, words, &declaration, subject, status, err))
+}
+
+/// How many line feeds a text has.
+fn lines_of(text: &[u8]) -> usize {
+    text.iter().filter(|byte| **byte == b'\n').count()
 }
 
 /// Traces standard input.
@@ -225,8 +286,21 @@ fn without_words<'a, R: Input + AllocGlobal, O: Write, E: Write>(
 ) -> Result<Status, Fault<'a>> {
     let input = read_stdin(rt)?;
     let (declaration, attempts) = whole(&input);
-    let (room, report) = (room_in(words), words.get_flag("report"));
-    Ok(trace_bytes(rt.alloc(), declaration, room, report, attempts, out, err))
+    let (alloc, room, report) = (rt.alloc(), room_in(words), words.get_flag("report"));
+    let status = trace_bytes(alloc, declaration, room, report, attempts, out, err);
+    let subject = Subject::Attempts(Source {
+        name: STDIN,
+        text: attempts,
+        lines_before: lines_of(declaration).saturating_add(1),
+    });
+    let _said = tell_place(
+        alloc,
+        Source::whole(STDIN, declaration),
+        subject,
+        status,
+        err,
+    );
+    Ok(status)
 }
 
 /// Runs the command that clap matched.
@@ -292,7 +366,7 @@ fn asked<R: Files + Input + AllocGlobal + Threads + Wait + Sync, O: Write, E: Wr
     match command.try_get_matches_from(words_for_clap(words)) {
         Ok(matches) => match matched(rt, &matches, out, err) {
             Ok(status) => status,
-            Err(fault) => tell(err, fault),
+            Err(fault) => tell_unread(rt, fault, err),
         },
         Err(error) => tell_words(&error, out, err),
     }

@@ -39,7 +39,30 @@ pub const USES: &[Row] = &[
          \nt\n   can start: count\n   blocked: nothing\n   live: nothing\n   stuck for ever: no\n",
         "",
     ),
+    (
+        "resource t tally operation count end",
+        Asked::Attempts(3, "1 start count\n2 start count\n3 start count\n"),
+        Status::Done,
+        "1: 1 start count: started 0\n\
+         2: 2 start count: no room\n   places: 1 for lines, 1 for finishes to come, 2 for it; --room 4 would do\n\
+         3: 3 start count: no room\n   places: 1 for lines, 1 for finishes to come, 2 for 1 before it without room, 2 for it; \
+         --room 6 would do\n\
+         \nt\n   can start: count\n   blocked: nothing\n   live: count (activation 0, worker 1)\n   stuck for ever: no\n",
+        "",
+    ),
+    (
+        "resource t tally operation count end",
+        Asked::Attempts(6, "1 start count\n2 start count\n3 start count\n"),
+        Status::Done,
+        "1: 1 start count: started 0\n2: 2 start count: started 1\n3: 3 start count: started 2\n\
+         \nt\n   can start: count\n   blocked: nothing\n   live: count (activation 0, worker 1), count (activation 1, worker 2), \
+         count (activation 2, worker 3)\n   stuck for ever: no\n",
+        "",
+    ),
 ];
+
+/// Two locks, and an operation that no path names.
+const LOCKS: &str = "resource r cell operation la, lb, free path la end path lb end end";
 
 /// Starts that are blocked: by two paths with the same tree and by a third; by five activations; and for ever, beside a resource that
 /// goes on.
@@ -72,6 +95,95 @@ pub const BLOCKED: &[Row] = &[
         "",
     ),
 ];
+
+/// Two workers that wait for each other; then the same with a third that has something live and doesn't wait, with a use as the last
+/// attempt of one, and with a finish of something else behind them, of which it isn't said; and one worker that waits for what it holds
+/// itself, also behind an attempt without room.
+pub const WAITING: &[Row] = &[
+    (
+        LOCKS,
+        Asked::Attempts(4096, "1 start la\n2 start lb\n1 start lb\n2 start la\n"),
+        Status::Done,
+        "1: 1 start la: started 0\n2: 2 start lb: started 1\n\
+         3: 1 start lb: blocked 1\n   forbidden by path 1: path lb end\n   in progress: lb (activation 1, worker 2); \
+         may begin next: nothing\n\
+         4: 2 start la: blocked 0\n   forbidden by path 0: path la end\n   in progress: la (activation 0, worker 1); \
+         may begin next: nothing\n\
+         \nr\n   can start: free\n   blocked: la by path 0, lb by path 1\n   \
+         live: la (activation 0, worker 1), lb (activation 1, worker 2)\n   stuck for ever: no\n\
+         \nall that is live waits\n   worker 1 holds la and was refused lb\n   worker 2 holds lb and was refused la\n   \
+         none of these starts before something finishes\n",
+        "",
+    ),
+    (
+        LOCKS,
+        Asked::Attempts(4096, "3 start free\n1 start la\n1 start la\n"),
+        Status::Done,
+        "1: 3 start free: started 0\n2: 1 start la: started 1\n\
+         3: 1 start la: blocked 0\n   forbidden by path 0: path la end\n   in progress: la (activation 1, worker 1); \
+         may begin next: nothing\n\
+         \nr\n   can start: lb, free\n   blocked: la by path 0\n   \
+         live: free (activation 0, worker 3), la (activation 1, worker 1)\n   stuck for ever: no\n",
+        "",
+    ),
+    (
+        LOCKS,
+        Asked::Attempts(4096, "1 start la\n1 start la\n1 use 0 look\n"),
+        Status::Done,
+        "1: 1 start la: started 0\n\
+         2: 1 start la: blocked 0\n   forbidden by path 0: path la end\n   in progress: la (activation 0, worker 1); \
+         may begin next: nothing\n\
+         3: 1 use 0 look: used 0\n\
+         \nr\n   can start: lb, free\n   blocked: la by path 0\n   live: la (activation 0, worker 1)\n   stuck for ever: no\n",
+        "",
+    ),
+    (
+        LOCKS,
+        Asked::Attempts(4096, "3 start free\n1 start la\n1 start la\n3 finish 0\n"),
+        Status::Done,
+        "1: 3 start free: started 0\n2: 1 start la: started 1\n\
+         3: 1 start la: blocked 0\n   forbidden by path 0: path la end\n   in progress: la (activation 1, worker 1); \
+         may begin next: nothing\n\
+         4: 3 finish 0: finished\n\
+         \nr\n   can start: lb, free\n   blocked: la by path 0\n   live: la (activation 1, worker 1)\n   stuck for ever: no\n",
+        "",
+    ),
+    (
+        LOCKS,
+        Asked::Attempts(5, "1 start la\n1 start lb\n1 start la\n1 start free\n"),
+        Status::Done,
+        "1: 1 start la: started 0\n2: 1 start lb: started 1\n\
+         3: 1 start la: no room\n   places: 2 for lines, 2 for finishes to come, 2 for it; --room 6 would do\n\
+         4: 1 start free: no room\n   places: 2 for lines, 2 for finishes to come, 2 for 1 before it without room, 2 for it; \
+         --room 8 would do\n\
+         \nr\n   can start: free\n   blocked: la by path 0, lb by path 1\n   \
+         live: la (activation 0, worker 1), lb (activation 1, worker 1)\n   stuck for ever: no\n",
+        "",
+    ),
+    (
+        LOCKS,
+        Asked::Attempts(6, "1 start la\n1 start lb\n1 start la\n1 start free\n"),
+        Status::Done,
+        "1: 1 start la: started 0\n2: 1 start lb: started 1\n\
+         3: 1 start la: blocked 0\n   forbidden by path 0: path la end\n   in progress: la (activation 0, worker 1); \
+         may begin next: nothing\n\
+         4: 1 start free: no room\n   places: 3 for lines, 2 for finishes to come, 2 for it; --room 7 would do\n\
+         \nr\n   can start: free\n   blocked: la by path 0, lb by path 1\n   \
+         live: la (activation 0, worker 1), lb (activation 1, worker 1)\n   stuck for ever: no\n\
+         \nall that is live waits\n   worker 1 holds la, lb and was refused la\n   none of these starts before something finishes\n",
+        "",
+    ),
+];
+
+/// A start of an operation that isn't declared.
+pub const UNDECLARED: &[Row] = &[(
+    "resource r cell operation a, b end",
+    Asked::Attempts(4096, "1 start #7\n"),
+    Status::Done,
+    "1: 1 start #7: unknown operation\n   no operation has the number 7: 2 are declared\n\
+     \nr\n   can start: a, b\n   blocked: nothing\n   live: nothing\n   stuck for ever: no\n",
+    "",
+)];
 
 /// Which of several faults counts, and where it is.
 pub const REFUSED: &[Row] = &[
@@ -107,6 +219,16 @@ fn uses_that_are_refused(rt: HostRuntime) {
 #[test]
 fn starts_that_are_blocked(rt: HostRuntime) {
     check_endings(&rt, rt.alloc(), BLOCKED);
+}
+
+#[test]
+fn workers_that_wait(rt: HostRuntime) {
+    check_endings(&rt, rt.alloc(), WAITING);
+}
+
+#[test]
+fn starts_of_what_is_not_declared(rt: HostRuntime) {
+    check_endings(&rt, rt.alloc(), UNDECLARED);
 }
 
 #[test]

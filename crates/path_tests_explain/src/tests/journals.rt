@@ -52,6 +52,14 @@ pub const JOURNALS: &[Row] = &[
          stuck for ever: no\n",
         "",
     ),
+    (
+        SLOT,
+        Asked::Journal(1, "1 start deposit: started 1\n"),
+        Status::Unsound,
+        "line 1 is wrong: 1 start deposit: started 1\n   owed: no room\n   wrong in any room\n\
+         \nslot\n   can start: deposit\n   blocked: remove by path 0\n   live: nothing\n   stuck for ever: no\n",
+        "",
+    ),
     // In a room that has enough, the third line is wrong, and finishes what was live. The blocked start wants room for four, and the two
     // right lines and what is live behind the third take two.
     (

@@ -10,6 +10,28 @@ const TOKENS: &[Row<'static>] = &[
         "F:2:12: no token begins with this\n\toperation $a\n\t          ^^\nexpected a name\n",
     ),
     (
+        "a bad byte behind a word that is too long, where nothing can be said of what should stand there",
+        "resource abcdefghijklmnopqrstuvwxyzabcdefg ?",
+        "F:1:44: no token begins with this\nresource abcdefghijklmnopqrstuvwxyzabcdefg ?\n                                           ^\n",
+    ),
+    (
+        "a bad byte behind a number that is too long",
+        "resource r queue 1234567890 ?",
+        "F:1:29: no token begins with this\nresource r queue 1234567890 ?\n                            ^\n",
+    ),
+    (
+        "a sign in a name",
+        "resource r cell operation check-in end",
+        "F:1:32: no token begins with this\nresource r cell operation check-in end\n                               ^^^\n\
+         expected `path` or `end` or `,`\nlikely: a name has small letters a to z, digits and _, and begins with a letter\n",
+    ),
+    (
+        "a comment",
+        "resource r cell # one place\noperation a end",
+        "F:1:17: no token begins with this\nresource r cell # one place\n                ^\n\
+         expected `operation`\nlikely: a comment; there are none, so take it out\n",
+    ),
+    (
         "a byte past ASCII, behind CR",
         "resource r cell\r\noperation d\u{e9}p\u{f4}t end",
         "F:2:12: no token begins with this\noperation d\u{e9}p\u{f4}t end\n           ^^^^\n\

@@ -1,6 +1,6 @@
-//! What is told of declarations past their limits.
+//! What is told of texts past their limits.
 
-use crate::tests::told::told_of_declaration;
+use crate::tests::told::{Kind, told_of, told_of_declaration};
 use std::alloc::Global;
 use std::process::Abort;
 
@@ -112,4 +112,56 @@ fn names_past_the_limit(rt: HostRuntime) {
         &past,
         "^^^\nexpected at most 64 names in a path\n",
     );
+}
+
+// Checks what is wrong with a text of this kind, in the words of the first line that is told of it.
+fn check_words(rt: &impl Abort, heap: Global, kind: Kind, text: &[u8], want: &str) {
+    let told = told_of(heap, kind, text).expect(rt, "there is memory");
+    assert!(rt;
+        told.as_str().lines().next().unwrap_or("").ends_with(want),
+        "{told}"
+    );
+}
+
+#[test]
+fn texts_past_the_limit(rt: HostRuntime) {
+    let heap = rt.alloc();
+    let script = vec![in heap; b'x'; 262_145].expect(&rt, "there is memory");
+    check_words(
+        &rt,
+        heap,
+        Kind::Script,
+        &script,
+        ": the text has more than 262,144 bytes",
+    );
+    let attempts = vec![in heap; b'x'; 134_217_729].expect(&rt, "there is memory");
+    check_words(
+        &rt,
+        heap,
+        Kind::Attempts,
+        &attempts,
+        ": the text has more than 134,217,728 bytes",
+    );
+    let told = told_of_declaration(heap, &script).expect(&rt, "there is memory");
+    assert!(rt;
+        told.as_str()
+            .starts_with("F:1:65537: the text has more than 65,536 bytes\n"),
+        "{told}"
+    );
+}
+
+#[test]
+fn scripts_past_the_limit(rt: HostRuntime) {
+    let heap = rt.alloc();
+    let mut deep = String::new(heap);
+    push(&rt, &mut deep, "process p\n");
+    let mut many = String::new(heap);
+    for number in 0..17 {
+        push(&rt, &mut deep, "enter deposit\n");
+        write!(many, "process p{number}\nend\n").expect(&rt, "there is memory");
+    }
+    let want = "F:18:1: this would be the 17th operation entered at once";
+    check_words(&rt, heap, Kind::Script, deep.as_bytes(), want);
+    let want = "F:33:1: this would be the 17th process or the 4,097th step";
+    check_words(&rt, heap, Kind::Script, many.as_bytes(), want);
 }

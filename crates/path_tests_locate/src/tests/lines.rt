@@ -60,6 +60,24 @@ const ATTEMPTS: &[Row<'static>] = &[
          nearest name: remove\n",
     ),
     (
+        "a sign in a name",
+        "1 start check-in",
+        "F:1:9: this line can't be read\n1 start check-in\n        ^^^^^^^^\nexpected the name of a declared operation\n\
+         likely: a name has small letters a to z, digits and _, and begins with a letter\n",
+    ),
+    (
+        "a capital letter in a name",
+        "1 start Deposit",
+        "F:1:9: this line can't be read\n1 start Deposit\n        ^^^^^^^\nexpected the name of a declared operation\n\
+         nearest name: deposit\nlikely: a name has small letters a to z, digits and _, and begins with a letter\n",
+    ),
+    (
+        "a comment",
+        "# the first\n1 start deposit",
+        "F:1:1: this line can't be read\n# the first\n^\nexpected a worker's number, 0 to 4294967295\n\
+         likely: a comment; there are none, so take it out\n",
+    ),
+    (
         "a name past ASCII",
         "1 start d\u{e9}p\u{f4}t",
         "F:1:9: this line can't be read\n1 start d\u{e9}p\u{f4}t\n        ^^^^^\nexpected the name of a declared operation\n\
@@ -161,6 +179,12 @@ const SCRIPTS: &[Row<'static>] = &[
         "process p\nLEAVE\nend\n",
         "F:2:1: this line can't stand here\nLEAVE\n^^^^^\nexpected `enter NAME`, `use VERB`, `leave` or `end`\n\
          likely: capital letters; write the word in small ones\n",
+    ),
+    (
+        "an indented step",
+        "process p\n  enter deposit\n  leave\nend\n",
+        "F:2:1: this line can't stand here\n  enter deposit\n^\nexpected `enter NAME`, `use VERB`, `leave` or `end`\n\
+         likely: a space too many\n",
     ),
     (
         "nothing to leave",

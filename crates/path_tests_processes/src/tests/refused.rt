@@ -1,7 +1,7 @@
 //! Runs that are refused, and writers that fail.
 
 use crate::tests::own::{Case, Ending, SLOT, check_ending, over_slot, run_case};
-use path_streams::Status;
+use path_streams::{Fault, Status, tell};
 use std::alloc::Global;
 use std::io;
 use std::io::{ErrorKind, Write};
@@ -116,4 +116,13 @@ fn check_untold<R: Threads + Wait + Abort + Sync>(rt: &R, alloc: Global) {
 #[test]
 fn ends_that_cannot_be_told(rt: HostRuntime) {
     check_untold(&rt, rt.alloc());
+}
+
+/// No run has shown it; the words are those that it would have.
+#[test]
+fn a_run_that_is_not_settled(rt: HostRuntime) {
+    let mut err = Vec::new(rt.alloc());
+    let status = tell(&mut err, Fault::Unsettled);
+    let want = (Status::Unsound, b"run: not settled\n".as_slice());
+    assert_eq!(&rt; (status, err.as_slice()), want);
 }

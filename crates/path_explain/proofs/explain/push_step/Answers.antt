@@ -12,7 +12,7 @@ returns g c =
     let same : c.decl.result.now.declaration ≡ c.args.system.now.declaration = c.decl.ensures ∙ ap (λ (s : Account). s.declaration) c.step-reply.ensures.journal in
     record {
       reply = c.step-reply.result;
-      why = string_bytes c.in_ok-lines.lines;
+      why = string_bytes c.in_ok-reasons.reasons;
       owed = rw c.requires at c.step-reply.ensures.owed;
       failed = c.step-reply.ensures.may_fail;
       stepped = c.step-reply.ensures.journal;
