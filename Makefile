@@ -126,6 +126,7 @@ test: all test_program test_library test_package test_page
 test_program: $(program)
 	examples/run $(program)
 	examples/follow_test $(program)
+	examples/terminal_test $(program)
 
 test_library: library
 	c/tests/run $(OUT)

@@ -6,8 +6,11 @@ mod files;
 mod perform;
 
 use crate::perform::perform;
+use std::io::IsTerminal;
 use std::process::ExitCode;
 
 fn main(rt: HostRuntime) -> ExitCode {
-    ExitCode::from(u8::from(perform(&rt, &mut rt.stdout(), &mut rt.stderr())))
+    let is_typed = rt.stdin().is_terminal();
+    let status = perform(&rt, is_typed, &mut rt.stdout(), &mut rt.stderr());
+    ExitCode::from(u8::from(status))
 }

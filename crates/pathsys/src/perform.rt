@@ -22,6 +22,13 @@ use std::rt::{Env, Files};
 use std::sync::Wait;
 use std::thread::Threads;
 
+/// What to type where there is no command.
+const INVITATION: &str =
+    "type a declaration, a line %, and attempts, and end with Ctrl-D; pathsys --help has an example";
+
+/// What to type to a follow.
+const FOLLOW_INVITATION: &str = "type attempts, one a line; ? writes the report, and Ctrl-D ends";
+
 /// Writes clap's message: help and the version on standard output, all else on standard error.
 fn tell_words<O: Write, E: Write>(error: &Error, out: &mut O, err: &mut E) -> Status
     // A refused command line doesn't end as done.
@@ -147,15 +154,24 @@ fn explain<'a, R: Files + Input + AllocGlobal, O: Write, E: Write>(
     Ok(explain_declaration(alloc, &declaration, names, out, err))
 }
 
+/// Says on `err` how to go on, if standard input is typed: it would wait without a word.
+fn invite<E: Write>(is_typed: bool, what: &str, err: &mut E) {
+    if is_typed {
+        drop(writeln!(err, "{what}"));
+    }
+}
+
 /// Answers attempts from standard input under the declaration of a file.
 fn follow<'a, R: Files + Input + AllocGlobal, O: Write, E: Write>(
     rt: &R,
+    is_typed: bool,
     words: &ArgMatches<'a>,
     out: &mut O,
     err: &mut E,
 ) -> Result<Status, Fault<'a>> {
     let declaration = file(rt, words, "DECL")?;
     let (alloc, room) = (rt.alloc(), room_in(words));
+    invite(is_typed, FOLLOW_INVITATION, err);
     let mut input = rt.reader();
     let status = follow_bytes(alloc, &declaration, room, &mut input, out, err);
     Ok(with_place(alloc, words, &declaration, Subject::Nothing, status, err))
@@ -280,10 +296,12 @@ fn lines_of(text: &[u8]) -> usize {
 /// Traces standard input.
 fn without_words<'a, R: Input + AllocGlobal, O: Write, E: Write>(
     rt: &R,
+    is_typed: bool,
     words: &ArgMatches<'_>,
     out: &mut O,
     err: &mut E,
 ) -> Result<Status, Fault<'a>> {
+    invite(is_typed, INVITATION, err);
     let input = read_stdin(rt)?;
     let (declaration, attempts) = whole(&input);
     let (alloc, room, report) = (rt.alloc(), room_in(words), words.get_flag("report"));
@@ -306,6 +324,7 @@ fn without_words<'a, R: Input + AllocGlobal, O: Write, E: Write>(
 /// Runs the command that clap matched.
 fn matched<'a, R: Files + Input + AllocGlobal + Threads + Wait + Sync, O: Write, E: Write>(
     rt: &R,
+    is_typed: bool,
     matches: &ArgMatches<'a>,
     out: &mut O,
     err: &mut E,
@@ -314,12 +333,12 @@ fn matched<'a, R: Files + Input + AllocGlobal + Threads + Wait + Sync, O: Write,
         Some(("check", words)) => check(rt, words, out, err),
         Some(("compile", words)) => compile(rt, words, out, err),
         Some(("explain", words)) => explain(rt, words, out, err),
-        Some(("follow", words)) => follow(rt, words, out, err),
+        Some(("follow", words)) => follow(rt, is_typed, words, out, err),
         Some(("picture", words)) => picture(rt, words, out, err),
         Some(("audit", words)) => audit(rt, words, out, err),
         Some(("run", words)) => run(rt, words, out, err),
         Some((_, words)) => trace(rt, words, out, err),
-        None => without_words(rt, matches, out, err),
+        None => without_words(rt, is_typed, matches, out, err),
     }
 }
 
@@ -353,6 +372,7 @@ fn words_for_clap(words: &[String]) -> &[String] {
 /// Runs the command that these words ask for.
 fn asked<R: Files + Input + AllocGlobal + Threads + Wait + Sync, O: Write, E: Write>(
     rt: &R,
+    is_typed: bool,
     words: &[String],
     out: &mut O,
     err: &mut E,
@@ -364,7 +384,7 @@ fn asked<R: Files + Input + AllocGlobal + Threads + Wait + Sync, O: Write, E: Wr
         return refuse_twice(command, out, err);
     }
     match command.try_get_matches_from(words_for_clap(words)) {
-        Ok(matches) => match matched(rt, &matches, out, err) {
+        Ok(matches) => match matched(rt, is_typed, &matches, out, err) {
             Ok(status) => status,
             Err(fault) => tell_unread(rt, fault, err),
         },
@@ -373,9 +393,10 @@ fn asked<R: Files + Input + AllocGlobal + Threads + Wait + Sync, O: Write, E: Wr
 }
 
 /// Runs the command that the command line asks for, and returns its status. If several things are at fault, the first in this order
-/// counts: words, files, declaration, attempts, journal or script, room.
+/// counts: words, files, declaration, attempts, journal or script, room. If standard input is typed, a command that reads it says so first.
 pub fn perform<R: Env + Files + Input + AllocGlobal + Threads + Wait + Sync, O: Write, E: Write>(
     rt: &R,
+    is_typed: bool,
     out: &mut O,
     err: &mut E,
 ) -> Status {
@@ -384,7 +405,7 @@ pub fn perform<R: Env + Files + Input + AllocGlobal + Threads + Wait + Sync, O: 
         Err(error) => return tell(err, Fault::of_arguments(&error)),
     };
     match words.collect::<Vec<String>>(rt.alloc()) {
-        Ok(words) => asked(rt, &words, out, err),
+        Ok(words) => asked(rt, is_typed, &words, out, err),
         Err(_) => tell(err, Fault::OutOfMemory),
     }
 }
