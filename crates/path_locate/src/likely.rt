@@ -25,7 +25,7 @@ pub enum Likely {
     PastAscii,
     /// A comment begins there, as other languages have them.
     Comment,
-    /// A name has a sign in it that names don't have, or a capital letter.
+    /// A name has a sign in it that names don't have.
     Sign,
 }
 
@@ -42,8 +42,7 @@ impl Likely {
             Likely::Space => "a space too many",
             Likely::PastAscii => "a character that isn't ASCII",
             Likely::Comment => "a comment; there are none, so take it out",
-            Likely::Sign =>
-                "a name has small letters a to z, digits and _, and begins with a letter",
+            Likely::Sign => "a name has letters, digits and _, and begins with a letter",
         }
     }
 }
@@ -104,7 +103,7 @@ fn has_leading_zero(token: &[u8]) -> bool {
 
 /// Whether a name can have this byte behind its first.
 fn is_of_a_name(byte: u8) -> bool {
-    matches!(byte, b'a'..=b'z' | b'0'..=b'9' | b'_')
+    byte.is_ascii_alphanumeric() || byte == b'_'
 }
 
 /// Whether a comment begins here: with `#`, but not with a number behind it, which is how an undeclared operation is written; or with `//`
@@ -117,7 +116,7 @@ fn begins_comment(rest: &[u8]) -> bool {
     }
 }
 
-/// Whether the token is a name but for a sign or a capital letter, or the place is such a sign behind the letters of a name.
+/// Whether the token is a name but for a sign, or the place is such a sign behind the letters of a name.
 fn is_name_with_sign(before: &[u8], token: &[u8]) -> bool {
     let follows_name = before.last().is_some_and(|byte| is_of_a_name(*byte));
     let begins = token.first().is_some_and(|byte| byte.is_ascii_alphabetic());

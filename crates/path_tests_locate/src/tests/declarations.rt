@@ -23,7 +23,7 @@ const TOKENS: &[Row<'static>] = &[
         "a sign in a name",
         "resource r cell operation check-in end",
         "F:1:32: no token begins with this\nresource r cell operation check-in end\n                               ^^^\n\
-         expected `path` or `end` or `,`\nlikely: a name has small letters a to z, digits and _, and begins with a letter\n",
+         expected `path` or `end` or `,`\nlikely: a name has letters, digits and _, and begins with a letter\n",
     ),
     (
         "a comment",

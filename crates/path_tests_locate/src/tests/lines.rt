@@ -63,13 +63,13 @@ const ATTEMPTS: &[Row<'static>] = &[
         "a sign in a name",
         "1 start check-in",
         "F:1:9: this line can't be read\n1 start check-in\n        ^^^^^^^^\nexpected the name of a declared operation\n\
-         likely: a name has small letters a to z, digits and _, and begins with a letter\n",
+         likely: a name has letters, digits and _, and begins with a letter\n",
     ),
     (
         "a capital letter in a name",
         "1 start Deposit",
-        "F:1:9: this line can't be read\n1 start Deposit\n        ^^^^^^^\nexpected the name of a declared operation\n\
-         nearest name: deposit\nlikely: a name has small letters a to z, digits and _, and begins with a letter\n",
+        "F:1:9: this isn't a declared operation\n1 start Deposit\n        ^^^^^^^\nexpected the name of a declared operation\n\
+         nearest name: deposit\n",
     ),
     (
         "a comment",
