@@ -1,11 +1,11 @@
 //! Systems over boxes: which devices are replaced and dropped, and when.
 
 use crate::tests::boxes::{cell, counted, counter, failing_tally, queue, tally};
-use crate::tests::stepping::{ONLY, SLOT, Step, alone, contains, opened, row_of, steps};
+use crate::tests::stepping::{ONLY, SLOT, Step, alone, contains, declared, opened, row_of, steps};
 use path_decl::counts;
 use path_model::{ActId, Attempt, OpId, Reply, Verb};
 use path_shelf::Device;
-use path_system::{ReplaceFault, System};
+use path_system::{Controller, ReplaceFault, System};
 use std::alloc::Global;
 use std::process::Abort;
 use std::sync::atomic::{AtomicU32, Ordering};
@@ -116,6 +116,49 @@ fn closing_drops_each_device_once(rt: HostRuntime) {
     let drops = counter(&rt, rt.alloc());
     let cell = counted(&rt, rt.alloc(), 3, &drops);
     drops_at_the_end(&rt, rt.alloc(), cell, &drops);
+    assert_eq!(rt; drops.load(Ordering::SeqCst), 1);
+}
+
+// A controller of the slot over this cell.
+fn controlled<D: Device>(rt: &impl Abort, alloc: Global, cell: D) -> Controller<D> {
+    let decl = declared(rt, alloc, SLOT).expect(rt, "enough memory");
+    match Controller::open(alloc, decl, alone(rt, alloc, cell), 8) {
+        Ok(controller) => controller,
+        Err(_) => panic!(rt; "not opened"),
+    }
+}
+
+// Checks that the controller can't be closed while a deposit is live, and returns it when that is over.
+fn deposited_under_control<D: Device>(rt: &impl Abort, controller: Controller<D>) -> Controller<D> {
+    let mut controller = controller;
+    assert_eq!(rt; controller.step(1, DEPOSIT), Reply::Started(ActId(0)));
+    match controller.close() {
+        Ok(()) => panic!(rt; "nothing is live"),
+        Err(controller) => {
+            let mut controller = controller;
+            assert_eq!(rt;
+                controller.step(1, Attempt::Finish(ActId(0))),
+                Reply::Finished
+            );
+            controller
+        }
+    }
+}
+
+// Checks that closing a controller of the slot drops its cell, and that nothing is dropped before.
+fn control_drops_at_the_end<D: Device>(rt: &impl Abort, alloc: Global, cell: D, drops: &AtomicU32) {
+    let controller = deposited_under_control(rt, controlled(rt, alloc, cell));
+    let before = drops.load(Ordering::SeqCst);
+    let is_closed = controller.close().is_ok();
+    assert!(rt; is_closed);
+    assert_eq!(rt; [before, drops.load(Ordering::SeqCst)], [0, 1]);
+}
+
+#[test]
+fn closing_a_controller_drops_each_device_once(rt: HostRuntime) {
+    let drops = counter(&rt, rt.alloc());
+    let cell = counted(&rt, rt.alloc(), 3, &drops);
+    control_drops_at_the_end(&rt, rt.alloc(), cell, &drops);
     assert_eq!(rt; drops.load(Ordering::SeqCst), 1);
 }
 
