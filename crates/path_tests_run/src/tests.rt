@@ -3,6 +3,7 @@
 mod buffers;
 mod dropped;
 mod ends;
+mod giving_up;
 mod memory;
 mod own;
 mod stopped;

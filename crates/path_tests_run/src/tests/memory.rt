@@ -1,7 +1,7 @@
 //! Each request for memory of a run is refused in turn.
 
 use crate::tests::own::{ROOM, SLOT, end_so, system_of};
-use path_model::OutOfMemory;
+use path_model::{Line, OutOfMemory, Reply};
 use path_run::{AlwaysOpen, End, Outcome, RunFault, run};
 use path_script::{Script, ScriptFault, read_script};
 use path_shelf::{Cell, Device};
@@ -122,6 +122,106 @@ fn each_request_is_refused(rt: HostRuntime) {
         if !refuses(&rt, rt.alloc(), number) {
             assert!(&rt; number > 4);
             return;
+        }
+    }
+    panic!(&rt; "never passed");
+}
+
+/// One process, which uses what it has entered four times.
+const USES: &[u8] = b"process p
+enter deposit\nuse put 1\nuse put 2\nuse put 3\nuse put 4\nleave\nend";
+
+/// What is seen of a run of one process.
+#[derive(Clone, Copy)]
+struct Seen {
+    /// How many lines there are.
+    lines: usize,
+    /// Whether the process had no memory for a step.
+    is_short: bool,
+    /// Whether the last line, if there is one, is a finish, and nothing is live.
+    is_finished: bool,
+}
+
+/// Whether the last line, if there is one, is a finish.
+fn ends_with_finish(journal: &[Line]) -> bool {
+    match journal.last() {
+        Some(line) => line.reply == Reply::Finished,
+        None => true,
+    }
+}
+
+fn seen_in<A: Allocator + Copy>(outcome: Outcome<System<Cell>, A>) -> Seen {
+    let Outcome {
+        system,
+        passes,
+        ends,
+    } = outcome;
+    drop(passes);
+    let is_short = end_so(ends.as_slice(), &[End::NoMemory]);
+    drop(ends);
+    let lines = system.journal().len();
+    let is_last = ends_with_finish(system.journal());
+    Seen {
+        lines,
+        is_short,
+        is_finished: closes(system) && is_last,
+    }
+}
+
+/// What is seen of a run, if its process began.
+fn seen_of<A: Allocator + Copy>(
+    ran: Result<Outcome<System<Cell>, A>, RunFault<System<Cell>>>,
+) -> Option<Seen> {
+    match ran {
+        Ok(outcome) => Some(seen_in(outcome)),
+        Err(_fault) => None,
+    }
+}
+
+/// What is seen of a run of the uses, if its process began. This allocator serves the script and the run.
+fn uses_with<R: Threads + Wait + Abort + Sync>(
+    rt: &R,
+    heap: Global,
+    refusing: &Refusing<Global>,
+) -> Option<Seen> {
+    let system = system_of(rt, heap, SLOT, Cell::new(0), ROOM);
+    match read_script(refusing, system.decl(), USES) {
+        Ok(script) => seen_of(run_from::<Cell, Global, &Refusing<Global>, R>(
+            rt, refusing, system, &script,
+        )),
+        Err(_fault) => None,
+    }
+}
+
+/// Whether it was a use that had no memory, in a run whose request of this number is refused; `None` if no request was. Checks that
+/// what was started is finished.
+fn cuts_a_use<R: Threads + Wait + Abort + Sync>(rt: &R, heap: Global, number: u64) -> Option<bool> {
+    let refusing = Refusing::new(heap, number);
+    let seen = uses_with(rt, heap, &refusing);
+    let Some(seen) = seen else {
+        assert!(rt; refusing.has_refused());
+        return Some(false);
+    };
+    assert!(rt; seen.is_finished, "request {number} is refused");
+    if refusing.has_refused() {
+        return Some(seen.is_short && seen.lines > 0);
+    }
+    assert!(rt; !seen.is_short && seen.lines == 6);
+    None
+}
+
+/// Whichever request is refused, what was started is finished. Some refusal is that of a use, which comes after a start.
+#[test]
+fn what_was_entered_is_finished(rt: HostRuntime) {
+    let mut uses = 0u64;
+    for number in 1..1000u64 {
+        match cuts_a_use(&rt, rt.alloc(), number) {
+            Some(true) => uses = uses.saturating_add(1),
+            Some(false) => {}
+            None => {
+                assert!(&rt; uses > 0);
+                return;
+            }
         }
     }
     panic!(&rt; "never passed");

@@ -1,11 +1,12 @@
 //! Systems and scripts of tests.
 
-use path_model::{Line, Reply};
+use path_decl::counts;
+use path_model::{Activation, Line, OutOfMemory, Reply, ResId};
 use path_read::read;
 use path_run::{AlwaysOpen, End, Outcome, RunFault, Turnstile, run};
 use path_script::{Script, read_script};
-use path_shelf::{Cell, Device};
-use path_system::System;
+use path_shelf::Device;
+use path_system::{Report, System};
 use path_workers::Steps;
 use std::alloc::{Allocator, Global};
 use std::process::Abort;
@@ -19,6 +20,12 @@ pub(crate) const SLOT: &[u8] =
 /// One resource, which many read at once and one writes alone.
 pub(crate) const BOOK: &[u8] =
     b"resource book cell operation read, write path { read } , write end end";
+
+/// Two locks: each operation holds its own from its start to its finish.
+pub(crate) const PAIR: &[u8] = b"resource r cell operation a, b path a end path b end end";
+
+/// Each path waits for the other.
+pub(crate) const KNOT: &[u8] = b"resource r cell operation a, b path a ; b end path b ; a end end";
 
 /// The room that the program has if none is given.
 pub(crate) const ROOM: u32 = 4096;
@@ -82,6 +89,55 @@ pub(crate) fn ran<D: Device + Send, R: Threads + Wait + Abort + Sync>(
     ran_over(rt, alloc, case, device, &AlwaysOpen)
 }
 
+/// The system of an outcome in which these are the ends.
+pub(crate) fn system_in<D: Device>(
+    rt: &impl Abort,
+    outcome: Outcome<System<D>>,
+    wanted: &[End],
+) -> System<D> {
+    let Outcome {
+        system,
+        passes,
+        ends,
+    } = outcome;
+    drop(passes);
+    let are_these = end_so(ends.as_slice(), wanted);
+    drop(ends);
+    assert!(rt; are_these);
+    system
+}
+
+/// The journal of a system of which nothing is live.
+pub(crate) fn closed<D: Device>(rt: &impl Abort, system: System<D>) -> Vec<Line> {
+    match system.close() {
+        Ok(journal) => journal,
+        Err(_system) => panic!(rt; "something is live"),
+    }
+}
+
+/// The numbers at the first two places of the only resource.
+pub(crate) fn contents_in<D: Device>(rt: &impl Abort, system: &System<D>) -> [Option<u64>; 2] {
+    assert_eq!(rt; counts(system.decl()).resources, 1);
+    [system.contents(ResId(0), 0), system.contents(ResId(0), 1)]
+}
+
+/// What is live in a system, in the order of the starts, and whether it is frozen.
+pub(crate) fn live_in<D: Device>(
+    alloc: Global,
+    system: &System<D>,
+) -> Result<(Vec<Activation>, bool), OutOfMemory> {
+    let report = system.report(alloc)?;
+    let Report {
+        startable,
+        blocked,
+        live,
+        frozen,
+    } = report;
+    drop(startable);
+    drop(blocked);
+    Ok((live, frozen))
+}
+
 /// The journal of an outcome in which these are the ends.
 fn journal_in<D: Device>(
     rt: &impl Abort,
@@ -107,20 +163,21 @@ pub(crate) fn journal_of<D: Device + Send, R: Threads + Wait + Abort + Sync>(
     journal_in(rt, alloc, ran(rt, alloc, case, device), ends)
 }
 
-/// The journal of a run over a cell, through a turnstile, if these are the ends.
-pub(crate) fn journal_through<T: Turnstile, R: Threads + Wait + Abort + Sync>(
+/// The journal of a run over this device, through a turnstile, if these are the ends. The device is dropped.
+pub(crate) fn journal_through<D: Device + Send, T: Turnstile, R: Threads + Wait + Abort + Sync>(
     rt: &R,
     alloc: Global,
     case: Case<'_>,
+    device: D,
     turnstile: &T,
     ends: &[End],
 ) -> Vec<Line> {
-    let outcome = ran_over(rt, alloc, case, Cell::new(0), turnstile);
+    let outcome = ran_over(rt, alloc, case, device, turnstile);
     journal_in(rt, alloc, outcome, ends)
 }
 
 /// The outcome of a run over this device, through a turnstile.
-fn ran_over<D: Device + Send, T: Turnstile, R: Threads + Wait + Abort + Sync>(
+pub(crate) fn ran_over<D: Device + Send, T: Turnstile, R: Threads + Wait + Abort + Sync>(
     rt: &R,
     alloc: Global,
     case: Case<'_>,

@@ -1,12 +1,18 @@
 //! Processes that must run at once, and two that each hold what the other needs.
 
-use crate::tests::own::{BOOK, Case, ROOM, journal_through, started};
-use path_model::OpId;
+use crate::tests::own::{
+    BOOK, Case, PAIR, ROOM, journal_through, live_in, ran_over, started, system_in,
+};
+use path_model::{Activation, OpId};
 use path_run::{End, Turnstile};
+use path_shelf::Cell;
+use path_system::System;
+use std::alloc::Global;
+use std::process::Abort;
+use std::sync::Wait;
 use std::sync::atomic::{AtomicU64, Ordering};
 use std::thread;
-
-const PAIR: &[u8] = b"resource r cell operation a, b path a end path b end end";
+use std::thread::Threads;
 
 /// How often a process may ask again whether the other has come.
 const TURNS: u32 = 1_000_000;
@@ -50,21 +56,47 @@ fn run_readers_together(rt: HostRuntime) {
         script: text,
     };
     let ends = [End::Done, End::Done];
-    let journal = journal_through(&rt, rt.alloc(), case, &Meeting::new(), &ends);
+    let journal = journal_through(&rt, rt.alloc(), case, Cell::new(0), &Meeting::new(), &ends);
     assert_eq!(&rt; started(&journal), 2);
+}
+
+const CROSSWISE: &[u8] =
+    b"process p\nenter a\nenter b\nleave\nleave\nend\nprocess q\nenter b\nenter a\nleave\nleave\nend\n";
+
+/// What a run leaves whose two processes each take one lock and then wait for the other's.
+fn after_deadlock<R: Threads + Wait + Abort + Sync>(rt: &R, alloc: Global) -> System<Cell> {
+    let case = Case {
+        declaration: PAIR,
+        room: ROOM,
+        script: CROSSWISE,
+    };
+    let ends = [End::Stalled(OpId(1)), End::Stalled(OpId(0))];
+    let outcome = ran_over(rt, alloc, case, Cell::new(0), &Meeting::new());
+    system_in(rt, outcome, &ends)
 }
 
 #[test]
 fn run_deadlock(rt: HostRuntime) {
-    let text =
-        b"process p\nenter a\nenter b\nleave\nleave\nend\nprocess q\nenter b\nenter a\nleave\nleave\nend\n";
-    let case = Case {
-        declaration: PAIR,
-        room: ROOM,
-        script: text,
-    };
-    let ends = [End::Stalled(OpId(1)), End::Stalled(OpId(0))];
-    let journal = journal_through(&rt, rt.alloc(), case, &Meeting::new(), &ends);
+    let system = after_deadlock(&rt, rt.alloc());
+    let journal = system.journal();
     assert_eq!(&rt; journal.len(), 4);
-    assert_eq!(&rt; started(&journal), 2);
+    assert_eq!(&rt; started(journal), 2);
+}
+
+/// Whether exactly these two are live: process 0 in the first operation and process 1 in the second.
+fn are_crosswise(live: &[Activation]) -> bool {
+    live.len() == 2
+        && live.iter().any(|one| one.worker == 0 && one.op == OpId(0))
+        && live.iter().any(|one| one.worker == 1 && one.op == OpId(1))
+}
+
+/// Both keep what they hold, so the system isn't frozen: a finish would let the other go on.
+#[test]
+fn a_deadlock_keeps_both_live(rt: HostRuntime) {
+    let system = after_deadlock(&rt, rt.alloc());
+    let told = live_in(rt.alloc(), &system);
+    drop(system);
+    let (live, frozen) = told.expect(&rt, "enough memory");
+    assert!(&rt; are_crosswise(&live));
+    assert!(&rt; !frozen);
 }
