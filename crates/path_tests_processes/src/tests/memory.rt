@@ -49,3 +49,41 @@ fn refuse_each<R: Threads + Wait + Abort + Sync>(rt: &R, heap: Global, journal: 
 fn each_request_is_refused(rt: HostRuntime) {
     refuse_each(&rt, rt.alloc(), JOURNAL.as_bytes());
 }
+
+/// Whether it was a step of the process that had no memory, in a run whose request of this number is refused; `None` if no request
+/// was. Checks the status, and what is said.
+fn tells_of_a_step<R: Threads + Wait + Abort + Sync>(
+    rt: &R,
+    heap: Global,
+    number: u64,
+) -> Option<bool> {
+    let refusing = Refusing::new(heap, number);
+    let mut out = Vec::new(heap);
+    let mut err = Vec::new(heap);
+    let status = run_case(rt, &refusing, over_slot(ROUNDS), &mut out, &mut err);
+    let said = err.as_slice();
+    if !refusing.has_refused() {
+        assert_eq!(rt; (status, said), (Status::Done, b"p: done\n".as_slice()));
+        return None;
+    }
+    let is_step = said == b"p: no memory\n".as_slice();
+    assert!(rt; status == Status::NoMemory && (is_step || said == b"out of memory\n".as_slice()));
+    Some(is_step)
+}
+
+/// The process is told by its name if the memory was wanting for one of its steps.
+#[test]
+fn a_process_without_memory(rt: HostRuntime) {
+    let mut steps = 0u64;
+    for number in 1..1000u64 {
+        match tells_of_a_step(&rt, rt.alloc(), number) {
+            Some(true) => steps = steps.saturating_add(1),
+            Some(false) => {}
+            None => {
+                assert!(&rt; steps > 0);
+                return;
+            }
+        }
+    }
+    panic!(&rt; "never passed");
+}
