@@ -1,5 +1,5 @@
 -- What one step adds to the receipts of a process.
-use Rattle.std.proofs.Common.{◌≡◌, ◌≢◌, inl, inr, ℕ, ◌+◌, ◌<◌, suc, List, [], ◌∷◌, ◌++◌, length, drop, get_or, refl, sym, ap, ◌∙◌, subst, append_assoc, drop-cons, add-one}
+use Rattle.std.proofs.Common.{◌≡◌, ◌≢◌, inl, inr, ℕ, ◌+◌, ◌<◌, suc, List, [], ◌∷◌, ◌++◌, length, drop, get_or, true, refl, sym, ap, ◌∙◌, subst, append_assoc, drop-cons, add-one}
 use Rattle.std.specs.Prelude.{Option, Some, None, ◌↔◌}
 use Rattle.std.proofs.lemmas.List.{append-nil}
 use Rattle.path_model.specs.declared.ids.OpId.{OpId}
@@ -11,7 +11,7 @@ use Rattle.path_model.specs.declared.journal.Attempt.TheVariants.{Start, Apply, 
 use Rattle.path_model.specs.declared.journal.Reply.{Reply}
 use Rattle.path_model.specs.declared.journal.Reply.TheVariants.{Started, Blocked, Used, Finished, NoRoom}
 use Rattle.path_workers.specs.declared.answer.Receipt.{Receipt}
-use Rattle.path_workers.specs.Attempts.{receipts_then}
+use Rattle.path_workers.specs.Attempts.{receipts_then, may_get}
 use Rattle.path_script.specs.declared.script.Step.{Step}
 use Rattle.path_script.specs.declared.script.Step.TheVariants.{Enter, Apply as Use, Leave}
 use Rattle.path_run.specs.declared.outcome.End.{End}
@@ -24,6 +24,13 @@ use Rattle.path_run.specs.Inner.Parts.{Gains, Adds, Closes, AreTries}
 -- there is a receipt where the reply isn't for want of room
 gained_one : (attempt : Attempt) (q : Reply) (g : List Receipt) → Gains attempt q g → q ≢ NoRoom → (place : ℕ) × (g ≡ note place attempt q ∷ [])
 gained_one attempt q g gains room = elim gains [
+  | inl none ↦ absurd (room none.0)
+  | inr one ↦ one.2
+]
+
+-- and it may be got
+gained_kind : (attempt : Attempt) (q : Reply) (g : List Receipt) → Gains attempt q g → q ≢ NoRoom → may_get attempt q ≡ true
+gained_kind attempt q g gains room = elim gains [
   | inl none ↦ absurd (room none.0)
   | inr one ↦ one.1
 ]
@@ -69,7 +76,8 @@ room_closes step attempt q g gains is held steps rs after =
 fault_closes : (step : Step) (attempt : Attempt) (q : Reply) (g : List Receipt) (held : List ActId) → Asks step held attempt → Gains attempt q g → q ≢ NoRoom → IsFault step q → Closes step held (ends.Faulted q) g
 fault_closes step attempt q g held asks gains room fault steps rs after =
     let one = gained_one attempt q g gains room in
-    subst (λ (g' : List Receipt). IsRun (step ∷ steps) held (g' ++ rs) (ends.Faulted q)) (sym one.1) (faulted step steps held one.0 attempt q rs asks fault after)
+    subst (λ (g' : List Receipt). IsRun (step ∷ steps) held (g' ++ rs) (ends.Faulted q)) (sym one.1)
+    (faulted step steps held one.0 attempt q rs asks (gained_kind attempt q g gains room) fault after)
 
 pub enter_fault : (op : OpId) (q : Reply) (g : List Receipt) → Gains (Start op) q g → q ≢ NoRoom → ((act : ActId) → q ≢ Started act) → ((path : PathId) → q ≢ Blocked path)
     → (held : List ActId) → Closes (Enter op) held (ends.Faulted q) g
@@ -97,9 +105,9 @@ tries_more op g h tries more steps held rs end run =
 
 -- what an attempt gains, by its reply
 pub gains_then : (old new : List Receipt) (attempt : Attempt) (place : Option ℕ) (q : Reply) → new ≡ receipts_then old attempt place q → ((place ≡ None) ↔ (q ≡ NoRoom))
-    → (g : List Receipt) × (new ≡ old ++ g) × Gains attempt q g
-gains_then old new attempt None q is room = ([], is ∙ sym (append-nil old), inl (room.0 refl, refl))
-gains_then old new attempt (Some p) q is room = (note p attempt q ∷ [], is, inr ((λ none. let e : Some p ≡ None = room.1 none in cc), (p, refl)))
+    → may_get attempt q ≡ true → (g : List Receipt) × (new ≡ old ++ g) × Gains attempt q g
+gains_then old new attempt None q is room may = ([], is ∙ sym (append-nil old), inl (room.0 refl, refl))
+gains_then old new attempt (Some p) q is room may = (note p attempt q ∷ [], is, inr ((λ none. let e : Some p ≡ None = room.1 none in cc), may, (p, refl)))
 
 pub next_step : (steps : List Step) (i : ℕ) (s d : Step) → i < length steps → get_or steps i d ≡ s → drop i steps ≡ s ∷ drop (i + 1) steps
 next_step steps i s d lt is = rw (add-one, drop-cons steps i d) (ap (λ (x : Step). x ∷ drop (suc i) steps) is)

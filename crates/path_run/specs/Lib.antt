@@ -1,5 +1,6 @@
 pub mod Runs
 pub mod Lines
 pub mod Unsettled
+pub mod Ended
 pub mod Waiting
 pub mod Inner

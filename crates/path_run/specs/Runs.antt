@@ -9,7 +9,7 @@ use Rattle.path_model.specs.declared.journal.Attempt.TheVariants.{Start, Apply, 
 use Rattle.path_model.specs.declared.journal.Reply.{Reply}
 use Rattle.path_model.specs.declared.journal.Reply.TheVariants.{Started, Blocked, Used, Finished, NoRoom}
 use Rattle.path_workers.specs.declared.answer.Receipt.{Receipt}
-use Rattle.path_workers.specs.Attempts.{Held}
+use Rattle.path_workers.specs.Attempts.{Held, may_get}
 use Rattle.path_script.specs.declared.script.Step.{Step}
 use Rattle.path_script.specs.declared.script.Step.TheVariants.{Enter, Apply as Use, Leave}
 use Rattle.path_script.specs.Scripts.{Plan}
@@ -26,7 +26,8 @@ pub data Asks : Step → List ActId → Attempt → Type 0 where
   uses : (verb : Verb) (act : ActId) (entered : List ActId) → Asks (Use verb) (act ∷ entered) (Apply act verb)
   leaves : (act : ActId) (entered : List ActId) → Asks Leave (act ∷ entered) (Finish act)
 
--- the reply to a step is a fault: the process can neither go on nor try again, and it isn't NoRoom
+-- a reply to a step is a fault if the process can neither go on nor try again, and it isn't NoRoom: of those that the attempt may get,
+-- a start is unknown, a use is refused by the device or fails, or the activation is over or another's
 abbrev pub IsFault : Step → Reply → Type 0
 IsFault (Enter op) reply = (reply ≢ NoRoom) × ((act : ActId) → reply ≢ Started act) × ((path : PathId) → reply ≢ Blocked path)
 IsFault (Use verb) reply = (reply ≢ NoRoom) × ((x : ℕ) → reply ≢ Used x)
@@ -75,7 +76,7 @@ pub data IsRun : List Step → List ActId → List Receipt → End → Type 0 wh
       → IsRun (Enter op ∷ steps) held (note place (Start op) (Blocked path) ∷ []) (ends.Stalled op)
   faulted :
       (step : Step) (steps : List Step) (held : List ActId) (place : ℕ) (attempt : Attempt) (reply : Reply) (rs : List Receipt)
-      → Asks step held attempt → IsFault step reply → Finishes held rs
+      → Asks step held attempt → may_get attempt reply ≡ true → IsFault step reply → Finishes held rs
       → IsRun (step ∷ steps) held (note place attempt reply ∷ rs) (ends.Faulted reply)
   -- a step that wasn't taken: no room, no memory, or refused by the turnstile
   gave_up :

@@ -4,11 +4,11 @@ ghost use Rattle.std.specs.Prelude.{◌≡◌, ◌∷◌, ◌++◌, List, MatchR
 ghost use Rattle.path_model.specs.declared.ids.ActId.{ActId as Act};
 ghost use Rattle.path_script.specs.declared.script.Step.TheVariants as steps;
 ghost use Rattle.path_workers.specs.declared.answer.Receipt.{Receipt as Note};
-ghost use Rattle.path_run.specs.Inner.Parts.{Adds, Closes, AreTries, HasTried};
+ghost use Rattle.path_run.specs.Inner.Parts.{Adds, Closes, HasTried};
 
-use crate::floor::{Floor, told};
+use crate::floor::{Admission, Floor};
 use crate::outcome::End;
-use path_model::{ActId, Attempt, OpId, Reply};
+use path_model::{ActId, OpId};
 use path_workers::{Opening, Pass, Steps};
 use std::alloc::Allocator;
 use std::sync::Wait;
@@ -23,8 +23,7 @@ enum Tried {
     Ended(End),
 }
 
-/// Tries once. If a path blocks it, marks the process as waiting before the lock is released, and then waits for a finish or for the
-/// mark that all wait.
+/// Tries once. If a path blocks it, waits for a finish or for the mark that all wait.
 fn try_once<L: Opening, S: Steps, A: Allocator + Copy, R: Wait>(
     rt: &R,
     floor: &Floor<L, S>,
@@ -35,17 +34,11 @@ fn try_once<L: Opening, S: Steps, A: Allocator + Copy, R: Wait>(
     ensures run { (gained : List Note) × (pass.new.receipts ≡ pass.old.receipts ++ gained) × HasTried op gained result }
 {
     let mut shift = floor.shift.lock(rt);
-    let Ok(reply) = told(pass, &mut shift.hall, Attempt::Start(op)) else {
-        return Tried::Ended(End::NoMemory);
+    let seen = match shift.start(pass, op) {
+        Admission::Entered(act) => return Tried::Entered(act),
+        Admission::Ended(end) => return Tried::Ended(end),
+        Admission::Blocked(seen) => seen,
     };
-    match reply {
-        Reply::Started(act) => return Tried::Entered(act),
-        Reply::Blocked(_) => {}
-        Reply::NoRoom => return Tried::Ended(End::NoRoom),
-        other => return Tried::Ended(End::Faulted(other)),
-    }
-    let seen = shift.finishes;
-    shift.wait_one();
     if shift.stalled {
         floor.freed.notify_all();
     }

@@ -1,19 +1,31 @@
 //! What the processes of a run share, under one lock.
 
-ghost use Rattle.std.specs.Prelude.{◌≡◌, ◌≢◌, ◌+◌, ◌-◌, min, true, false, IsOk};
+ghost use Rattle.std.specs.Prelude.{◌≡◌, ◌≢◌, ◌+◌, ◌-◌, ◌++◌, List, min, true, false, IsOk};
+ghost use Rattle.path_workers.specs.declared.answer.Receipt.{Receipt as Note};
 ghost use Rattle.path_workers.specs.Attempts.{finishes_open};
-ghost use Rattle.path_run.specs.Inner.Parts.{HasGained};
+ghost use Rattle.path_run.specs.Inner.Parts.{HasBegun, HasGained, IsCountedBy, IsMarkedBy};
 ghost use Rattle.path_run.specs.Waiting.{IsMarked};
 
-use path_model::{Attempt, OutOfMemory, Reply};
+use crate::outcome::End;
+use path_model::{ActId, Attempt, OpId, OutOfMemory, Reply};
 use path_workers::{Hall, Opening, Pass, Steps};
 use std::alloc::Allocator;
 use std::sync::{Condvar, Mutex, Wait};
 
+/// What came of a start.
+pub enum Admission {
+    /// It was admitted.
+    Entered(ActId),
+    /// A path blocked it, and the process was marked as waiting, when so many finishes had been admitted.
+    Blocked(u64),
+    /// The process ends.
+    Ended(End),
+}
+
 /// What is under the lock: the system, and how many processes wait.
 #[derive(Drop)]
 pub struct Shift<L: Opening, S: Steps> {
-    pub hall: Hall<L, S>,
+    hall: Hall<L, S>,
     /// How many finishes were admitted.
     pub finishes: u64,
     /// How many processes wait; each has tried since the last admitted finish.
@@ -39,8 +51,66 @@ impl<L: Opening, S: Steps> Shift<L, S> {
         }
     }
 
+    /// Makes one attempt. The pass gains its receipt, or none for `NoRoom`. Fails only if allocation fails.
+    fn told<A: Allocator + Copy>(
+        &mut self,
+        pass: &mut Pass<L, A>,
+        attempt: Attempt,
+    ) -> Result<Reply, OutOfMemory>
+        ensures same { (self.new.finishes ≡ self.old.finishes) × (self.new.waiting ≡ self.old.waiting)
+            × (self.new.left ≡ self.old.left) × (self.new.stalled ≡ self.old.stalled) }
+        ensures worker { pass.new.worker ≡ pass.old.worker }
+        ensures run { HasGained attempt result pass.old.receipts pass.new.receipts }
+        ensures finish { finishes_open attempt pass.old.receipts ≡ true → IsOk result }
+    {
+        let answer = pass.make(&mut self.hall, attempt)?;
+        Ok(answer.reply)
+    }
+
+    /// Makes one attempt. If it is an admitted finish, nobody waits for one any more. Fails only if allocation fails.
+    pub fn attempt<A: Allocator + Copy>(
+        &mut self,
+        pass: &mut Pass<L, A>,
+        attempt: Attempt,
+    ) -> Result<Reply, OutOfMemory>
+        ensures counted { IsCountedBy result self.old.finishes self.new.finishes self.old.waiting self.new.waiting }
+        ensures same { (self.new.left ≡ self.old.left) × (self.new.stalled ≡ self.old.stalled) }
+        ensures worker { pass.new.worker ≡ pass.old.worker }
+        ensures run { HasGained attempt result pass.old.receipts pass.new.receipts }
+        ensures finish { finishes_open attempt pass.old.receipts ≡ true → IsOk result }
+    {
+        let reply = self.told(pass, attempt)?;
+        if let Reply::Finished = reply {
+            self.finish_one();
+        }
+        Ok(reply)
+    }
+
+    /// Makes a start. If a path blocks it, the process is marked as waiting in the same call, so that no finish comes between the
+    /// refusal and the mark.
+    pub fn start<A: Allocator + Copy>(&mut self, pass: &mut Pass<L, A>, op: OpId) -> Admission
+        ensures marked { IsMarkedBy result self.old.finishes self.old.waiting self.new.waiting self.new.left self.old.stalled
+            self.new.stalled }
+        ensures same { (self.new.finishes ≡ self.old.finishes) × (self.new.left ≡ self.old.left) }
+        ensures worker { pass.new.worker ≡ pass.old.worker }
+        ensures run { (gained : List Note) × (pass.new.receipts ≡ pass.old.receipts ++ gained) × HasBegun op gained result }
+    {
+        let Ok(reply) = self.told(pass, Attempt::Start(op)) else {
+            return Admission::Ended(End::NoMemory);
+        };
+        match reply {
+            Reply::Started(act) => Admission::Entered(act),
+            Reply::Blocked(_) => {
+                self.wait_one();
+                Admission::Blocked(self.finishes)
+            }
+            Reply::NoRoom => Admission::Ended(End::NoRoom),
+            other => Admission::Ended(End::Faulted(other)),
+        }
+    }
+
     /// One more process waits for a finish.
-    pub fn wait_one(&mut self)
+    fn wait_one(&mut self)
         ensures same { (self.new.hall ≡ self.old.hall) × (self.new.finishes ≡ self.old.finishes) × (self.new.left ≡ self.old.left) }
         ensures waiting { self.new.waiting ≡ min 18446744073709551615 (self.old.waiting + 1) }
         ensures stalled { IsMarked self.old.stalled self.new.waiting self.new.left self.new.stalled }
@@ -60,7 +130,7 @@ impl<L: Opening, S: Steps> Shift<L, S> {
     }
 
     /// A finish was admitted, so nobody waits for one any more.
-    pub fn finish_one(&mut self)
+    fn finish_one(&mut self)
         ensures same { (self.new.hall ≡ self.old.hall) × (self.new.left ≡ self.old.left) × (self.new.stalled ≡ self.old.stalled) }
         ensures finishes { self.new.finishes ≢ self.old.finishes }
         ensures waiting { self.new.waiting ≡ 0 }
@@ -121,19 +191,4 @@ impl<L: Opening, S: Steps> Floor<L, S> {
         let Floor { shift, freed: _ } = self;
         shift.into_inner().into_hall()
     }
-}
-
-/// Makes one attempt while the caller holds the lock. The pass gains its receipt, or none for `NoRoom`. Fails only if allocation
-/// fails.
-pub fn told<L: Opening, S: Steps, A: Allocator + Copy>(
-    pass: &mut Pass<L, A>,
-    hall: &mut Hall<L, S>,
-    attempt: Attempt,
-) -> Result<Reply, OutOfMemory>
-    ensures worker { pass.new.worker ≡ pass.old.worker }
-    ensures run { HasGained attempt result pass.old.receipts pass.new.receipts }
-    ensures finish { finishes_open attempt pass.old.receipts ≡ true → IsOk result }
-{
-    let answer = pass.make(hall, attempt)?;
-    Ok(answer.reply)
 }

@@ -12,6 +12,6 @@ mod step;
 mod turnstile;
 mod work;
 
-pub use outcome::{End, Outcome, RunFault};
-pub use running::run;
+pub use outcome::{End, Ended, Outcome, RunFault};
+pub use running::{run, run_with_receipts};
 pub use turnstile::{AlwaysOpen, Turnstile};

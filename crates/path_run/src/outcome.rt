@@ -1,5 +1,7 @@
 //! How processes end, and the outcome of a run.
 
+ghost use Rattle.std.specs.Prelude.{◌≡◌};
+
 use path_model::{OpId, Reply};
 use path_workers::{SettleFault, Slip, Steps};
 use std::alloc::{Allocator, Global};
@@ -32,6 +34,29 @@ pub struct Outcome<S: Steps, A: Allocator + Copy = Global> {
     pub passes: Vec<Slip<A>, A>,
     /// How each process ended.
     pub ends: Vec<End, A>,
+}
+
+impl<S: Steps, A: Allocator + Copy> Outcome<S, A> {
+    /// The system without the receipts.
+    pub(crate) fn into_system(self) -> S
+        ensures { result ≡ self.system }
+    {
+        let Outcome {
+            system,
+            passes: _,
+            ends: _,
+        } = self;
+        system
+    }
+}
+
+/// A run that has ended, and whether its receipts agree with its journal.
+#[derive(Drop)]
+pub struct Ended<S: Steps, A: Allocator + Copy = Global> {
+    /// The system, the receipts of each process, and how each ended.
+    pub outcome: Outcome<S, A>,
+    /// The first place where the receipts don't agree with the journal. No run has shown one.
+    pub fault: Option<SettleFault>,
 }
 
 /// Why there is no outcome.

@@ -1,23 +1,27 @@
 //! Runs.
 
-ghost use Rattle.std.specs.Prelude.{◌≡◌, ◌≢◌, ℕ, ◌<◌, ◌≤◌, length, vec_len, vec_capacity, slice_index_or, IfOk, IfErr};
+ghost use Rattle.std.specs.Prelude.{◌≡◌, ℕ, ◌<◌, ◌≤◌, length, vec_len, vec_capacity, slice_index_or, IfOk, IfErr};
+ghost use Rattle.std.specs.Prelude.{◌⊎◌, Some, None, IfSome, IfNone};
 ghost use Rattle.path_system.specs.Accounts.{IsSystem, all_lines};
 ghost use Rattle.path_script.specs.Scripts.{LawfulScript};
 ghost use Rattle.path_workers.specs.declared.settle.SettleFault.{SettleFault as Fault};
+ghost use Rattle.path_workers.specs.declared.settle.SettleFault.TheVariants.{Mismatch};
 ghost use Rattle.path_workers.specs.Later.{IsLater};
 ghost use Rattle.path_workers.specs.Settled.{IsSettled};
 ghost use Rattle.path_run.specs.declared.outcome.RunFault.TheVariants as faults;
 ghost use Rattle.path_run.specs.Runs.{EachRuns};
-ghost use Rattle.path_run.specs.Lines.{EachIsOrderly, EachIsBlockedNow};
+ghost use Rattle.path_run.specs.Lines.{EachIsOrderly, EachIsBlockedNow, IsFirstDisorder};
 ghost use Rattle.path_run.specs.Unsettled.{IsUnsettled, IsUnsettledRun};
+ghost use Rattle.path_run.specs.Ended.{HasRun};
 
 use crate::begun::{Worked, work_in_threads};
 use crate::floor::Floor;
 use crate::lines::first_disorder;
-use crate::outcome::{End, Outcome, RunFault};
+use crate::outcome::{End, Ended, Outcome, RunFault};
 use crate::turnstile::Turnstile;
+use path_model::Line;
 use path_script::{Process, Script};
-use path_workers::{Hall, Opening, Pass, SettleFault, Slip, Steps, settle_own};
+use path_workers::{Closed, Hall, Opening, Pass, SettleFault, Slip, Steps, settle_own};
 use std::alloc::{AllocError, Allocator};
 use std::marker::Brand;
 use std::sync::Wait;
@@ -59,40 +63,60 @@ fn passes_of<L: Ledger, A: Allocator + Copy>(
     (passes, ends)
 }
 
-/// The outcome of processes that have ended, with these passes and ends. The slips go into the vector `slips`.
-fn outcome<L: Opening, S: Steps, A: Allocator + Copy>(
+/// What is wrong with the receipts of processes that have ended: why the desk isn't settled, or else the first place at which they don't
+/// agree with the journal.
+fn fault_of<A: Allocator + Copy>(
+    unsettled: Option<SettleFault>,
+    journal: &[Line],
+    slips: &[Slip<A>],
+    ends: &[End],
+) -> Option<SettleFault>
+    requires { length slips.now ≡ length ends.now }
+    ensures none { IfNone result ((unsettled ≡ None) × EachIsOrderly journal.now slips.now ends.now) }
+    ensures some { IfSome result (λ e. (unsettled ≡ Some e) ⊎ ((unsettled ≡ None) × ((place : ℕ) × (e ≡ Mismatch place)
+        × IsFirstDisorder journal.now slips.now ends.now place))) }
+{
+    if unsettled.is_some() {
+        return unsettled;
+    }
+    match first_disorder(journal, slips, ends) {
+        Some(place) => Some(SettleFault::Mismatch { place }),
+        None => None,
+    }
+}
+
+/// The end of a run whose processes have ended, with these passes and ends. The slips go into the vector `slips`.
+fn ended<L: Opening, S: Steps, A: Allocator + Copy>(
     hall: Hall<L, S>,
     before: u64,
     passes: Vec<Pass<L, A>, A>,
     slips: Vec<Slip<A>, A>,
     ends: Vec<End, A>,
-) -> Result<Outcome<S, A>, RunFault<S>>
+) -> Ended<S, A>
     requires before { before ≡ length L.opened.journal }
     requires places { (vec_len slips ≡ 0) × (vec_len passes ≤ vec_capacity slips) }
     requires ends { vec_len ends ≡ vec_len passes }
-    ensures ends { IfOk result (λ o. (o.ends.items ≡ ends.items) × (vec_len o.ends ≡ vec_len ends)) }
-    ensures later { IfOk result (λ o. IsLater L.opened (S.account o.system)) }
-    ensures passes { IfOk result (λ o. (o.passes.items ≡ passes.items) × (vec_len o.passes ≡ vec_len passes)) }
-    ensures settled { IfOk result (λ o. IsSettled before (S.account o.system).journal o.passes.items) }
-    ensures orderly { IfOk result (λ o. EachIsOrderly (S.account o.system).journal o.passes.items o.ends.items) }
-    ensures system { IfOk result (λ o. IsSystem (S.account o.system)) }
-    ensures memory { IfErr result (λ e. (left : _) → e ≢ faults.OutOfMemory left) }
-    ensures left { IfErr result (λ e. (fault : Fault) (left : _) → e ≡ faults.Unsettled fault left → IsLater L.opened (S.account left)) }
-    ensures unsettled { IfErr result (λ e. (fault : Fault) (left : _) → e ≡ faults.Unsettled fault left
-        → IsUnsettled before (S.account left).journal passes.items ends.items fault) }
+    ensures ends { (result.outcome.ends.items ≡ ends.items) × (vec_len result.outcome.ends ≡ vec_len ends) }
+    ensures passes { (result.outcome.passes.items ≡ passes.items) × (vec_len result.outcome.passes ≡ vec_len passes) }
+    ensures later { IsLater L.opened (S.account result.outcome.system) }
+    ensures system { IfNone result.fault (IsSystem (S.account result.outcome.system)) }
+    ensures settled { IfNone result.fault (IsSettled before (S.account result.outcome.system).journal passes.items) }
+    ensures orderly { IfNone result.fault (EachIsOrderly (S.account result.outcome.system).journal passes.items ends.items) }
+    ensures unsettled { IfSome result.fault (λ e. IsUnsettled before (S.account result.outcome.system).journal passes.items ends.items e) }
 {
-    match settle_own(hall, before, passes, slips) {
-        Ok((system, slips)) => {
-            match first_disorder(system.journal(), slips.as_slice(), ends.as_slice()) {
-                None => Ok(Outcome {
-                    system,
-                    passes: slips,
-                    ends,
-                }),
-                Some(place) => Err(RunFault::Unsettled(SettleFault::Mismatch { place }, system)),
-            }
-        }
-        Err((fault, system)) => Err(RunFault::Unsettled(fault, system)),
+    let Closed {
+        system,
+        slips,
+        fault,
+    } = settle_own(hall, before, passes, slips);
+    let fault = fault_of(fault, system.journal(), slips.as_slice(), ends.as_slice());
+    Ended {
+        outcome: Outcome {
+            system,
+            passes: slips,
+            ends,
+        },
+        fault,
     }
 }
 
@@ -110,40 +134,52 @@ fn run_at<
     blank: Blank,
     processes: &[Process<A>],
     turnstile: &T,
-) -> Result<Outcome<S, A>, RunFault<S>>
+) -> Result<Ended<S, A>, S>
     requires name { blank.name ≡ L.name }
     requires parts { (blank.parts ≡ L.parts) × (blank.parts ≡ 18446744073709551615) }
     requires opened { S.account system ≡ L.opened }
     requires lawful { LawfulScript processes.now }
-    ensures len { IfOk result (λ o. (vec_len o.passes ≡ length processes.now) × (vec_len o.ends ≡ length processes.now)) }
-    ensures settled { IfOk result (λ o. IsSettled (length (S.account system).journal) (S.account o.system).journal o.passes.items) }
-    ensures runs { IfOk result (λ o. EachRuns processes.now o.passes.items o.ends.items) }
-    ensures orderly { IfOk result (λ o. EachIsOrderly (S.account o.system).journal o.passes.items o.ends.items) }
-    ensures blocked { IfOk result (λ o. EachIsBlockedNow (S.account o.system).declaration (all_lines (S.account o.system)) o.ends.items) }
-    ensures system { IfOk result (λ o. IsSystem (S.account o.system)) }
-    ensures later { IfOk result (λ o. IsLater (S.account system) (S.account o.system)) }
-    ensures memory { IfErr result (λ e. (left : _) → e ≡ faults.OutOfMemory left → IsLater (S.account system) (S.account left)) }
-    ensures left { IfErr result (λ e. (fault : Fault) (left : _) → e ≡ faults.Unsettled fault left
-        → IsLater (S.account system) (S.account left)) }
-    ensures unsettled { IfErr result (λ e. (fault : Fault) (left : _) → e ≡ faults.Unsettled fault left
-        → IsUnsettledRun processes.now (length (S.account system).journal) (S.account left).journal fault) }
+    ensures ok { IfOk result (λ e. HasRun processes.now (S.account system) (S.account e.outcome.system) e.outcome.passes.items
+        e.outcome.ends.items e.fault) }
+    ensures memory { IfErr result (λ left. IsLater (S.account system) (S.account left)) }
 {
     let before = system.journal().len() as u64;
     let count = processes.len();
     let Ok((slips, passes, ends)) = places(alloc, count) else {
-        return Err(RunFault::OutOfMemory(system));
+        return Err(system);
     };
     let floor = Floor::<L, S>::new(Hall::open(system, blank), count as u64);
     let worked = work_in_threads(rt, &floor, turnstile, alloc, processes);
     let hall = floor.into_hall();
     let Ok(worked) = worked else {
-        return Err(RunFault::OutOfMemory(hall.close()));
+        return Err(hall.close());
     };
     let (passes, ends) = passes_of(worked, passes, ends);
-    match outcome(hall, before, passes, slips, ends) {
-        Ok(outcome) => Ok(outcome),
-        Err(fault) => Err(fault),
-    }
+    Ok(ended(hall, before, passes, slips, ends))
+}
+
+/// Runs each process of the script as [`run`] does, and hands back the receipts and the ends also where they don't agree with the
+/// journal. If there is no fault, the outcome is what [`run`] promises; if there is one, it is what is wrong with these receipts.
+///
+/// Fails only if memory runs out before any process begins, and then the system comes back.
+pub fn run_with_receipts<
+    S: Steps + Send,
+    T: Turnstile,
+    A: Allocator + Copy + Send + Sync,
+    R: Threads + Wait + Sync,
+>(rt: &R, alloc: A, system: S, script: &Script<A>, turnstile: &T) -> Result<Ended<S, A>, S>
+    ensures ok { IfOk result (λ e. HasRun script.now.processes (S.account system) (S.account e.outcome.system) e.outcome.passes.items
+        e.outcome.ends.items e.fault) }
+    ensures memory { IfErr result (λ left. IsLater (S.account system) (S.account left)) }
+{
+    run_at::<S, T, A, R, Brand>(
+        rt,
+        alloc,
+        system,
+        Blank::new(u64::MAX),
+        script.processes(),
+        turnstile,
+    )
 }
 
 /// Runs each process of the script in a thread of its own, over a system that they share. The number of a process is its worker's
@@ -192,12 +228,11 @@ pub fn run<
     ensures unsettled { IfErr result (λ e. (fault : Fault) (left : _) → e ≡ faults.Unsettled fault left
         → IsUnsettledRun script.now.processes (length (S.account system).journal) (S.account left).journal fault) }
 {
-    run_at::<S, T, A, R, Brand>(
-        rt,
-        alloc,
-        system,
-        Blank::new(u64::MAX),
-        script.processes(),
-        turnstile,
-    )
+    match run_with_receipts(rt, alloc, system, script, turnstile) {
+        Ok(Ended { outcome, fault }) => match fault {
+            None => Ok(outcome),
+            Some(fault) => Err(RunFault::Unsettled(fault, outcome.into_system())),
+        },
+        Err(system) => Err(RunFault::OutOfMemory(system)),
+    }
 }

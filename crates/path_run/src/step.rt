@@ -10,7 +10,7 @@ ghost use Rattle.path_run.specs.Inner.Parts.{Adds, Closes, HasGained};
 
 use crate::enter::enter;
 use crate::entered::Entered;
-use crate::floor::{Floor, told};
+use crate::floor::Floor;
 use crate::outcome::End;
 use path_model::{ActId, Attempt, OutOfMemory, Reply, Verb};
 use path_script::Step;
@@ -30,9 +30,8 @@ pub fn attempt<L: Opening, S: Steps, A: Allocator + Copy, R: Wait>(
     ensures finish { finishes_open attempt pass.old.receipts ≡ true → IsOk result }
 {
     let mut shift = floor.shift.lock(rt);
-    let reply = told(pass, &mut shift.hall, attempt)?;
+    let reply = shift.attempt(pass, attempt)?;
     if let Reply::Finished = reply {
-        shift.finish_one();
         floor.freed.notify_all();
     }
     Ok(reply)

@@ -1,3 +1,4 @@
+pub mod MayGet
 pub mod Opens
 pub mod Rising
 pub mod Copies

@@ -7,18 +7,8 @@ use Rattle.path_model.specs.declared.journal.Attempt.{Attempt}
 use Rattle.path_model.specs.declared.journal.Attempt.TheVariants.{Start, Apply, Finish}
 use Rattle.path_model.specs.declared.journal.Reply.{Reply}
 use Rattle.path_model.specs.declared.journal.Reply.TheVariants.{Started, Blocked, UnknownOperation, Used, NotOffered, Empty, Full, Overflow, DeviceFailed, Finished, Stale, NotYours, NoRoom}
-use Rattle.path_model.specs.declared.journal.Line.{Line}
-use Rattle.path_model.specs.declared.journal.Verb.{Verb}
-use Rattle.path_model.specs.declared.journal.Verb.TheVariants.{Put, Take, Look, Add}
-use Rattle.path_model.specs.declared.resource.Law.{Law}
-use Rattle.path_model.specs.declared.resource.Law.TheVariants.{Cell, Tally, Queue}
-use Rattle.path_model.specs.Declarations.{Declaration, resource_of, law_of}
-use Rattle.path_model.specs.Contents.{contents_after}
-use Rattle.path_model.specs.Devices.{Outcome, serves, refuses, first_taken, first_seen, outcome_of}
-use Rattle.path_model.specs.Owed.{Owed, OwedToUse, OwedToFinish}
-use Rattle.path_model.specs.Segments.{has_no_number, room_behind, OwedBehind, OwedUnless}
 use Rattle.path_workers.specs.declared.answer.Receipt.{Receipt}
-use Rattle.path_workers.specs.Attempts.{starts, finishes, has_finish, is_open, finishes_open, receipts_then, place_of}
+use Rattle.path_workers.specs.Attempts.{starts, finishes, has_finish, is_open, finishes_open, receipts_then, place_of, may_get}
 use Rattle.path_workers.specs.Inner.Holdings.{opens, open_count, open_then, places_for}
 
 has_finish_push : (act : ActId) (rs : List Receipt) (r : Receipt) → has_finish act (rs ++ r ∷ []) ≡ (if has_finish act rs then true else finishes act r.attempt)
@@ -129,66 +119,26 @@ is_open_push act (x ∷ rs) r = by_bool (starts act x.reply) (starts act r.reply
         → (if s then (if h' then o' else true) else o') ≡ (if t then true else if f then false else (if s then (if h then o else true) else o))
     by_bool s t f h o h' o' eh eo = subst (λ (b : Bool). (if s then (if b then o' else true) else o') ≡ (if t then true else if f then false else (if s then (if h then o else true) else o))) (sym eh) (subst (λ (b : Bool). (if s then (if (if h then true else f) then b else true) else b) ≡ (if t then true else if f then false else (if s then (if h then o else true) else o))) (sym eo) (table s t f h o))
 
--- a finish is never answered by a start
-finish_owed : (d : Declaration) (room : ℕ) (ls : List Line) (w : ℕ) (n : ActId) (q : Reply) → OwedToFinish d room ls w n q → opens q [] ≡ 0
-finish_owed d room ls w n q (OwedToFinish.finished a own) = refl
-finish_owed d room ls w n q (OwedToFinish.no_room not full) = refl
-finish_owed d room ls w n q (OwedToFinish.stale fits not) = refl
-finish_owed d room ls w n q (OwedToFinish.not_yours a fits found other) = refl
+pub opens_none : (q : Reply) → ((n : ActId) → q ≢ Started n) → opens q [] ≡ 0
+opens_none (Started n) not = absurd (not n refl)
+opens_none (Blocked k) not = refl
+opens_none UnknownOperation not = refl
+opens_none (Used k) not = refl
+opens_none NotOffered not = refl
+opens_none Empty not = refl
+opens_none Full not = refl
+opens_none Overflow not = refl
+opens_none DeviceFailed not = refl
+opens_none Finished not = refl
+opens_none Stale not = refl
+opens_none NotYours not = refl
+opens_none NoRoom not = refl
 
--- a device refuses by no start
-abbrev RefusesQuietly : Outcome → Type 0
-RefusesQuietly (serves x rest) = Unit {0}
-RefusesQuietly (refuses r) = opens r [] ≡ 0
-
-either_quietly : (b : Bool) (x : ℕ) (rest : List ℕ) (r : Reply) → opens r [] ≡ 0 → RefusesQuietly (if b then serves x rest else refuses r)
-either_quietly true x rest r e = tt
-either_quietly false x rest r e = e
-
-taken_quietly : (held : List ℕ) → RefusesQuietly (first_taken held)
-taken_quietly [] = refl
-taken_quietly (x ∷ xs) = tt
-
-seen_quietly : (held : List ℕ) → RefusesQuietly (first_seen held)
-seen_quietly [] = refl
-seen_quietly (x ∷ xs) = tt
-
-refuses_quietly : (law : Law) (verb : Verb) (held : List ℕ) → RefusesQuietly (outcome_of law verb held)
-refuses_quietly Cell (Put x) held = tt
-refuses_quietly Cell Take held = refl
-refuses_quietly Cell Look held = tt
-refuses_quietly Cell (Add x) held = refl
-refuses_quietly Tally (Put x) held = refl
-refuses_quietly Tally Take held = refl
-refuses_quietly Tally Look held = tt
-refuses_quietly Tally (Add x) held = either_quietly _ _ _ Overflow refl
-refuses_quietly (Queue n) (Put x) held = either_quietly _ _ _ Full refl
-refuses_quietly (Queue n) Take held = taken_quietly held
-refuses_quietly (Queue n) Look held = seen_quietly held
-refuses_quietly (Queue n) (Add x) held = refl
-
--- nor is a use
-use_owed : (d : Declaration) (room : ℕ) (openings : List (List ℕ)) (ls : List Line) (w : ℕ) (n : ActId) (verb : Verb) (q : Reply) → OwedToUse d room openings ls w n verb q → opens q [] ≡ 0
-use_owed d room openings ls w n verb q (OwedToUse.no_room full) = refl
-use_owed d room openings ls w n verb q (OwedToUse.stale fits not) = refl
-use_owed d room openings ls w n verb q (OwedToUse.not_yours a fits found other) = refl
-use_owed d room openings ls w n verb q (OwedToUse.refused a r fits own e) = subst RefusesQuietly e (refuses_quietly (law_of d (resource_of d a.op.0)) verb (contents_after d openings ls (resource_of d a.op.0)))
-use_owed d room openings ls w n verb q (OwedToUse.served a x rest fits own e) = refl
-use_owed d room openings ls w n verb q (OwedToUse.failed a x rest fits own e) = refl
-
-start_owed : (d : Declaration) (room : ℕ) (openings : List (List ℕ)) (ls : List Line) (w : ℕ) (a : Attempt) (q : Reply) → Owed d room openings ls w a q → places_for a ≡ 1 → opens q [] ≡ 0
-start_owed d room openings ls w (Start op) q owed one = absurd (omega arith)
-start_owed d room openings ls w (Apply n v) q owed one = use_owed d room openings ls w n v q owed
-start_owed d room openings ls w (Finish n) q owed one = finish_owed d room ls w n q owed
-
--- so only an attempt that takes two places gets a start as its reply
-pub starts_alone : (d : Declaration) (room : ℕ) (openings : List (List ℕ)) (earlier ls : List Line) (w : ℕ) (a : Attempt) (q : Reply) → OwedBehind d room openings earlier ls w a q
-    → places_for a ≡ 1 → opens q [] ≡ 0
-starts_alone d room openings earlier ls w a q owed one = go (has_no_number earlier ls a) owed
-  where
-    go : (b : Bool) → OwedUnless b (Owed d (room_behind earlier room) openings (earlier ++ ls) w a q) q → opens q [] ≡ 0
-    go true is = rw is refl
-    go false is = start_owed d (room_behind earlier room) openings (earlier ++ ls) w a q is one
+-- only an attempt that takes two places gets a start as its reply
+pub starts_alone : (a : Attempt) (q : Reply) → may_get a q ≡ true → places_for a ≡ 1 → opens q [] ≡ 0
+starts_alone (Start op) q may one = absurd (omega arith)
+starts_alone (Apply n v) q may one = opens_none q (λ k is. let h = subst (λ (r : Reply). may_get (Apply n v) r ≡ true) is may in cc)
+starts_alone (Finish n) q may one = opens_none q (λ k is. let h = subst (λ (r : Reply). may_get (Finish n) r ≡ true) is may in cc)
 
 opens_at_most : (q : Reply) → opens q [] ≤ 1
 opens_at_most (Started k) = omega arith
@@ -204,21 +154,6 @@ opens_at_most Finished = omega arith
 opens_at_most Stale = omega arith
 opens_at_most NotYours = omega arith
 opens_at_most NoRoom = omega arith
-
-pub opens_none : (q : Reply) → ((n : ActId) → q ≢ Started n) → opens q [] ≡ 0
-opens_none (Started n) not = absurd (not n refl)
-opens_none (Blocked k) not = refl
-opens_none UnknownOperation not = refl
-opens_none (Used k) not = refl
-opens_none NotOffered not = refl
-opens_none Empty not = refl
-opens_none Full not = refl
-opens_none Overflow not = refl
-opens_none DeviceFailed not = refl
-opens_none Finished not = refl
-opens_none Stale not = refl
-opens_none NotYours not = refl
-opens_none NoRoom not = refl
 
 -- the places that an attempt has
 abbrev pub Placed : Attempt → List Receipt → ℕ → ℕ → Type 0

@@ -2,9 +2,10 @@
 use Rattle.std.specs.Prelude.{ℕ, ◌==◌, List, [], ◌∷◌, ◌++◌, Bool, true, false, if◌then◌else◌, Option, Some, None}
 use Rattle.path_model.specs.declared.ids.ActId.{ActId}
 use Rattle.path_model.specs.declared.journal.Attempt.{Attempt}
-use Rattle.path_model.specs.declared.journal.Attempt.TheVariants.{Finish}
+use Rattle.path_model.specs.declared.journal.Attempt.TheVariants.{Start, Apply, Finish}
 use Rattle.path_model.specs.declared.journal.Reply.{Reply}
-use Rattle.path_model.specs.declared.journal.Reply.TheVariants.{Started, NoRoom}
+use Rattle.path_model.specs.declared.journal.Reply.TheVariants.{Started, Blocked, UnknownOperation, Finished, Stale, NotYours, NoRoom}
+use Rattle.path_model.specs.Asked.{is_device_reply}
 use Rattle.path_workers.specs.declared.answer.Receipt.{Receipt}
 
 -- what contracts see of a pass: whose it is, and its receipts in the order of the attempts
@@ -26,6 +27,22 @@ lines_of reply = 1
 abbrev pub place_of : ℕ → Reply → Option ℕ
 place_of n NoRoom = None
 place_of n reply = Some n
+
+-- the attempt may get this reply: a start is admitted, blocked or unknown; a use is answered by the device; a finish is admitted; the
+-- activation of a use or a finish may be over or another's; and there may be no room
+abbrev pub may_get : Attempt → Reply → Bool
+may_get attempt NoRoom = true
+may_get (Start op) (Started act) = true
+may_get (Start op) (Blocked path) = true
+may_get (Start op) UnknownOperation = true
+may_get (Start op) reply = false
+may_get (Apply act verb) Stale = true
+may_get (Apply act verb) NotYours = true
+may_get (Apply act verb) reply = is_device_reply reply
+may_get (Finish act) Finished = true
+may_get (Finish act) Stale = true
+may_get (Finish act) NotYours = true
+may_get (Finish act) reply = false
 
 -- the reply starts the activation
 abbrev pub starts : ActId → Reply → Bool

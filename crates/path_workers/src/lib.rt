@@ -19,7 +19,7 @@ mod stake;
 mod steps;
 
 pub use answer::{Answer, Receipt};
-pub use closing::settle_own;
+pub use closing::{Closed, settle_own};
 pub use desk::Desk;
 pub use hall::Hall;
 pub use opening::Opening;

@@ -3,7 +3,7 @@
 ghost use Rattle.std.specs.Prelude.{◌≡◌, ◌↔◌, ◌⊎◌, ◌+◌, ◌<◌, ◌≤◌, ◌^◌, [], true, false, length, min, None};
 ghost use Rattle.std.specs.Prelude.{vec_len, vec_capacity, IsOk, IsTrue, IfOk, IfSome, OnOk, OnErr};
 ghost use Rattle.path_model.specs.declared.journal.Reply.TheVariants as replies;
-ghost use Rattle.path_workers.specs.Attempts.{receipts_then, finishes_open, is_open};
+ghost use Rattle.path_workers.specs.Attempts.{receipts_then, finishes_open, is_open, may_get};
 ghost use Rattle.path_workers.specs.Inner.Holdings.{open_then, opens, places_for};
 ghost use Rattle.path_workers.specs.Settled.{copies_in};
 
@@ -177,6 +177,7 @@ impl<L: Opening, A: Allocator + Copy> Pass<L, A> {
         ensures gained { IfOk result (λ a. self.new.receipts ≡ receipts_then self.old.receipts attempt a.place a.reply) }
         ensures no_room { IfOk result (λ a. (a.place ≡ None) ↔ (a.reply ≡ replies.NoRoom)) }
         ensures here { IfOk result (λ a. IfSome a.place (λ p. length L.opened.journal ≤ p)) }
+        ensures kind { IfOk result (λ a. may_get attempt a.reply ≡ true) }
         ensures kept { OnErr result (self.new ≡ self.old) }
         ensures finish { finishes_open attempt self.old.receipts ≡ true → IsOk result }
     {

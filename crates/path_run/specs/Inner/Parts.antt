@@ -1,24 +1,28 @@
 -- What one step adds to the receipts of a process.
-use Rattle.std.specs.Prelude.{◌≡◌, ◌≢◌, ◌⊎◌, ℕ, List, [], ◌∷◌, ◌++◌, MatchResult}
-use Rattle.std.specs.declared.result.Result.{Result}
+use Rattle.std.specs.Prelude.{◌≡◌, ◌≢◌, ◌⊎◌, ℕ, ◌+◌, min, Bool, true, List, [], ◌∷◌, ◌++◌, Result, Ok, MatchResult}
 use Rattle.path_model.specs.declared.ids.OpId.{OpId}
 use Rattle.path_model.specs.declared.ids.ActId.{ActId}
 use Rattle.path_model.specs.declared.journal.Attempt.{Attempt}
 use Rattle.path_model.specs.declared.journal.Reply.{Reply}
-use Rattle.path_model.specs.declared.journal.Reply.TheVariants.{NoRoom}
+use Rattle.path_model.specs.declared.journal.Reply.TheVariants.{Finished, NoRoom}
 use Rattle.path_workers.specs.declared.answer.Receipt.{Receipt}
+use Rattle.path_workers.specs.Attempts.{may_get}
 use Rattle.path_script.specs.declared.script.Step.{Step}
 use Rattle.path_script.specs.declared.script.Step.TheVariants.{Enter}
 use Rattle.path_run.specs.declared.outcome.End.{End}
 use Rattle.path_run.specs.declared.outcome.End.TheVariants as ends
+use Rattle.path_run.specs.declared.floor.Admission.{Admission}
+use Rattle.path_run.specs.declared.floor.Admission.TheVariants as admissions
 use Rattle.path_run.specs.declared.enter.Tried.{Tried}
 use Rattle.path_run.specs.declared.enter.Tried.TheVariants as tries
 use Rattle.path_run.specs.Runs.{note, Finishes, IsRun}
+use Rattle.path_run.specs.Waiting.{IsMarked}
 
 -- the receipts that an attempt with this reply gains: one, or none for NoRoom
 abbrev pub Gains : Attempt → Reply → List Receipt → Type 0
 Gains attempt reply gained =
-    ((reply ≡ NoRoom) × (gained ≡ [])) ⊎ ((reply ≢ NoRoom) × ((place : ℕ) × (gained ≡ note place attempt reply ∷ [])))
+    ((reply ≡ NoRoom) × (gained ≡ []))
+    ⊎ ((reply ≢ NoRoom) × (may_get attempt reply ≡ true) × ((place : ℕ) × (gained ≡ note place attempt reply ∷ [])))
 
 -- the receipts after an attempt with this result: those before it, and then what it gains
 abbrev pub HasGained : {E : Type 0} → Attempt → Result Reply E → List Receipt → List Receipt → Type 0
@@ -54,3 +58,20 @@ abbrev pub HasTried : OpId → List Receipt → Tried → Type 0
 HasTried op gained (tries.Entered act) = (held : List ActId) → Adds (Enter op) held (act ∷ held) gained
 HasTried op gained tries.Freed = AreTries op gained
 HasTried op gained (tries.Ended end) = (held : List ActId) → Closes (Enter op) held end gained
+
+-- one start under the lock: what it gains if it is admitted, blocked, or ends the process
+abbrev pub HasBegun : OpId → List Receipt → Admission → Type 0
+HasBegun op gained (admissions.Entered act) = (held : List ActId) → Adds (Enter op) held (act ∷ held) gained
+HasBegun op gained (admissions.Blocked seen) = AreTries op gained × ((held : List ActId) → Closes (Enter op) held (ends.Stalled op) gained)
+HasBegun op gained (admissions.Ended end) = (held : List ActId) → Closes (Enter op) held end gained
+
+-- a blocked process is marked as waiting, with the finishes that it has seen; nothing else is marked
+abbrev pub IsMarkedBy : Admission → ℕ → ℕ → ℕ → ℕ → Bool → Bool → Type 0
+IsMarkedBy (admissions.Blocked seen) finishes before waiting left stalled now =
+    (seen ≡ finishes) × (waiting ≡ min 18446744073709551615 (before + 1)) × IsMarked stalled waiting left now
+IsMarkedBy admission finishes before waiting left stalled now = (waiting ≡ before) × (now ≡ stalled)
+
+-- an admitted finish is counted, and leaves nobody who waits; no other reply does
+abbrev pub IsCountedBy : {E : Type 0} → Result Reply E → ℕ → ℕ → ℕ → ℕ → Type 0
+IsCountedBy (Ok Finished) before finishes waited waiting = (finishes ≢ before) × (waiting ≡ 0)
+IsCountedBy result before finishes waited waiting = (finishes ≡ before) × (waiting ≡ waited)

@@ -42,9 +42,6 @@ returns-in-Ok-clause-fault g c = tt
 pub returns-in-Ok-clause-few : goal.returns-in-Ok-clause-few
 returns-in-Ok-clause-few g c = tt
 
-pub returns-in-Err-clause-slips : goal.returns-in-Err-clause-slips
-returns-in-Err-clause-slips g c = tt
-
 pub returns-in-Err-clause-settled : goal.returns-in-Err-clause-settled
 returns-in-Err-clause-settled g c = tt
 

@@ -2,7 +2,7 @@
 use Rattle.path_script.specs.declared.script.Step.TheVariants.{Enter}
 use Rattle.path_model.specs.declared.journal.Attempt.TheVariants.{Start}
 use Rattle.path_run.proofs.Taking.{entered_adds, blocked_tries, stalled_closes, memory_closes, room_closes, enter_fault}
-use Rattle.path_run.proofs.enter.try_once.Goals as goal
+use Rattle.path_run.proofs.floor.Shift.start.Goals as goal
 
 pub returns-in_default-clause-run : goal.returns-in_default-clause-run
 returns-in_default-clause-run g c =
@@ -19,19 +19,12 @@ returns-in-NoRoom-clause-run g c =
     let t = c.in-Ok.ensures.run in
     (t.0, t.1, room_closes (Enter c.args.op) (Start c.args.op) c.in-Ok.reply t.0 t.2 c.in-NoRoom.is)
 
-pub returns-in_default-reply : goal.returns-in_default-reply
-returns-in_default-reply g c =
-    let t = c.in-Ok.ensures.run in record {
-      worker = c.told.ensures.worker;
-      run = (t.0, t.1, enter_fault c.args.op c.in-Ok.reply t.0 t.2 c.in_default-reply.not-NoRoom c.in_default-reply.not-Started c.in_default-reply.not-Blocked);
-    }
-
-pub returns-then-deref-seen-clause-run : goal.returns-then-deref-seen-clause-run
-returns-then-deref-seen-clause-run g c =
+pub returns-in-Blocked-clause-run : goal.returns-in-Blocked-clause-run
+returns-in-Blocked-clause-run g c =
     let t = c.in-Ok.ensures.run in
-    (t.0, t.1, stalled_closes c.args.op c.in-Ok.reply c.in-Blocked.field-0 t.0 t.2 c.in-Blocked.is)
+    (t.0, t.1, (blocked_tries c.args.op c.in-Ok.reply c.in-Blocked.field-0 t.0 t.2 c.in-Blocked.is, stalled_closes c.args.op c.in-Ok.reply c.in-Blocked.field-0 t.0 t.2 c.in-Blocked.is))
 
-pub returns-clause-run : goal.returns-clause-run
-returns-clause-run g c =
+pub returns-in_default-reply-clause-run : goal.returns-in_default-reply-clause-run
+returns-in_default-reply-clause-run g c =
     let t = c.in-Ok.ensures.run in
-    (t.0, t.1, blocked_tries c.args.op c.in-Ok.reply c.in-Blocked.field-0 t.0 t.2 c.in-Blocked.is)
+    (t.0, t.1, enter_fault c.args.op c.in-Ok.reply t.0 t.2 c.in_default-reply.not-NoRoom c.in_default-reply.not-Started c.in_default-reply.not-Blocked)

@@ -1,5 +1,5 @@
 -- The desk is a new one, over this system.
-use Rattle.path_run.proofs.running.run.Given as goal
+use Rattle.path_run.proofs.running.run_with_receipts.Given as goal
 
 abbrev pub ghosts-run_at-L-Ledger : goal.ghosts-run_at-L-Ledger
 ghosts-run_at-L-Ledger g a = record { name = a.blank.name; parts = a.blank.parts }
