@@ -1,3 +1,4 @@
 pub mod Threads
+pub mod ReadFault
 pub mod Refused
 pub mod CallerLemmas

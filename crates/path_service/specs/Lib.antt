@@ -1,3 +1,4 @@
+pub mod ReadFaults
 pub mod Services
 pub mod Verdicts
 pub mod Inner

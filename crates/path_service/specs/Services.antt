@@ -13,23 +13,24 @@ use Rattle.path_model.specs.Legal.{First, Forbids, Legal}
 use Rattle.path_model.specs.Rooms.{IsBadRoom}
 use Rattle.path_model.specs.Segments.{OwedBehind, joined}
 use Rattle.path_decl.specs.Text.{IsDeclarationText}
-use Rattle.path_read.specs.Refused.{Refuses}
 use Rattle.path_system.specs.declared.calls.StartRefusal.{StartRefusal}
 use Rattle.path_system.specs.declared.calls.StartRefusal.TheVariants as starts
 use Rattle.path_system.specs.Accounts.{Account, account_of, all_lines, StayBut}
 use Rattle.path_trace.specs.Traces.{own_states}
+use Rattle.path_commands.specs.Audits.{Under}
 use Rattle.path_service.specs.declared.fault.ServiceFault.{ServiceFault}
 use Rattle.path_service.specs.declared.fault.ServiceFault.TheVariants as faults
+use Rattle.path_service.specs.ReadFaults.{IsReadFault}
 
 -- of the declaration in the text, with this room, over new devices, and nothing was attempted
 pub record IsOpened (text : List ℕ) (room : ℕ) (a : Account) : Type 0 where
   pub declared : IsDeclarationText text a.declaration
   pub fresh : a ≡ account_of a.declaration room (own_states a.declaration)
 
--- the text isn't a declaration; or the room is out of range
+-- the text isn't a declaration, with this fault; or it is one, and the room is out of range
 abbrev pub IsServiceFault : List ℕ → ℕ → ServiceFault → Type 0
-IsServiceFault text room (faults.Declaration fault) = Refuses text fault
-IsServiceFault text room faults.BadRoom = IsBadRoom room
+IsServiceFault text room (faults.Declaration fault) = IsReadFault text fault
+IsServiceFault text room faults.BadRoom = Under text (λ d. IsBadRoom room)
 IsServiceFault text room faults.OutOfMemory = Unit {0}
 
 -- the reply is owed by all lines before, and the journal gains a line with it if there is room; no device fails

@@ -2,7 +2,6 @@
 use Rattle.std.specs.Prelude.{◌≡◌, ℕ, List}
 use Rattle.path_model.specs.Declarations.{Declaration}
 use Rattle.path_decl.specs.Text.{IsDeclarationText}
-use Rattle.path_read.specs.Refused.{Refuses}
 use Rattle.path_journal.specs.JournalFaults.{IsJournalFault}
 use Rattle.path_audit.specs.declared.auditor.AuditFault.TheVariants as audits
 use Rattle.path_audit.specs.declared.journals.Verdict.{Verdict}
@@ -11,6 +10,7 @@ use Rattle.path_streams.specs.declared.fault.Fault.TheVariants as streams
 use Rattle.path_commands.specs.Audits.{IsAuditOf, LacksRoom, Under}
 use Rattle.path_service.specs.declared.fault.AuditRefusal.{AuditRefusal}
 use Rattle.path_service.specs.declared.fault.AuditRefusal.TheVariants as refusals
+use Rattle.path_service.specs.ReadFaults.{IsReadFault}
 
 -- the first text is a declaration, and under it the second has this verdict and no other
 pub record IsVerdictOn (text : List ℕ) (room : ℕ) (journal : List ℕ) (verdict : Verdict) : Type 0 where
@@ -19,10 +19,10 @@ pub record IsVerdictOn (text : List ℕ) (room : ℕ) (journal : List ℕ) (verd
   pub audited : IsAuditOf declaration room journal verdict
   pub only : (other : Verdict) → IsAuditOf declaration room journal other → other ≡ verdict
 
--- the first text isn't a declaration; or the second isn't a journal under it, with this fault; or it is one that names no room, and no
+-- the first text isn't a declaration, with this fault; or the second isn't a journal under it, with this fault; or it is one that names no room, and no
 -- journal can have the room that is given
 abbrev pub IsAuditRefusal : List ℕ → ℕ → List ℕ → AuditRefusal → Type 0
-IsAuditRefusal text room journal (refusals.Declaration fault) = Refuses text fault
+IsAuditRefusal text room journal (refusals.Declaration fault) = IsReadFault text fault
 IsAuditRefusal text room journal (refusals.Journal fault) = Under text (λ d. IsJournalFault d journal fault)
 IsAuditRefusal text room journal refusals.BadRoom = Under text (λ d. LacksRoom d room journal)
 IsAuditRefusal text room journal refusals.OutOfMemory = Unit {0}
