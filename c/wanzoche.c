@@ -23,6 +23,8 @@ wanzoche_answer path_c_can_start(wanzoche *, uint32_t);
 size_t path_c_lines(wanzoche *);
 uint32_t path_c_live(wanzoche *);
 uint32_t path_c_room_left(wanzoche *);
+uint32_t path_c_operations(wanzoche *);
+uint32_t path_c_live_at(wanzoche *, uint32_t, wanzoche_activation *);
 wanzoche_answer path_c_journal(wanzoche *, uint8_t *, size_t);
 wanzoche_answer path_c_rotate(wanzoche *);
 wanzoche_answer path_c_report(wanzoche *, uint8_t *, size_t);
@@ -122,6 +124,18 @@ uint32_t wanzoche_live(wanzoche *handle) {
 
 uint32_t wanzoche_room_left(wanzoche *handle) {
     return handle == NULL ? 0 : path_c_room_left(handle);
+}
+
+uint32_t wanzoche_operations(wanzoche *handle) {
+    return handle == NULL ? 0 : path_c_operations(handle);
+}
+
+uint32_t wanzoche_list_live(wanzoche *handle, wanzoche_activation *list, uint32_t capacity) {
+    uint32_t written = 0;
+    if (handle == NULL) return 0;
+    if (list != NULL)
+        while (written < capacity && path_c_live_at(handle, written, &list[written])) written++;
+    return path_c_live(handle);
 }
 
 wanzoche_answer wanzoche_journal(wanzoche *handle, char *buffer, size_t size) {

@@ -95,6 +95,15 @@ typedef struct wanzoche_answer {
 } wanzoche_answer;
 
 /*
+** A live activation: its number, who started it, and which operation.
+*/
+typedef struct wanzoche_activation {
+    uint64_t number;
+    uint32_t worker;
+    uint32_t operation;
+} wanzoche_activation;
+
+/*
 ** The record of one operation, begun by wanzoche_begin and ended by
 ** wanzoche_end. All bytes are zero before it is begun first, and only these
 ** two functions change it. While `live` is true the operation is in progress,
@@ -309,6 +318,22 @@ wanzoche_answer wanzoche_can_start(wanzoche *handle, uint32_t operation);
 size_t wanzoche_lines(wanzoche *handle);
 uint32_t wanzoche_live(wanzoche *handle);
 uint32_t wanzoche_room_left(wanzoche *handle);
+
+/*
+** How many operations are declared: their numbers are those below it. 0 if the
+** handle is closed.
+*/
+uint32_t wanzoche_operations(wanzoche *handle);
+
+/*
+** Write the live activations to a list, in the order of their starts, as far as
+** they fit: as many as `capacity` says, which counts activations, not bytes.
+** Returns how many are live, also if fewer fit; 0 if the handle is closed. A
+** null list has no place. The system is as it was, and so is what is behind the
+** activations in the list. The cost is that of those that are written.
+*/
+uint32_t wanzoche_list_live(wanzoche *handle, wanzoche_activation *list,
+                            uint32_t capacity);
 
 /*
 ** Write the text of the journal, the lines since the last rotation, to a

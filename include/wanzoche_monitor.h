@@ -90,15 +90,6 @@ struct wanzoche_waiter {
     uint32_t operation;
 };
 
-/* The operations of an open system: it answers of each number below. */
-static inline uint32_t wanzoche_count_operations(wanzoche *system) {
-    uint32_t n = 0;
-    while (n < WANZOCHE_MOST_OPERATIONS &&
-           wanzoche_can_start(system, n).code != WANZOCHE_UNKNOWN_OPERATION)
-        n++;
-    return n;
-}
-
 /* Conditions whose time limits no change of the clock moves, one for each
 ** operation; false if the system has no more of them. */
 static inline bool wanzoche_open_queues(wanzoche_monitor *m) {
@@ -135,7 +126,7 @@ wanzoche_monitor_open(wanzoche_monitor *m, const char *text, size_t length,
     m->log_for = NULL;
     a = wanzoche_open(&m->system, text, length, room, message, size);
     if (a.code != WANZOCHE_OPENED) return a;
-    m->operations = wanzoche_count_operations(&m->system);
+    m->operations = wanzoche_operations(&m->system);
     if (pthread_mutex_init(&m->lock, NULL) == 0) {
         if (wanzoche_open_queues(m)) return a;
         pthread_mutex_destroy(&m->lock);

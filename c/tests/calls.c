@@ -126,6 +126,30 @@ static void records(void) {
     CHECK(wanzoche_end(&w, &first) == WANZOCHE_STALE);
 }
 
+static bool is_live(wanzoche_activation a, uint64_t number, uint32_t worker, uint32_t operation) {
+    return a.number == number && a.worker == worker && a.operation == operation;
+}
+
+/* What is live is listed in the order of the starts, as far as it fits, and what is behind it in the list stays. */
+static void lists(void) {
+    wanzoche w = WANZOCHE_CLOSED_HANDLE;
+    wanzoche_activation list[4] = {{9, 9, 9}, {9, 9, 9}, {9, 9, 9}, {9, 9, 9}};
+    CHECK(is(open_with(&w, THREE, 64, NULL), WANZOCHE_OPENED, 0));
+    CHECK(wanzoche_operations(&w) == 5 && wanzoche_list_live(&w, list, 4) == 0 && is_live(list[0], 9, 9, 9));
+    CHECK(is(wanzoche_start(&w, 7, 0), WANZOCHE_STARTED, 0));
+    CHECK(is(wanzoche_start(&w, 8, 2), WANZOCHE_STARTED, 1));
+    CHECK(is(wanzoche_start(&w, UINT32_MAX, 3), WANZOCHE_STARTED, 2));
+    CHECK(is(wanzoche_finish(&w, 8, 1), WANZOCHE_FINISHED, 0));
+    CHECK(is(wanzoche_start(&w, 8, 3), WANZOCHE_STARTED, 3));
+    CHECK(wanzoche_list_live(&w, list, 2) == 3 && is_live(list[0], 0, 7, 0) && is_live(list[1], 2, UINT32_MAX, 3));
+    CHECK(is_live(list[2], 9, 9, 9));
+    CHECK(wanzoche_list_live(&w, list, 4) == 3 && is_live(list[2], 3, 8, 3) && is_live(list[3], 9, 9, 9));
+    CHECK(wanzoche_list_live(&w, list, 0) == 3 && wanzoche_list_live(&w, NULL, 4) == 3);
+    CHECK(wanzoche_lines(&w) == 5 && wanzoche_live(&w) == 3);
+    wanzoche_close(&w);
+    CHECK(wanzoche_operations(&w) == 0 && wanzoche_list_live(&w, list, 4) == 0 && is_live(list[0], 0, 7, 0));
+}
+
 /* A null pointer, a closed handle and a second close are answers; a second open changes nothing. */
 static void closed_ones(void) {
     wanzoche w = WANZOCHE_CLOSED_HANDLE, *handles[] = {NULL, &w};
@@ -155,6 +179,8 @@ static void closed_ones(void) {
         CHECK(text[0] == 'x' && text[7] == 'x');
         CHECK(wanzoche_operation(h, "deposit", 7) == -1);
         CHECK(wanzoche_lines(h) == 0 && wanzoche_live(h) == 0 && wanzoche_room_left(h) == 0);
+        wanzoche_activation list = {9, 9, 9};
+        CHECK(wanzoche_operations(h) == 0 && wanzoche_list_live(h, &list, 1) == 0 && is_live(list, 9, 9, 9));
     }
     strcpy(why, "?");
     CHECK(is(open_with(NULL, SLOT, 64, why), WANZOCHE_CLOSED, 0) && why[0] == 0);
@@ -336,6 +362,7 @@ int main(void) {
     texts();
     devices();
     records();
+    lists();
     closed_ones();
     faults();
     too_many();

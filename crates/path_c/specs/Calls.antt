@@ -6,6 +6,7 @@ use Rattle.path_model.specs.declared.journal.Attempt.{Attempt}
 use Rattle.path_model.specs.declared.journal.Reply.{Reply}
 use Rattle.path_model.specs.declared.journal.Verb.{Verb}
 use Rattle.path_model.specs.declared.journal.Line.{Line}
+use Rattle.path_model.specs.declared.journal.Activation.{Activation}
 use Rattle.path_model.specs.Declarations.{Declaration}
 use Rattle.path_audit.specs.declared.journals.Verdict.{Verdict}
 use Rattle.path_system.specs.declared.calls.StartRefusal.{StartRefusal}
@@ -16,6 +17,7 @@ use Rattle.path_service.specs.declared.fault.AuditRefusal.{AuditRefusal}
 use Rattle.path_service.specs.Services.{IsServiceFault, IsStep, MayStart}
 use Rattle.path_service.specs.Verdicts.{IsAuditRefusal, IsVerdictOn}
 use Rattle.path_c.specs.declared.answer.Answer.{Answer}
+use Rattle.path_c.specs.declared.listed.Listed.{Listed}
 use Rattle.path_c.specs.Answers.{fault_answer, may_answer, refusal_answer, reply_answer, too_small, verdict_answer, written}
 
 -- an attempt gets the answer of the reply that is owed to it, and the journal its line
@@ -57,3 +59,12 @@ pub record IsGiven (text old : List ℕ) (answer : Answer) (new : List ℕ) : Ty
 -- the buffer is given the text of the report on these lines
 abbrev pub IsReportGiven : Declaration → List Line → List ℕ → Answer → List ℕ → Type 0
 IsReportGiven d lines old answer new = (text : List ℕ) × IsReportText d lines text × IsGiven text old answer new
+
+-- a live activation as C sees it
+abbrev pub listed : Activation → Listed
+listed a = record { activation = a.act.0; worker = a.worker; operation = a.op.0 }
+
+-- the activation, if there is one, is there now, and else nothing has changed
+abbrev pub IsListed : Option Activation → Listed → ℕ → Listed → Type 0
+IsListed None old code new = (code ≡ 0) × (new ≡ old)
+IsListed (Some a) old code new = (code ≡ 1) × (new ≡ listed a)

@@ -5,6 +5,7 @@
 mod answer;
 mod calls;
 mod handle;
+mod listed;
 mod opening;
 mod parts;
 mod texts;

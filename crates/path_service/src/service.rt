@@ -1,6 +1,6 @@
 //! A system over the program's own devices, with a list to spare for its rotations.
 
-ghost use Rattle.std.specs.Prelude.{◌≡◌, ◌≤◌, map, slice_get, vec_capacity, Some, Contains, IfOk, IfErr, IfSome, IfNone};
+ghost use Rattle.std.specs.Prelude.{◌≡◌, ◌≤◌, length, map, slice_get, vec_capacity, Some, Contains, IfOk, IfErr, IfSome, IfNone};
 ghost use Rattle.std.specs.Str.{IsUtf8};
 ghost use Rattle.path_model.specs.Journals.{admitted_history};
 ghost use Rattle.path_shelf.specs.Own.{own_state};
@@ -91,6 +91,13 @@ impl Service {
             Ok(name) => operation(self.system.decl(), name),
             Err(_) => None,
         }
+    }
+
+    /// How many operations are declared; their numbers are those below it.
+    pub fn operations(&self) -> u32
+        ensures { result ≡ length self.now.declaration.operations }
+    {
+        counts(self.system.decl()).operations
     }
 
     /// Makes one attempt of a worker, as [`System::step`] does and at its cost, and returns the reply that is owed to it. It is never
