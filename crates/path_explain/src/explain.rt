@@ -14,7 +14,7 @@ ghost use Rattle.path_explain.specs.Explanations.{IsExplanation, IsExplanationOv
 
 use crate::declared::declaration_in_words;
 use crate::faults::{FileNames, Subject, tell_place};
-use crate::held::push_held;
+use crate::held::{Lines, push_held};
 use crate::standing::{Moment, push_standing};
 use crate::why::push_why;
 use path_decl::Decl;
@@ -66,6 +66,10 @@ fn standing<D: Device, A: Allocator + Copy>(
 ) -> Result<String<A>, OutOfMemory> {
     let mut text = String::new(alloc);
     push_standing(alloc, &mut text, &moment_of(system, attempts))?;
+    let lines = Lines {
+        front: lines,
+        last: None,
+    };
     push_held(alloc, &mut text, system.decl(), lines, system.live())?;
     Ok(text)
 }

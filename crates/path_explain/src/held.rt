@@ -4,21 +4,39 @@ use crate::words::push_operations;
 use path_decl::Decl;
 use path_lines::push_operation;
 use path_model::{Activation, Line, OpId, OutOfMemory};
-use path_waiting::waits_for;
+use path_waiting::{waits_behind, waits_for};
 use std::alloc::Allocator;
 
 /// The most activations that are looked at: each takes a pass over the lines.
 const MOST: usize = 64;
 
+/// The lines of a journal.
+#[derive(Clone, Copy)]
+pub struct Lines<'a> {
+    /// All but the last, or all.
+    pub front: &'a [Line],
+    /// The last, if it isn't in front.
+    pub last: Option<Line>,
+}
+
+/// What a worker waits for behind these lines.
+fn waits_of(lines: Lines<'_>, worker: u32) -> Option<OpId> {
+    let waits = waits_for(lines.front, worker);
+    match lines.last {
+        Some(line) => waits_behind(waits, &line, worker),
+        None => waits,
+    }
+}
+
 /// What the worker of each activation waits for, in their order; `None` if one of them waits for nothing.
 fn all_waits<A: Allocator + Copy>(
     alloc: A,
-    lines: &[Line],
+    lines: Lines<'_>,
     live: &[Activation],
 ) -> Result<Option<Vec<OpId, A>>, OutOfMemory> {
     let mut waits = Vec::new(alloc);
     for activation in live {
-        match waits_for(lines, activation.worker) {
+        match waits_of(lines, activation.worker) {
             Some(op) => waits.push(op)?,
             None => return Ok(None),
         }
@@ -89,7 +107,7 @@ pub fn push_held<A: Allocator + Copy>(
     alloc: A,
     text: &mut String<A>,
     decl: &Decl<A>,
-    lines: &[Line],
+    lines: Lines<'_>,
     live: &[Activation],
 ) -> Result<(), OutOfMemory> {
     if live.is_empty() || live.len() > MOST {

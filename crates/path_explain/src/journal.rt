@@ -14,6 +14,7 @@ ghost use Rattle.path_streams.specs.Writes.{AppendsSome, IsFrontOf};
 ghost use Rattle.path_explain.specs.Judgements.{Begins, IsJudgedText, IsRoomless, IsUnjudged, TellsJudgement, owed_lines, sound_line};
 
 use crate::faults::{FileNames, Subject, tell_place};
+use crate::held::{Lines, push_held};
 use crate::standing::{Moment, push_standing};
 use crate::why::push_why;
 use path_audit::{Auditor, Examined, Wrong};
@@ -71,19 +72,20 @@ fn examined<A: Allocator + Copy>(
     }
 }
 
-/// How each resource stands behind the lines that were replayed; before that, if `owed` is there, why its reply was owed behind so many
-/// lines.
+/// How each resource stands behind the lines that were replayed, and who waits: the right lines, and then, if `owed` is there, the wrong
+/// one with the reply that was owed, of which is said before that why it was.
 fn behind<A: Allocator + Copy>(
     alloc: A,
     decl: &Decl<A>,
     examined: &Examined<A>,
-    lines: u32,
+    right: &[Line],
     owed: Option<Line>,
 ) -> Result<String<A>, OutOfMemory>
     requires { examined.now.replay.standing.paths ≡ paths_of decl.now.declaration }
 {
     let mut text = String::new(alloc);
     let live = examined.live(alloc)?;
+    let lines = u32::try_from(right.len()).unwrap_or(u32::MAX);
     let moment = Moment {
         decl,
         gate: examined.gate(),
@@ -95,6 +97,11 @@ fn behind<A: Allocator + Copy>(
         push_why(alloc, &mut text, &moment, &line)?;
     }
     push_standing(alloc, &mut text, &moment)?;
+    let lines = Lines {
+        front: right,
+        last: owed,
+    };
+    push_held(alloc, &mut text, decl, lines, &live)?;
     Ok(text)
 }
 
@@ -220,7 +227,7 @@ fn sound<A: Allocator + Copy>(
     let mut text = String::new(alloc);
     let count = lines.len();
     write!(text, "sound: {count} lines\n")?;
-    let rest = behind(alloc, decl, examined, 0, None)?;
+    let rest = behind(alloc, decl, examined, lines, None)?;
     text.push_str(&rest)?;
     Ok(text)
 }
@@ -244,7 +251,8 @@ fn unsound<A: Allocator + Copy>(
     let hint = room_hint(alloc, decl, &journal.lines, wrong)?;
     text.push_str(&hint)?;
     let owed = line_owed(line, wrong.owed);
-    let rest = behind(alloc, decl, examined, wrong.line, owed)?;
+    let right = &journal.lines[..wrong.line as usize];
+    let rest = behind(alloc, decl, examined, right, owed)?;
     text.push_str(&rest)?;
     Ok(text)
 }
@@ -311,8 +319,8 @@ fn put_judged<A: Allocator + Copy, O: Write, E: Write>(
 /// Reads a declaration and the text of a journal, replays it over the program's own devices as
 /// [`audit_bytes`](path_commands::audit_bytes) does, and writes whether it is sound: either how many lines it has, or the first wrong
 /// line with its number in the text, counted from 1, the reply that was owed to its attempt, and why that was so. Then stands, for each
-/// resource, what can start, what is blocked, what is live, and whether nothing of it can ever be admitted again; behind a wrong line
-/// as if it had got the owed reply. Where that reply is `no room`, one line says in which room the line would have had a place.
+/// resource, what can start, what is blocked, what is live, and whether nothing of it can ever be admitted again, and at last who waits
+/// for whom, if all that is live waits; behind a wrong line as if it had got the owed reply. Where that reply is `no room`, one line says in which room the line would have had a place.
 ///
 /// `Unsound`: a line is wrong. `DeclarationRefused`: the declaration is refused. `TextRefused`: the text isn't a journal, or is too long.
 /// `CommandRefused`: the text names no room, and `room` is out of range. In these last three cases, which count in this order, nothing

@@ -20,7 +20,7 @@ fn refused_in(line: &Line) -> Option<OpId>
 }
 
 /// What the worker waits for behind one more line, of what it waited for before it.
-fn behind(waits: Option<OpId>, line: &Line, worker: u32) -> Option<OpId>
+pub fn waits_behind(waits: Option<OpId>, line: &Line, worker: u32) -> Option<OpId>
     ensures some { IfSome result (λ a. (ls : List Told) → IfSome waits (λ b. WaitsFor worker b ls)
         → WaitsFor worker a (ls ++ line.now ∷ [])) }
     ensures none { IfNone result ((a : Op) (ls : List Told) → (IfNone waits ((b : Op) → WaitsFor worker b ls → ⊥))
@@ -48,7 +48,7 @@ pub fn waits_for(lines: &[Line], worker: u32) -> Option<OpId>
 {
     let mut waits = None;
     for line in lines {
-        waits = behind(waits, line, worker);
+        waits = waits_behind(waits, line, worker);
     }
     waits
 }

@@ -62,7 +62,7 @@ pub const USES: &[Row] = &[
 ];
 
 /// Two locks, and an operation that no path names.
-const LOCKS: &str = "resource r cell operation la, lb, free path la end path lb end end";
+pub const LOCKS: &str = "resource r cell operation la, lb, free path la end path lb end end";
 
 /// Starts that are blocked: by two paths with the same tree and by a third; by five activations; and for ever, beside a resource that
 /// goes on.

@@ -1,6 +1,6 @@
 -- A line of another worker's that is no finish.
 use Rattle.path_waiting.proofs.Steps.{waits_on, waits_as_little}
-use Rattle.path_waiting.proofs.behind.Goals as goal
+use Rattle.path_waiting.proofs.waits_behind.Goals as goal
 
 pub returns-clause-some : goal.returns-clause-some
 returns-clause-some c = waits_on c.args.waits c.args.worker c.args.line.now c.if-line-worker.false c.in_default.not-Finished
