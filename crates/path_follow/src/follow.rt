@@ -87,13 +87,14 @@ fn ended<D: Device, A: Allocator + Copy, R: Read, O: Write, E: Write>(
 /// Answers the lines of the input, one after the other: an attempt with its reply in the line of [`trace_to`](path_trace::trace_to), and
 /// the line `?` with the report of the system as it is then ([`push_report`](path_trace::push_report)). Each answer is written and flushed
 /// before the next line is looked at, and never waits for more of the input than its own line. A line that is neither is told on `err`,
-/// with its number counted from 0, and skipped. The last line may lack its line feed.
+/// with its number counted from 0, and below that where it stops being an attempt, with its number from 1; and it is skipped. The last
+/// line may lack its line feed.
 ///
 /// `Done`: the input ended. `TextRefused`: it ended, and lines were skipped. `CommandRefused`: the room is 0 or above
 /// [`MOST_LINES`](path_model::MOST_LINES), or the devices aren't those of the declaration, one for each resource and of its law;
 /// nothing was read or written. `StreamFailed`: the input, or a line of it, of more than [`LIMIT`](path_lines::LIMIT) bytes,
 /// can't be read, or a writer failed, and what it took is unknown. `NoMemory`: allocation failed, and the answers to the first lines
-/// were written. A fault is one line on `err`; but if nobody reads `out` any more, nothing is told.
+/// were written. Any other fault is one line on `err`; but if nobody reads `out` any more, nothing is told.
 ///
 /// The journal has room for `room` lines; an attempt without room gets the reply `no room`. An attempt costs what it costs the system,
 /// and a pass over its line; memory doesn't grow with the input, only with its longest line.

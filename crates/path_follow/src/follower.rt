@@ -9,13 +9,18 @@ ghost use Rattle.path_follow.specs.Stops.{IsWriting, UnlessWriting};
 
 use crate::answer::answer;
 use crate::stop::Stop;
+use path_decl::Decl;
 use path_fields::cut;
 use path_lines::{LIMIT, LineFault, fault_at};
+use path_locate::{TextKind, push_finding, text_finding};
 use path_shelf::Device;
 use path_streams::{Fault, Status, tell};
 use path_system::Controller;
 use std::alloc::Allocator;
 use std::io::Write;
+
+/// How places in the input name it.
+const INPUT: &str = "standard input";
 
 /// A system that answers the lines of an input.
 #[derive(Drop)]
@@ -44,13 +49,44 @@ fn send<O: Write>(out: &mut O, told: &[u8]) -> Result<(), Stop>
     }
 }
 
-/// Tells on `err` that the line of this number, counted from 0, is refused.
-fn refuse<E: Write>(err: &mut E, number: u32, fault: LineFault) -> Result<(), Stop>
+/// Where a line with this fault stops being an attempt, as [`push_finding`] says it; its number counts from 0. `None` if there is no
+/// memory to say it.
+fn place_in<A: Allocator + Copy>(
+    alloc: A,
+    decl: &Decl<A>,
+    number: u32,
+    line: &[u8],
+    fault: LineFault,
+) -> Option<String<A>> {
+    let found = text_finding(alloc, decl, TextKind::Attempts, line, fault_at(0, fault));
+    let mut finding = found.ok()??;
+    finding.spot.line = finding.spot.line.saturating_add(number as usize);
+    let mut place = String::new(alloc);
+    push_finding(&mut place, INPUT, &finding).ok()?;
+    Some(place)
+}
+
+/// Tells on `err` that the line of this number, counted from 0, is refused, and below that where it stops being an attempt. Where there
+/// is no memory to say that, it is left out.
+fn refuse<A: Allocator + Copy, E: Write>(
+    alloc: A,
+    decl: &Decl<A>,
+    number: u32,
+    line: &[u8],
+    fault: LineFault,
+    err: &mut E,
+) -> Result<(), Stop>
     ensures { IfErr result (λ stop. IsWriting stop) }
 {
-    match tell(err, Fault::Text(fault_at(number, fault))) {
-        Status::StreamFailed => Err(Stop::Quiet),
-        _ => Ok(()),
+    if tell(err, Fault::Text(fault_at(number, fault))) == Status::StreamFailed {
+        return Err(Stop::Quiet);
+    }
+    let Some(place) = place_in(alloc, decl, number, line, fault) else {
+        return Ok(());
+    };
+    match write!(err, "{place}") {
+        Ok(()) => Ok(()),
+        Err(_) => Err(Stop::Quiet),
     }
 }
 
@@ -88,7 +124,7 @@ impl<D: Device, A: Allocator + Copy> Follower<D, A> {
             None => send(out, &self.told),
             Some(fault) => {
                 self.refused = true;
-                refuse(err, number, fault)
+                refuse(alloc, self.system.decl(), number, line, fault, err)
             }
         }
     }

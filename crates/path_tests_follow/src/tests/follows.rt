@@ -52,7 +52,13 @@ const REFUSED: &[Row<'static>] = &[
         (
             Status::TextRefused,
             "1 start deposit: started 0\n1 finish 0: finished\n",
-            "text: bad line 0\ntext: undeclared in line 2\ntext: bad line 3\ntext: bad line 4\n",
+            "text: bad line 0\nstandard input:1:1: this line can't be read\n\n^\nexpected a worker's number, 0 to 4294967295\n\
+             likely: a blank line; take it out\n\
+             text: undeclared in line 2\nstandard input:3:9: this isn't a declared operation\n1 start insert\n        ^^^^^^\n\
+             expected the name of a declared operation\n\
+             text: bad line 3\nstandard input:4:1: this line can't be read\n? \n^\nexpected a worker's number, 0 to 4294967295\n\
+             text: bad line 4\nstandard input:5:11: this line can't be read\n1 finish 0␍\n          ^\nexpected the end of the line\n\
+             likely: a carriage return; save the file with line feeds alone\n",
         ),
     ),
     (
@@ -61,7 +67,7 @@ const REFUSED: &[Row<'static>] = &[
         (
             Status::TextRefused,
             "1 start deposit: started 0\n",
-            "text: bad line 1\n",
+            "text: bad line 1\nstandard input:2:9: this line can't be read\n1 finish\n        ^\nexpected one space\n",
         ),
     ),
     (
@@ -93,7 +99,7 @@ const EACH: Row<'static> = (
         Status::TextRefused,
         "1 start deposit: started 0\nstartable\nblocked deposit 0\nblocked remove 0\nlive 0 1 deposit\nfrozen no\n\
          1 finish 0: finished\n",
-        "text: bad line 2\n",
+        "text: bad line 2\nstandard input:3:1: this line can't be read\nx\n^\nexpected a worker's number, 0 to 4294967295\n",
     ),
 );
 
