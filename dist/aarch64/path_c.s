@@ -16268,6 +16268,49 @@ path_c_live:
 	ret
 	.size	path_c_live, .-path_c_live
 
+	.section	.text.path_c_live_at,"ax",@progbits
+	.globl	path_c_live_at
+	.p2align	2
+	.type	path_c_live_at,@function
+path_c_live_at:
+	ldrb	w8, [x0, #8]
+	cmp	w8, #1
+	b.ne	.LBB.45506256_3
+	ldr	x9, [x0]
+	stp	xzr, xzr, [x0]
+	ldr	x10, [x9, #216]
+	ldr	x8, [x9, #232]
+	sub	x11, x10, x8
+	mov	w10, w1
+	cmp	x11, x10
+	b.ls	.LBB.45506256_4
+	ldr	x11, [x9, #208]
+	add	x8, x11, x8, lsl #4
+	add	x10, x8, x10, lsl #4
+	mov	w8, #1
+	ldr	x11, [x10]
+	ldr	d0, [x10, #8]
+	str	x9, [x0]
+	strb	w8, [x0, #8]
+	stur	wzr, [x0, #9]
+	str	wzr, [x0, #12]
+	mov	w0, w8
+	str	x11, [x2]
+	str	d0, [x2, #8]
+	ret
+.LBB.45506256_3:
+	mov	w0, wzr
+	ret
+.LBB.45506256_4:
+	str	x9, [x0]
+	mov	w9, #1
+	strb	w9, [x0, #8]
+	stur	wzr, [x0, #9]
+	str	wzr, [x0, #12]
+	mov	w0, wzr
+	ret
+	.size	path_c_live_at, .-path_c_live_at
+
 	.section	.text.path_c_operation,"ax",@progbits
 	.globl	path_c_operation
 	.p2align	2
@@ -16316,6 +16359,29 @@ path_c_operation:
 	add	sp, sp, #64
 	ret
 	.size	path_c_operation, .-path_c_operation
+
+	.section	.text.path_c_operations,"ax",@progbits
+	.globl	path_c_operations
+	.p2align	2
+	.type	path_c_operations,@function
+path_c_operations:
+	ldrb	w8, [x0, #8]
+	cmp	w8, #1
+	b.ne	.LBB.9cfda001_2
+	ldr	x9, [x0]
+	stp	xzr, xzr, [x0]
+	mov	w10, #1
+	ldr	w8, [x9, #424]
+	str	x9, [x0]
+	strb	w10, [x0, #8]
+	stur	wzr, [x0, #9]
+	str	wzr, [x0, #12]
+	mov	w0, w8
+	ret
+.LBB.9cfda001_2:
+	mov	w0, wzr
+	ret
+	.size	path_c_operations, .-path_c_operations
 
 	.section	.text.path_c_room_left,"ax",@progbits
 	.globl	path_c_room_left

@@ -17798,6 +17798,43 @@ path_c_live:
 	retq
 	.size	path_c_live, .-path_c_live
 
+	.section	.text.path_c_live_at,"ax",@progbits
+	.globl	path_c_live_at
+	.p2align	4
+	.type	path_c_live_at,@function
+path_c_live_at:
+	xorl	%eax, %eax
+	cmpb	$1, 8(%rdi)
+	jne	.LBB.45506256_4
+	movq	(%rdi), %rcx
+	xorps	%xmm0, %xmm0
+	movups	%xmm0, (%rdi)
+	movq	216(%rcx), %r9
+	movq	232(%rcx), %r8
+	subq	%r8, %r9
+	movl	%esi, %esi
+	cmpq	%rsi, %r9
+	jbe	.LBB.45506256_2
+	shlq	$4, %r8
+	addq	208(%rcx), %r8
+	shlq	$4, %rsi
+	movups	(%rsi,%r8), %xmm0
+	movq	%rcx, (%rdi)
+	movb	$1, 8(%rdi)
+	movl	$0, 12(%rdi)
+	movl	$0, 9(%rdi)
+	movups	%xmm0, (%rdx)
+	movl	$1, %eax
+.LBB.45506256_4:
+	retq
+.LBB.45506256_2:
+	movq	%rcx, (%rdi)
+	movb	$1, 8(%rdi)
+	movl	$0, 9(%rdi)
+	movl	$0, 12(%rdi)
+	retq
+	.size	path_c_live_at, .-path_c_live_at
+
 	.section	.text.path_c_operation,"ax",@progbits
 	.globl	path_c_operation
 	.p2align	4
@@ -17848,6 +17885,26 @@ path_c_operation:
 .LBB.1ddf66ab_4:
 	retq
 	.size	path_c_operation, .-path_c_operation
+
+	.section	.text.path_c_operations,"ax",@progbits
+	.globl	path_c_operations
+	.p2align	4
+	.type	path_c_operations,@function
+path_c_operations:
+	xorl	%eax, %eax
+	cmpb	$1, 8(%rdi)
+	jne	.LBB.9cfda001_2
+	movq	(%rdi), %rcx
+	xorps	%xmm0, %xmm0
+	movups	%xmm0, (%rdi)
+	movl	424(%rcx), %eax
+	movq	%rcx, (%rdi)
+	movb	$1, 8(%rdi)
+	movl	$0, 9(%rdi)
+	movl	$0, 12(%rdi)
+.LBB.9cfda001_2:
+	retq
+	.size	path_c_operations, .-path_c_operations
 
 	.section	.text.path_c_room_left,"ax",@progbits
 	.globl	path_c_room_left
