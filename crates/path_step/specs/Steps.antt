@@ -1,0 +1,123 @@
+-- What one attempt does to the gate and to what is live.
+use Rattle.std.specs.Prelude.{◌≡◌, ◌≢◌, ◌⊎◌, ◌+◌, ◌<◌, ◌≤◌, ℕ, List, [], ◌∷◌, ◌++◌, Option, Some, None, length, slice_index, slice_index_or, slice_set, Bool, true, false, ◌&&◌, not}
+use Rattle.path_model.specs.declared.journal.Attempt.{Attempt}
+use Rattle.path_model.specs.declared.journal.Attempt.TheVariants.{Start, Apply, Finish}
+use Rattle.path_gate.specs.Places.{has_room, lacks_number}
+use Rattle.path_model.specs.declared.ids.OpId.{OpId}
+use Rattle.path_model.specs.declared.ids.PathId.{PathId}
+use Rattle.path_model.specs.declared.history.Event.{Event}
+use Rattle.path_model.specs.declared.history.Event.TheVariants.{Began}
+use Rattle.path_model.specs.declared.journal.Verb.{Verb}
+use Rattle.path_model.specs.declared.resource.Law.{Law}
+use Rattle.path_model.specs.Legal as legal
+use Rattle.path_model.specs.Declarations.{Declaration, resource_of, law_of}
+use Rattle.path_model.specs.Devices.{Outcome, serves, refuses, outcome_of}
+use Rattle.path_model.specs.declared.ids.ActId.{ActId}
+use Rattle.path_model.specs.declared.journal.Reply.{Reply}
+use Rattle.path_model.specs.declared.journal.Reply.TheVariants.{Started, Blocked, UnknownOperation, Used, DeviceFailed, Finished, Stale, NotYours, NoRoom}
+use Rattle.path_model.specs.declared.journal.Activation.{Activation}
+use Rattle.path_model.specs.Journals.{activation_of, without}
+use Rattle.path_gate.specs.Standings.{Standing, IsAt, IsNamed, Admitted, Released}
+
+-- the live activations in order of start, and how many were begun
+pub record Register : Type 0 where
+  pub live : List Activation
+  pub begun : ℕ
+
+-- one more was begun
+abbrev pub registered : Register → Activation → Register
+registered r a = record { live = r.live ++ a ∷ []; begun = r.begun + 1 }
+
+-- the gate, and what is live
+pub record Present : Type 0 where
+  pub standing : Standing
+  pub register : Register
+
+abbrev pub present : Standing → Register → Present
+present standing register = record { standing = standing; register = register }
+
+-- what is live is in progress if a path names it
+abbrev pub IsRunning : Standing → Register → Type 0
+IsRunning standing register =
+    (n : ActId) (a : Activation) → activation_of n register.live ≡ Some a → IsNamed standing.paths a.op
+    → 0 < slice_index standing.in_progress a.op.0
+
+-- the activation a, whose number is n, is over
+pub record IsOver (old : Present) (n : ActId) (a : Activation) (reply : Reply) (new : Present) : Type 0 where
+  pub told : reply ≡ Finished
+  pub standing : Released old.standing a.op new.standing
+  pub register : new.register ≡ record old.register { live = without n old.register.live }
+
+-- a finish of the activation numbered n, if it is live, takes the old present to the new one with this reply
+abbrev pub MovesFinish : Present → ℕ → ActId → Option Activation → Reply → Present → Type 0
+MovesFinish old w n None reply new = (reply ≡ Stale) × (new ≡ old)
+MovesFinish old w n (Some a) reply new = (a.worker ≢ w → (reply ≡ NotYours) × (new ≡ old)) × (a.worker ≡ w → IsOver old n a reply new)
+
+-- the start of a is admitted and gets the number n
+pub record IsStarted (operations : ℕ) (old : Present) (w : ℕ) (a : OpId) (n : ActId) (new : Present) : Type 0 where
+  pub declared : a.0 < operations
+  pub admits :
+      (h : List Event) → legal.Legal old.standing.paths h → IsAt old.standing h
+      → legal.Legal old.standing.paths (h ++ Began a ∷ [])
+  pub number : n.0 ≡ old.register.begun
+  pub standing : Admitted old.standing a new.standing
+  pub register : new.register ≡ registered old.register (record { act = n; worker = w; op = a })
+
+-- p is the first path that forbids the start of a
+pub record IsBlocked (operations : ℕ) (old : Present) (a : OpId) (p : PathId) : Type 0 where
+  pub declared : a.0 < operations
+  pub forbids :
+      (h : List Event) → legal.Legal old.standing.paths h → IsAt old.standing h
+      → legal.First (legal.Forbids h a) old.standing.paths p.0
+
+-- a start of a takes one present to another with this reply
+abbrev pub MovesStart : ℕ → Present → ℕ → OpId → Reply → Present → Type 0
+MovesStart operations old w a (Started n) new = IsStarted operations old w a n new
+MovesStart operations old w a (Blocked p) new = IsBlocked operations old a p × (new ≡ old)
+MovesStart operations old w a UnknownOperation new = (operations ≤ a.0) × (new ≡ old)
+MovesStart operations old w a reply new = ⊥
+
+-- what a resource contains
+abbrev pub held_at : List (List ℕ) → ℕ → List ℕ
+held_at contents r = slice_index_or contents r []
+
+-- the law serves as its table says, or the device fails although it would serve, or the law refuses
+abbrev pub Acts : Outcome → Reply → List ℕ → List ℕ → Type 0
+Acts (serves x rest) reply before left = ((reply ≡ Used x) × (left ≡ rest)) ⊎ ((reply ≡ DeviceFailed) × (left ≡ before))
+Acts (refuses r) reply before left = (reply ≡ r) × (left ≡ before)
+
+-- a verb at a resource of this law, whose contents go from old to new with this reply; all others stay
+pub record Serves (law : Law) (r : ℕ) (verb : Verb) (old : List (List ℕ)) (reply : Reply) (new : List (List ℕ)) : Type 0 where
+  pub left : List ℕ
+  pub acts : Acts (outcome_of law verb (held_at old r)) reply (held_at old r) left
+  pub others : new ≡ slice_set old r left
+
+-- a use of the activation, if it is live, takes the contents from old to new with this reply
+abbrev pub MovesUse : Declaration → ℕ → Verb → Option Activation → List (List ℕ) → Reply → List (List ℕ) → Type 0
+MovesUse d w verb None old reply new = (reply ≡ Stale) × (new ≡ old)
+MovesUse d w verb (Some a) old reply new =
+    (a.worker ≢ w → (reply ≡ NotYours) × (new ≡ old))
+    × (a.worker ≡ w → Serves (law_of d (resource_of d a.op.0)) (resource_of d a.op.0) verb old reply new)
+
+-- what is live was declared, and each resource has its law
+pub record AreReady (d : Declaration) (live : List Activation) (contents : List (List ℕ)) (has_law : ℕ → Law → Type 0) : Type 0 where
+  pub within : (n : ActId) (a : Activation) → activation_of n live ≡ Some a → a.op.0 < length d.operations
+  pub resources : (op : ℕ) → op < length d.operations → resource_of d op < length d.resources
+  pub one_each : length contents ≡ length d.resources
+  pub laws : (r : ℕ) → r < length d.resources → has_law r (law_of d r)
+
+-- one attempt for which there is room takes one present and contents to others with this reply
+abbrev pub Moves : Declaration → Present → List (List ℕ) → ℕ → Attempt → Reply → Present → List (List ℕ) → Type 0
+Moves d old before w (Start a) reply new after = MovesStart (length d.operations) old w a reply new × (after ≡ before)
+Moves d old before w (Apply n verb) reply new after = MovesUse d w verb (activation_of n old.register.live) before reply after × (new ≡ old)
+Moves d old before w (Finish n) reply new after = MovesFinish old w n (activation_of n old.register.live) reply new × (after ≡ before)
+
+-- whether there is room for the attempt after this number of lines, and a number if it is a start
+abbrev pub can_take : Present → ℕ → ℕ → ℕ → Attempt → Bool
+can_take old room lines w attempt = has_room room lines old.register.live w attempt && not (lacks_number old.register.begun attempt)
+
+-- what can be taken moves, and for what can't nothing changes
+pub record Answers (d : Declaration) (old : Present) (before : List (List ℕ)) (room lines w : ℕ) (attempt : Attempt) (reply : Reply) (new : Present)
+    (after : List (List ℕ)) : Type 0 where
+  pub inside : can_take old room lines w attempt ≡ true → Moves d old before w attempt reply new after
+  pub outside : can_take old room lines w attempt ≡ false → (reply ≡ NoRoom) × (new ≡ old) × (after ≡ before)

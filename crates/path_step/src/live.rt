@@ -1,0 +1,70 @@
+//! Who keeps the live activations.
+
+ghost use Rattle.std.specs.Prelude.{◌≡◌, ◌<◌, length, OnErr, OnOk};
+ghost use Rattle.path_model.specs.Journals.{activation_of, without};
+ghost use Rattle.path_ledger.specs.Ledgers.{own_of};
+ghost use Rattle.path_step.specs.Steps.{Register, registered};
+
+use path_ledger::{EndFault, Ledger};
+use path_model::{ActId, Activation, OpId};
+use std::alloc::Allocator;
+
+/// What keeps the live activations. Contracts see them, in the order of their starts, and how many were begun.
+pub trait Live: Drop {
+    ghost register: { Self → Register };
+
+    // There is a place for one more.
+    ghost has_place: { Self → Type 0 };
+
+    /// How many are live.
+    fn count(&self) -> usize
+        ensures { result ≡ length (register self.now).live };
+
+    /// How many were begun.
+    fn begun(&self) -> u64
+        ensures { result ≡ (register self.now).begun };
+
+    /// The live activation of this number, if there is one.
+    fn find(&self, act: ActId) -> Option<Activation>
+        ensures { result ≡ activation_of act (register self.now).live };
+
+    /// Appends an activation of this worker and operation, and returns its number: how many were begun before it. There has to be a place
+    /// for it.
+    fn begin(&mut self, worker: u32, op: OpId) -> ActId
+        requires { has_place self.old }
+        ensures number { result.0 ≡ (register self.old).begun }
+        ensures appended { register self.new ≡ registered (register self.old) (record { act = result; worker = worker; op = op }) };
+
+    /// Takes out the live activation of this number if it is this worker's own. Fails with `Stale` if none has the number, and else with
+    /// `NotYours`; then nothing changes.
+    fn end_own(&mut self, worker: u32, act: ActId) -> Result<Activation, EndFault>
+        ensures told { result ≡ own_of worker (activation_of act (register self.old).live) }
+        ensures ended { OnOk result (register self.new ≡ record (register self.old) { live = without act (register self.old).live }) }
+        ensures kept { OnErr result (self.new ≡ self.old) };
+}
+
+impl<A: Allocator + Copy> Live for Ledger<A> {
+    ghost register = { λ b. record { live = b.live; begun = b.begun } };
+
+    ghost has_place = { λ b. (length b.live < b.room) × (b.begun < 4294967295) };
+
+    fn count(&self) -> usize {
+        Ledger::live(self).len()
+    }
+
+    fn begun(&self) -> u64 {
+        u64::from(Ledger::begun(self))
+    }
+
+    fn find(&self, act: ActId) -> Option<Activation> {
+        Ledger::find(self, act)
+    }
+
+    fn begin(&mut self, worker: u32, op: OpId) -> ActId {
+        Ledger::begin(self, worker, op)
+    }
+
+    fn end_own(&mut self, worker: u32, act: ActId) -> Result<Activation, EndFault> {
+        Ledger::end_own(self, worker, act)
+    }
+}
