@@ -4,6 +4,7 @@
 mod devices;
 mod live;
 mod moves;
+mod shelved;
 
 pub use devices::Devices;
 pub use live::Live;
