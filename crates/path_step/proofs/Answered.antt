@@ -1,0 +1,114 @@
+-- The reply of a step is owed by the lines before it.
+use Rattle.std.proofs.Common.{◌≡◌, ℕ, ◌+◌, ◌<◌, ◌≤◌, Bool, true, false, List, [], ◌∷◌, ◌++◌, length, arith, refl, ap, sym, subst, ◌∙◌, Option, Some, None, inl, inr}
+use Rattle.std.proofs.lemmas.Bool.{cases_eq}
+use Rattle.path_model.specs.declared.ids.OpId.{OpId}
+use Rattle.path_model.specs.declared.ids.ActId.{ActId}
+use Rattle.path_model.specs.declared.history.Event.TheVariants.{Began}
+use Rattle.path_model.specs.declared.journal.Verb.{Verb}
+use Rattle.path_model.specs.declared.journal.Attempt.{Attempt}
+use Rattle.path_model.specs.declared.journal.Attempt.TheVariants.{Start, Apply, Finish}
+use Rattle.path_model.specs.declared.journal.Reply.{Reply}
+use Rattle.path_model.specs.declared.journal.Reply.TheVariants.{Started, Blocked, UnknownOperation, NoRoom}
+use Rattle.path_model.specs.declared.journal.Line.{Line}
+use Rattle.path_model.specs.declared.journal.Activation.{Activation}
+use Rattle.path_model.specs.Legal as legal
+use Rattle.path_model.specs.Declarations.{Declaration, paths_of, resource_of, law_of}
+use Rattle.path_model.specs.Devices.{Outcome, serves, refuses, outcome_of}
+use Rattle.path_model.specs.Journals.{live, activation_of, admitted_history}
+use Rattle.path_model.specs.Owed.{by_words, taken, IsOwn, OwedToStart, OwedToUse, OwedToFinish, Owed, outcome_for}
+use Rattle.path_model.proofs.CallerLemmas.{each_honest_journal_is_legal}
+use Rattle.path_decl.specs.Lawful.{Lawful}
+use Rattle.path_gate.specs.Places.{has_room, is_own_of, lacks_number}
+use Rattle.path_gate.proofs.CallerLemmas.{both_left, left_fails, roomy, not_roomy, roomy_or, not_roomy_or, not_own, own_or_other, none_forbids, found_declared}
+use Rattle.path_step.specs.Steps.{Present, Acts, held_at, MovesStart, MovesUse, MovesFinish, Moves, Answers, can_take}
+use Rattle.path_step.specs.Presents.{IsPresentOf}
+
+module _ (d : Declaration) (lawful : Lawful d) (old : Present) (before : List (List ℕ)) (room : ℕ) (openings : List (List ℕ)) (journal : List Line) (s : IsPresentOf old before d room openings journal) where
+  -- the history is legal so far
+  pub legal_now : legal.Legal old.standing.paths (admitted_history journal)
+  legal_now = subst (λ xs. legal.Legal xs (admitted_history journal)) (sym s.paths) (each_honest_journal_is_legal d room openings lawful.well_formed journal s.honest)
+
+  -- who is live by the step is live by the journal
+  pub found_live : (n : ActId) (o : Option Activation) → activation_of n old.register.live ≡ o → activation_of n (live journal) ≡ o
+  found_live n o is = ap (activation_of n) (sym s.live) ∙ is
+
+  pub taken_is : taken journal ≡ length journal + length old.register.live
+  taken_is = ap (λ xs. length journal + length xs) (sym s.live)
+
+  owed_start : (w : ℕ) (a : OpId) (reply : Reply) (new : Present) → taken journal + 2 ≤ room → MovesStart (length d.operations) old w a reply new → OwedToStart (by_words d) d room journal a reply
+  owed_start w a (Started n) new fits m =
+      OwedToStart.started n fits m.declared
+      (none_forbids (paths_of d) (admitted_history journal) a
+      (subst (λ xs. legal.Legal xs (admitted_history journal ++ Began a ∷ [])) s.paths (m.admits (admitted_history journal) legal_now s.at)))
+      (m.number ∙ s.begun)
+  owed_start w a (Blocked p) new fits m =
+      OwedToStart.blocked p fits m.0.declared
+      (subst (λ xs. legal.First (legal.Forbids (admitted_history journal) a) xs p.0) s.paths (m.0.forbids (admitted_history journal) legal_now s.at))
+  owed_start w a UnknownOperation new fits m = OwedToStart.unknown fits m.0
+  owed_start w a reply new fits m = absurd m
+
+  -- the resource of what is live was declared
+  pub resource_in : (n : ActId) (a : Activation) → activation_of n old.register.live ≡ Some a → resource_of d a.op.0 < length d.resources
+  resource_in n a is = lawful.operations a.op.0 _ (found_declared (length d.operations) n old.register.live a s.declared is)
+
+  pub outcome_is : (n : ActId) (a : Activation) (verb : Verb) → activation_of n old.register.live ≡ Some a
+      → outcome_for d openings journal verb a ≡ outcome_of (law_of d (resource_of d a.op.0)) verb (held_at before (resource_of d a.op.0))
+  outcome_is n a verb is = ap (outcome_of (law_of d (resource_of d a.op.0)) verb) (s.held (resource_of d a.op.0) (resource_in n a is))
+
+  owed_served : (w : ℕ) (n : ActId) (verb : Verb) (a : Activation) (outcome : Outcome) (reply : Reply) (held left : List ℕ) → taken journal + 1 ≤ room
+      → IsOwn journal w n a → outcome_for d openings journal verb a ≡ outcome → Acts outcome reply held left
+      → OwedToUse d room openings journal w n verb reply
+  owed_served w n verb a (serves x rest) reply held left fits own is acts = elim acts [
+    | inl served ↦ rw served.0 (OwedToUse.served a x rest fits own is)
+    | inr failed ↦ rw failed.0 (OwedToUse.failed a x rest fits own is)
+  ]
+  owed_served w n verb a (refuses r) reply held left fits own is acts = rw acts.0 (OwedToUse.refused a r fits own is)
+
+  owed_use : (w : ℕ) (n : ActId) (verb : Verb) (o : Option Activation) (reply : Reply) (after : List (List ℕ)) → taken journal + 1 ≤ room
+      → activation_of n old.register.live ≡ o → MovesUse d w verb o before reply after → OwedToUse d room openings journal w n verb reply
+  owed_use w n verb None reply after fits is m = rw m.0 (OwedToUse.stale fits (found_live n None is))
+  owed_use w n verb (Some a) reply after fits is m = elim (cases_eq a.worker w) [
+    | inl own ↦ owed_served w n verb a _ reply _ (m.1 own).left fits (record { found = found_live n (Some a) is; own = own }) (outcome_is n a verb is) (m.1 own).acts
+    | inr other ↦ rw ((m.0 other).0) (OwedToUse.not_yours a fits (found_live n (Some a) is) other)
+  ]
+
+  owed_finish : (w : ℕ) (n : ActId) (o : Option Activation) (reply : Reply) (new : Present) → (is_own_of w o ≡ false → taken journal + 1 ≤ room)
+      → activation_of n old.register.live ≡ o → MovesFinish old w n o reply new → OwedToFinish d room journal w n reply
+  owed_finish w n None reply new fits is m = rw m.0 (OwedToFinish.stale (fits refl) (found_live n None is))
+  owed_finish w n (Some a) reply new fits is m = elim (cases_eq a.worker w) [
+    | inl own ↦ rw ((m.1 own).told) (OwedToFinish.finished a (record { found = found_live n (Some a) is; own = own }))
+    | inr other ↦ rw ((m.0 other).0) (OwedToFinish.not_yours a (fits (not_own w a other)) (found_live n (Some a) is) other)
+  ]
+
+  -- the reply where there is room
+  owed_inside : (w : ℕ) (attempt : Attempt) (reply : Reply) (new : Present) (after : List (List ℕ)) → has_room room (length journal) old.register.live w attempt ≡ true
+      → Moves d old before w attempt reply new after → Owed d room openings journal w attempt reply
+  owed_inside w (Start a) reply new after has m = let k = roomy (length journal + length old.register.live + 2) room has in owed_start w a reply new (omega (arith, k, taken_is)) m.0
+  owed_inside w (Apply n verb) reply new after has m = let k = roomy (length journal + length old.register.live + 1) room has in owed_use w n verb (activation_of n old.register.live) reply after (omega (arith, k, taken_is)) refl m.0
+  owed_inside w (Finish n) reply new after has m =
+      owed_finish w n (activation_of n old.register.live) reply new (λ other. let k = roomy_or (length journal + length old.register.live + 1) room (is_own_of w (activation_of n old.register.live)) has other in omega (arith, k, taken_is)) refl m.0
+
+  not_own_of : (w : ℕ) (n : ActId) → is_own_of w (activation_of n old.register.live) ≡ false → (a : Activation) → IsOwn journal w n a → ⊥
+  not_own_of w n is a own =
+      own_or_other w a (ap (is_own_of w) (sym own.found ∙ ap (activation_of n) (sym s.live)) ∙ is) own.own
+
+  -- and where there is none
+  owed_outside : (w : ℕ) (attempt : Attempt) → has_room room (length journal) old.register.live w attempt ≡ false → Owed d room openings journal w attempt NoRoom
+  owed_outside w (Start a) has = let k = not_roomy (length journal + length old.register.live + 2) room has in OwedToStart.no_room (omega (arith, k, taken_is))
+  owed_outside w (Apply n verb) has = let k = not_roomy (length journal + length old.register.live + 1) room has in OwedToUse.no_room (omega (arith, k, taken_is))
+  owed_outside w (Finish n) has = let k = not_roomy_or (length journal + length old.register.live + 1) room (is_own_of w (activation_of n old.register.live)) has in OwedToFinish.no_room (not_own_of w n k.1) (omega (arith, k, taken_is))
+
+  -- the reply to what can be taken
+  pub owed_taken : (w : ℕ) (attempt : Attempt) (reply : Reply) (new : Present) (after : List (List ℕ)) → can_take old room (length journal) w attempt ≡ true
+      → Answers d old before room (length journal) w attempt reply new after → Owed d room openings journal w attempt reply
+  owed_taken w attempt reply new after is answers = owed_inside w attempt reply new after (both_left _ _ is) (answers.inside is)
+
+  owed_case : (w : ℕ) (attempt : Attempt) (reply : Reply) (new : Present) (after : List (List ℕ)) (can : Bool) → can_take old room (length journal) w attempt ≡ can
+      → lacks_number old.register.begun attempt ≡ false → Answers d old before room (length journal) w attempt reply new after → Owed d room openings journal w attempt reply
+  owed_case w attempt reply new after true is numbered answers = owed_taken w attempt reply new after is answers
+  owed_case w attempt reply new after false is numbered answers = rw ((answers.outside is).0) (owed_outside w attempt (left_fails _ _ is numbered))
+
+  -- each reply is owed, if a start has a number left
+  pub owed_is : (w : ℕ) (attempt : Attempt) (reply : Reply) (new : Present) (after : List (List ℕ)) → lacks_number old.register.begun attempt ≡ false
+      → Answers d old before room (length journal) w attempt reply new after → Owed d room openings journal w attempt reply
+  owed_is w attempt reply new after numbered answers = owed_case w attempt reply new after _ refl numbered answers
