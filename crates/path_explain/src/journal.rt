@@ -320,7 +320,8 @@ fn put_judged<A: Allocator + Copy, O: Write, E: Write>(
 /// [`audit_bytes`](path_commands::audit_bytes) does, and writes whether it is sound: either how many lines it has, or the first wrong
 /// line with its number in the text, counted from 1, the reply that was owed to its attempt, and why that was so. Then stands, for each
 /// resource, what can start, what is blocked, what is live, and whether nothing of it can ever be admitted again, and at last who waits
-/// for whom, if all that is live waits; behind a wrong line as if it had got the owed reply. Where that reply is `no room`, one line says in which room the line would have had a place.
+/// for whom, if all that is live waits; behind a wrong line as if it had got the owed reply. Where that reply is `no room`, one line says
+/// in which room the line would have had a place.
 ///
 /// `Unsound`: a line is wrong. `DeclarationRefused`: the declaration is refused. `TextRefused`: the text isn't a journal, or is too long.
 /// `CommandRefused`: the text names no room, and `room` is out of range. In these last three cases, which count in this order, nothing

@@ -13,7 +13,9 @@ pub record IsReadFault (text : List ℕ) (fault : DeclFault) : Type 0 where
   pub too_long : (fault ≡ TooLong) ↔ (65536 < length text)
   pub bad_byte : (at : ℕ) → length text ≤ 65536 → IsFirstBad text at → (fault ≡ BadByte at) ⊎ (fault ≡ OutOfMemory)
   pub first_bad : (at : ℕ) → fault ≡ BadByte at → IsFirstBad text at
-  pub word_too_long : (at : ℕ) → length text ≤ 65536 → IsFirstLongWord text at → (fault ≡ WordTooLong at) ⊎ (fault ≡ OutOfMemory)
+  pub word_too_long :
+      (at : ℕ) → length text ≤ 65536 → IsFirstLongWord text at → (fault ≡ WordTooLong at) ⊎ (fault ≡ OutOfMemory)
   pub first_long_word : (at : ℕ) → fault ≡ WordTooLong at → IsFirstLongWord text at
-  pub number_too_long : (at : ℕ) → length text ≤ 65536 → IsFirstLongNumber text at → (fault ≡ NumberTooLong at) ⊎ (fault ≡ OutOfMemory)
+  pub number_too_long :
+      (at : ℕ) → length text ≤ 65536 → IsFirstLongNumber text at → (fault ≡ NumberTooLong at) ⊎ (fault ≡ OutOfMemory)
   pub first_long_number : (at : ℕ) → fault ≡ NumberTooLong at → IsFirstLongNumber text at

@@ -19,8 +19,8 @@ pub record IsVerdictOn (text : List ℕ) (room : ℕ) (journal : List ℕ) (verd
   pub audited : IsAuditOf declaration room journal verdict
   pub only : (other : Verdict) → IsAuditOf declaration room journal other → other ≡ verdict
 
--- the first text isn't a declaration, with this fault; or the second isn't a journal under it, with this fault; or it is one that names no room, and no
--- journal can have the room that is given
+-- the first text isn't a declaration, with this fault; or the second isn't a journal under it, with this fault; or it is one that names
+-- no room, and no journal can have the room that is given
 abbrev pub IsAuditRefusal : List ℕ → ℕ → List ℕ → AuditRefusal → Type 0
 IsAuditRefusal text room journal (refusals.Declaration fault) = IsReadFault text fault
 IsAuditRefusal text room journal (refusals.Journal fault) = Under text (λ d. IsJournalFault d journal fault)

@@ -9,8 +9,8 @@ use Rattle.path_gate.specs.Standings.{IsAt}
 use Rattle.path_step.specs.Steps.{Present, held_at}
 
 -- they are what an honest journal of this room leaves
-pub record IsPresentOf (present : Present) (contents : List (List ℕ)) (d : Declaration) (room : ℕ) (openings : List (List ℕ)) (journal : List Line)
-    : Type 0 where
+pub record IsPresentOf (present : Present) (contents : List (List ℕ)) (d : Declaration) (room : ℕ) (openings : List (List ℕ))
+    (journal : List Line) : Type 0 where
   pub honest : IsHonest d room openings journal
   pub paths : present.standing.paths ≡ paths_of d
   pub at : IsAt present.standing (admitted_history journal)

@@ -1,5 +1,6 @@
 -- What one attempt does to the gate and to what is live.
-use Rattle.std.specs.Prelude.{◌≡◌, ◌≢◌, ◌⊎◌, ◌+◌, ◌<◌, ◌≤◌, ℕ, List, [], ◌∷◌, ◌++◌, Option, Some, None, length, slice_index, slice_index_or, slice_set, Bool, true, false, ◌&&◌, not}
+use Rattle.std.specs.Prelude.{◌≡◌, ◌≢◌, ◌⊎◌, ◌+◌, ◌<◌, ◌≤◌, ◌&&◌, not, ℕ, Bool, true, false, List, [], ◌∷◌, ◌++◌}
+use Rattle.std.specs.Prelude.{Option, Some, None, length, slice_index, slice_index_or, slice_set}
 use Rattle.path_model.specs.declared.journal.Attempt.{Attempt}
 use Rattle.path_model.specs.declared.journal.Attempt.TheVariants.{Start, Apply, Finish}
 use Rattle.path_gate.specs.Places.{has_room, lacks_number}
@@ -14,7 +15,8 @@ use Rattle.path_model.specs.Declarations.{Declaration, resource_of, law_of}
 use Rattle.path_model.specs.Devices.{Outcome, serves, refuses, outcome_of}
 use Rattle.path_model.specs.declared.ids.ActId.{ActId}
 use Rattle.path_model.specs.declared.journal.Reply.{Reply}
-use Rattle.path_model.specs.declared.journal.Reply.TheVariants.{Started, Blocked, UnknownOperation, Used, DeviceFailed, Finished, Stale, NotYours, NoRoom}
+use Rattle.path_model.specs.declared.journal.Reply.TheVariants.{Started, Blocked, UnknownOperation, Used, DeviceFailed}
+use Rattle.path_model.specs.declared.journal.Reply.TheVariants.{Finished, Stale, NotYours, NoRoom}
 use Rattle.path_model.specs.declared.journal.Activation.{Activation}
 use Rattle.path_model.specs.Journals.{activation_of, without}
 use Rattle.path_gate.specs.Standings.{Standing, IsAt, IsNamed, Admitted, Released}
@@ -51,7 +53,8 @@ pub record IsOver (old : Present) (n : ActId) (a : Activation) (reply : Reply) (
 -- a finish of the activation numbered n, if it is live, takes the old present to the new one with this reply
 abbrev pub MovesFinish : Present → ℕ → ActId → Option Activation → Reply → Present → Type 0
 MovesFinish old w n None reply new = (reply ≡ Stale) × (new ≡ old)
-MovesFinish old w n (Some a) reply new = (a.worker ≢ w → (reply ≡ NotYours) × (new ≡ old)) × (a.worker ≡ w → IsOver old n a reply new)
+MovesFinish old w n (Some a) reply new =
+    (a.worker ≢ w → (reply ≡ NotYours) × (new ≡ old)) × (a.worker ≡ w → IsOver old n a reply new)
 
 -- the start of a is admitted and gets the number n
 pub record IsStarted (operations : ℕ) (old : Present) (w : ℕ) (a : OpId) (n : ActId) (new : Present) : Type 0 where
@@ -109,15 +112,17 @@ pub record AreReady (d : Declaration) (live : List Activation) (contents : List 
 -- one attempt for which there is room takes one present and contents to others with this reply
 abbrev pub Moves : Declaration → Present → List (List ℕ) → ℕ → Attempt → Reply → Present → List (List ℕ) → Type 0
 Moves d old before w (Start a) reply new after = MovesStart (length d.operations) old w a reply new × (after ≡ before)
-Moves d old before w (Apply n verb) reply new after = MovesUse d w verb (activation_of n old.register.live) before reply after × (new ≡ old)
-Moves d old before w (Finish n) reply new after = MovesFinish old w n (activation_of n old.register.live) reply new × (after ≡ before)
+Moves d old before w (Apply n verb) reply new after =
+    MovesUse d w verb (activation_of n old.register.live) before reply after × (new ≡ old)
+Moves d old before w (Finish n) reply new after =
+    MovesFinish old w n (activation_of n old.register.live) reply new × (after ≡ before)
 
 -- whether there is room for the attempt after this number of lines, and a number if it is a start
 abbrev pub can_take : Present → ℕ → ℕ → ℕ → Attempt → Bool
 can_take old room lines w attempt = has_room room lines old.register.live w attempt && not (lacks_number old.register.begun attempt)
 
 -- what can be taken moves, and for what can't nothing changes
-pub record Answers (d : Declaration) (old : Present) (before : List (List ℕ)) (room lines w : ℕ) (attempt : Attempt) (reply : Reply) (new : Present)
-    (after : List (List ℕ)) : Type 0 where
+pub record Answers (d : Declaration) (old : Present) (before : List (List ℕ)) (room lines w : ℕ) (attempt : Attempt) (reply : Reply)
+    (new : Present) (after : List (List ℕ)) : Type 0 where
   pub inside : can_take old room lines w attempt ≡ true → Moves d old before w attempt reply new after
   pub outside : can_take old room lines w attempt ≡ false → (reply ≡ NoRoom) × (new ≡ old) × (after ≡ before)

@@ -106,10 +106,11 @@ pub fn answer<L: Live, D: Devices, A: Allocator + Copy>(
     requires ready { AreReady decl.now.declaration (L.register live.old).live (D.contents devices.old) (D.has_law devices.old) }
     requires running { IsRunning gate.old (L.register live.old) }
     requires few { lines + length (L.register live.old).live ≤ room }
-    requires place { lines + length (L.register live.old).live + 2 ≤ room → (L.register live.old).begun < 4294967295 → L.has_place live.old }
+    requires place { lines + length (L.register live.old).live + 2 ≤ room → (L.register live.old).begun < 4294967295
+        → L.has_place live.old }
     requires admitted { gate.old.admitted ≡ (L.register live.old).begun }
-    ensures answers { Answers decl.now.declaration (present gate.old (L.register live.old)) (D.contents devices.old) room lines worker attempt result
-        (present gate.new (L.register live.new)) (D.contents devices.new) }
+    ensures answers { Answers decl.now.declaration (present gate.old (L.register live.old)) (D.contents devices.old) room lines worker
+        attempt result (present gate.new (L.register live.new)) (D.contents devices.new) }
 {
     let taken = lines as usize + live.count();
     let room = room as usize;
