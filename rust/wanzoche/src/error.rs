@@ -1,0 +1,124 @@
+//! What can be wrong.
+
+use std::fmt;
+
+use crate::sys::{self, code, Answer};
+
+/// Why a call wasn't served. Nothing was started then, and nothing has changed.
+#[derive(Clone, Debug, PartialEq, Eq)]
+#[non_exhaustive]
+pub enum Error {
+    /// A text isn't a declaration: its first fault, and where it stands, counted from 1. From [`Paths::open`](crate::Paths::open),
+    /// [`Options::open`](crate::Options::open) and [`audit`](crate::audit()).
+    Declaration {
+        /// What is wrong, in words, as `unexpected` or `undeclared`.
+        fault: &'static str,
+        /// The line of the fault. 1 if the text is too long.
+        line: usize,
+        /// The column of the fault, in bytes. 1 if the text is too long.
+        column: usize,
+    },
+    /// The room isn't 1 to [`MOST_LINES`](crate::MOST_LINES). From [`Options::open`](crate::Options::open).
+    BadRoom,
+    /// No operation has this name. From [`Paths::op`](crate::Paths::op).
+    UnknownOperation {
+        /// The name that was asked for.
+        name: String,
+    },
+    /// The operation was resolved by other paths. From each call that takes an [`Op`](crate::Op).
+    ForeignOperation,
+    /// A path forbids the operation: now, or still when the time is over. From [`try_enter`](crate::Paths::try_enter) and
+    /// [`enter_timeout`](crate::Paths::enter_timeout).
+    Blocked {
+        /// The first path that forbids it, counted from 0 in the order of the text. [`Paths::path`](crate::Paths::path) has its text.
+        path: u32,
+    },
+    /// So many operations are in progress that the journal has no line left, or 4,294,967,295 were started. From each call that enters,
+    /// and from those that use a device.
+    NoRoom,
+    /// There is no memory. From each call that returns a text, from the opening, and, if there is a log, from each call that needs a new
+    /// journal.
+    OutOfMemory,
+    /// The resource's device doesn't offer this: a cell has `put` and `look`, a tally `look` and `add`, a queue `put`, `take` and `look`.
+    NotOffered,
+    /// The queue is empty. From [`take`](crate::Guard::take) and [`look`](crate::Guard::look).
+    Empty,
+    /// The queue is full. From [`put`](crate::Guard::put).
+    Full,
+    /// The total would be above `u64::MAX`. From [`add`](crate::Guard::add).
+    Overflow,
+    /// A text isn't a journal. From [`audit`](crate::audit()).
+    Journal {
+        /// What is wrong, in words, as `bad line`.
+        fault: &'static str,
+        /// The line of the fault, counted from 1. 1 if the text is too long.
+        line: u64,
+    },
+    /// The C library gave an answer that this crate doesn't know of the call: it isn't the library that the crate is made for.
+    Library {
+        /// The answer in words.
+        answer: &'static str,
+    },
+}
+
+impl Error {
+    /// Why a text wasn't opened or audited.
+    pub(crate) fn of_text(answer: Answer, declaration: &str) -> Error {
+        let fault = sys::words(answer.code);
+        match answer.code {
+            code::BAD_ROOM => Error::BadRoom,
+            code::OUT_OF_MEMORY => Error::OutOfMemory,
+            code::JOURNAL_TOO_LONG => Error::Journal { fault, line: 1 },
+            code::BAD_LINE | code::UNDECLARED_LINE => Error::Journal { fault, line: answer.number.saturating_add(1) },
+            code::TOO_LONG => Error::Declaration { fault, line: 1, column: 1 },
+            code::BAD_BYTE..=code::TOO_MANY => {
+                let (line, column) = place(declaration, answer.number);
+                Error::Declaration { fault, line, column }
+            }
+            _ => Error::Library { answer: fault },
+        }
+    }
+
+    /// Why an operation wasn't started, or a device not used.
+    pub(crate) fn of_attempt(answer: Answer) -> Error {
+        match answer.code {
+            code::BLOCKED => Error::Blocked { path: u32::try_from(answer.number).unwrap_or(u32::MAX) },
+            code::NO_ROOM => Error::NoRoom,
+            code::NOT_OFFERED => Error::NotOffered,
+            code::EMPTY => Error::Empty,
+            code::FULL => Error::Full,
+            code::OVERFLOW => Error::Overflow,
+            other => Error::Library { answer: sys::words(other) },
+        }
+    }
+}
+
+/// The line and the column of a place in a text, both from 1.
+fn place(text: &str, at: u64) -> (usize, usize) {
+    let at = usize::try_from(at).unwrap_or(usize::MAX).min(text.len());
+    let before = &text.as_bytes()[..at];
+    let begin = before.iter().rposition(|byte| *byte == b'\n').map_or(0, |feed| feed + 1);
+    (1 + before.iter().filter(|byte| **byte == b'\n').count(), 1 + at - begin)
+}
+
+impl fmt::Display for Error {
+    fn fmt(&self, to: &mut fmt::Formatter<'_>) -> fmt::Result {
+        match self {
+            Error::Declaration { fault, line, column } => write!(to, "declaration: {fault} in line {line}, column {column}"),
+            Error::BadRoom => write!(to, "the room is 1 to {} lines", crate::MOST_LINES),
+            Error::UnknownOperation { name } => write!(to, "no operation `{name}` is declared"),
+            Error::ForeignOperation => to.write_str("the operation was resolved by other paths"),
+            Error::Blocked { path } => write!(to, "path {path} forbids the operation"),
+            Error::NoRoom => to.write_str("the journal has no room for what is in progress"),
+            Error::OutOfMemory => to.write_str("out of memory"),
+            Error::NotOffered => to.write_str("the device doesn't offer this"),
+            Error::Empty => to.write_str("the queue is empty"),
+            Error::Full => to.write_str("the queue is full"),
+            Error::Overflow => write!(to, "the total would be above {}", u64::MAX),
+            Error::Journal { fault, line } => write!(to, "journal: {fault} in line {line}"),
+            Error::Library { answer } => write!(to, "the C library answered `{answer}`, which isn't an answer to this call"),
+        }
+    }
+}
+
+impl std::error::Error for Error {}
