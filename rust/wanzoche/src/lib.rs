@@ -13,6 +13,7 @@ mod waiting;
 pub use audit::{audit, Verdict};
 pub use error::Error;
 pub use paths::{thread_number, Guard, Op, Options, Paths, MOST_LINES, USUAL_ROOM, USUAL_YIELDS};
+pub use waiting::Log;
 
 /// The version of the C library that the program runs with, as `0.1.0`.
 pub fn library_version() -> &'static str {

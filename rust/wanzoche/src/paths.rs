@@ -7,8 +7,9 @@ use std::time::{Duration, Instant};
 
 use crate::audit::{audit, Verdict};
 use crate::sys::{code, System, Text, Verb};
-use crate::waiting::{told_outside, Limit, Log, Monitor, Start};
+use crate::waiting::{told_outside, Limit, Monitor, Start};
 use crate::Error;
+use crate::Log;
 
 /// The most lines that a journal may have room for.
 pub const MOST_LINES: u32 = 1_048_576;
@@ -47,8 +48,9 @@ pub struct Op {
 ///
 /// ```
 /// use wanzoche::Options;
-/// let mut kept = Vec::new();
-/// let paths = Options::new().room(16).log(move |lines| kept.push(lines.to_string())).open("resource r cell operation a path a end end")?;
+/// let mut kept = String::new();
+/// let log = Box::new(move |lines: &str| kept.push_str(lines));
+/// let paths = Options::new().room(16).log(log).open("resource shelf cell operation take path take end end")?;
 /// # drop(paths); Ok::<(), wanzoche::Error>(())
 /// ```
 #[must_use = "`open` opens paths"]
@@ -83,8 +85,8 @@ impl Options {
     /// The log is called under the lock of the paths, by the thread that needs room. So all others wait for it, and it calls nothing of
     /// these paths: that would wait for itself. If it panics, the panic goes on in that thread, nothing is started there, and the lines stay
     /// for the next time.
-    pub fn log(mut self, log: impl FnMut(&str) + Send + 'static) -> Options {
-        self.log = Some(Box::new(log));
+    pub fn log(mut self, log: Log) -> Options {
+        self.log = Some(log);
         self
     }
 
@@ -142,7 +144,7 @@ impl Paths {
         let number = self.monitor.lock().system.operation(name);
         match number {
             Some(number) => Ok(Op { number, of: self.id }),
-            None => Err(unknown(name)),
+            None => Err(Error::UnknownOperation { name: own(name)? }),
         }
     }
 
@@ -183,13 +185,21 @@ impl Paths {
         self.begin(op, limit)
     }
 
+    /// The number of an operation of these paths.
+    #[inline]
+    fn number(&self, op: Op) -> Result<u32, Error> {
+        if op.of == self.id {
+            Ok(op.number)
+        } else {
+            Err(Error::ForeignOperation)
+        }
+    }
+
     #[inline]
     fn begin(&self, op: Op, limit: Limit) -> Result<Guard<'_>, Error> {
-        if op.of != self.id {
-            return Err(Error::ForeignOperation);
-        }
+        let operation = self.number(op)?;
         let worker = thread_number();
-        let activation = self.monitor.enter(Start { worker, operation: op.number, limit })?;
+        let activation = self.monitor.enter(Start { worker, operation, limit })?;
         Ok(Guard { paths: self, activation, worker })
     }
 
@@ -199,15 +209,25 @@ impl Paths {
     ///
     /// [`Error::ForeignOperation`].
     pub fn blocked_by(&self, op: Op) -> Result<Option<u32>, Error> {
-        if op.of != self.id {
-            return Err(Error::ForeignOperation);
+        let operation = self.number(op)?;
+        let answer = self.monitor.lock().system.can_start(operation);
+        if answer.code == code::CAN_START {
+            return Ok(None);
         }
-        let answer = self.monitor.lock().system.can_start(op.number);
-        match (answer.code, Error::of_attempt(answer)) {
-            (code::CAN_START, _) => Ok(None),
-            (_, Error::Blocked { path }) => Ok(Some(path)),
-            (_, error) => Err(error),
+        match Error::of_attempt(answer) {
+            Error::Blocked { path } => Ok(Some(path)),
+            error => Err(error),
         }
+    }
+
+    /// How many threads wait for an operation, of those that sleep: one that still gives way isn't counted.
+    ///
+    /// # Errors
+    ///
+    /// [`Error::ForeignOperation`].
+    pub fn waiting(&self, op: Op) -> Result<u32, Error> {
+        let operation = self.number(op)?;
+        Ok(self.monitor.lock().waiting(operation))
     }
 
     /// The text of a path, as `deposit ; remove`; `None` if there is no path with this number. They count from 0 in the order of the text.
@@ -218,7 +238,8 @@ impl Paths {
     /// [`Error::OutOfMemory`].
     pub fn path(&self, number: u32) -> Result<Option<String>, Error> {
         let text = self.text(Text::Declaration)?;
-        Ok(usize::try_from(number).ok().and_then(|number| nth_path(&text, number)).map(str::to_string))
+        let path = usize::try_from(number).ok().and_then(|number| nth_path(&text, number));
+        path.map(own).transpose()
     }
 
     /// What can be started now, which path blocks what, and what is in progress: a line `startable` with operations, a line
@@ -284,16 +305,12 @@ fn nth_path(declaration: &str, number: usize) -> Option<&str> {
     Some(&behind[..end])
 }
 
-/// That no operation has this name.
-fn unknown(name: &str) -> Error {
-    let mut own = String::new();
-    match own.try_reserve_exact(name.len()) {
-        Ok(()) => {
-            own.push_str(name);
-            Error::UnknownOperation { name: own }
-        }
-        Err(_) => Error::OutOfMemory,
-    }
+/// A copy of a text, or [`Error::OutOfMemory`].
+fn own(text: &str) -> Result<String, Error> {
+    let mut copy = String::new();
+    copy.try_reserve_exact(text.len()).map_err(|_| Error::OutOfMemory)?;
+    copy.push_str(text);
+    Ok(copy)
 }
 
 /// An operation in progress. It is finished when the guard is dropped, also by a panic.

@@ -13,8 +13,8 @@ use std::time::Instant;
 use crate::sys::{code, Answer, System, Text};
 use crate::Error;
 
-/// What gets the lines of a journal that is full.
-pub(crate) type Log = Box<dyn FnMut(&str) + Send>;
+/// What gets the lines of a journal that is full: see [`Options::log`](crate::Options::log).
+pub type Log = Box<dyn FnMut(&str) + Send>;
 
 /// Until when a thread waits.
 #[derive(Clone, Copy)]
@@ -89,6 +89,11 @@ impl State {
         Ok(())
     }
 
+    /// How many threads wait for the operation.
+    pub(crate) fn waiting(&self, operation: u32) -> u32 {
+        self.queues[operation as usize]
+    }
+
     /// Whether a thread waits for the operation, and it may start.
     fn has_next(&mut self, operation: u32) -> bool {
         self.queues[operation as usize] > 0 && self.system.can_start(operation).code == code::CAN_START
@@ -123,6 +128,7 @@ pub(crate) struct Start {
 }
 
 impl Start {
+    #[inline]
     fn attempt(self, system: &mut System) -> Answer {
         system.start(self.worker, self.operation)
     }

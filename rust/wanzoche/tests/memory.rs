@@ -1,0 +1,128 @@
+//! What asks for memory, and what happens when there is none. The allocator of this program counts what a thread asks for, and refuses it
+//! when it is told to. It stands for Rust's memory; the C library's own is tested by c/tests/failing.c.
+
+use std::alloc::{GlobalAlloc, Layout, System};
+use std::cell::Cell;
+use std::ptr;
+
+use wanzoche::{Error, Options, Paths};
+
+/// Counts the requests of each thread, and refuses one of them.
+struct Counting;
+
+thread_local! {
+    static ASKED: Cell<u64> = const { Cell::new(0) };
+    static REFUSED: Cell<u64> = const { Cell::new(u64::MAX) };
+}
+
+/// Whether the request that comes now is to be refused.
+fn is_refused() -> bool {
+    let asked = ASKED.with(|asked| asked.replace(asked.get() + 1));
+    asked == REFUSED.with(Cell::get)
+}
+
+// SAFETY: each call is that of the system's allocator, or answers that there is no memory.
+unsafe impl GlobalAlloc for Counting {
+    unsafe fn alloc(&self, layout: Layout) -> *mut u8 {
+        // SAFETY: the caller keeps what this asks for.
+        if is_refused() {
+            ptr::null_mut()
+        } else {
+            unsafe { System.alloc(layout) }
+        }
+    }
+
+    unsafe fn dealloc(&self, at: *mut u8, layout: Layout) {
+        // SAFETY: the caller keeps what this asks for.
+        unsafe { System.dealloc(at, layout) }
+    }
+
+    unsafe fn realloc(&self, at: *mut u8, layout: Layout, size: usize) -> *mut u8 {
+        // SAFETY: the caller keeps what this asks for.
+        if is_refused() {
+            ptr::null_mut()
+        } else {
+            unsafe { System.realloc(at, layout, size) }
+        }
+    }
+}
+
+#[global_allocator]
+static COUNTING: Counting = Counting;
+
+const BOOK: &str = "resource book queue 4 operation read, write path { read } , write end end";
+
+/// How often this asks for memory.
+fn asked(work: impl FnOnce()) -> u64 {
+    let before = ASKED.with(Cell::get);
+    work();
+    ASKED.with(Cell::get) - before
+}
+
+/// Refuses each request of a call in turn: it answers that there is no memory, and at last what it answers with memory. How many there were.
+fn refuse_each<T>(call: impl Fn() -> Result<T, Error>) -> u64 {
+    let mut requests = 0;
+    loop {
+        REFUSED.with(|refused| refused.set(ASKED.with(Cell::get) + requests));
+        let answer = call();
+        REFUSED.with(|refused| refused.set(u64::MAX));
+        match answer {
+            Err(Error::OutOfMemory) => requests += 1,
+            _ => return requests,
+        }
+    }
+}
+
+#[test]
+fn turns_ask_for_no_memory() {
+    let paths = Options::new().room(64).open(BOOK).unwrap();
+    let (read, write) = (paths.op("read").unwrap(), paths.op("write").unwrap());
+    drop(paths.enter(read).unwrap());
+    let turns = || {
+        for _ in 0..1000 {
+            let guard = paths.enter(write).unwrap();
+            assert!(paths.try_enter(read).is_err());
+            assert!(paths.enter_timeout(read, std::time::Duration::from_micros(1)).is_err());
+            guard.put(1).unwrap();
+            guard.look().unwrap();
+            guard.take().unwrap();
+            assert_eq!(paths.blocked_by(read), Ok(Some(0)));
+            assert_eq!(paths.waiting(read), Ok(0));
+            paths.rotate().unwrap();
+        }
+    };
+    assert_eq!(asked(turns), 0);
+    assert!(asked(|| drop(paths.journal().unwrap())) > 0);
+}
+
+#[test]
+fn want_of_memory_is_an_error() {
+    let paths = Options::new().room(64).log(Box::new(|_| ())).open(BOOK).unwrap();
+    let write = paths.op("write").unwrap();
+    drop(paths.enter(write).unwrap());
+    assert!(refuse_each(|| Paths::open(BOOK)) >= 2);
+    assert_eq!(refuse_each(|| paths.op("rite")), 1);
+    assert_eq!(refuse_each(|| paths.op("write")), 0);
+    assert_eq!(refuse_each(|| paths.report()), 1);
+    assert_eq!(refuse_each(|| paths.journal()), 1);
+    assert_eq!(refuse_each(|| paths.path(0)), 2);
+    assert_eq!(refuse_each(|| paths.audit("")), 1);
+    assert_eq!(refuse_each(|| wanzoche::audit(BOOK, "")), 0);
+    assert_eq!(refuse_each(|| paths.rotate()), 1);
+}
+
+/// With a log, a start in a full journal may lack the memory for its text. It starts nothing then, and may be tried again.
+#[test]
+fn a_start_that_lacks_memory_for_the_log_starts_nothing() {
+    let paths = Options::new().room(4).log(Box::new(|_| ())).open(BOOK).unwrap();
+    let write = paths.op("write").unwrap();
+    let fills = || (0..2).for_each(|_| drop(paths.enter(write).unwrap()));
+    fills();
+    let lines = paths.journal().unwrap();
+    REFUSED.with(|refused| refused.set(ASKED.with(Cell::get)));
+    assert_eq!(paths.enter(write).map(drop), Err(Error::OutOfMemory));
+    REFUSED.with(|refused| refused.set(u64::MAX));
+    assert_eq!(paths.journal().unwrap(), lines);
+    fills();
+    assert_ne!(paths.journal().unwrap(), lines);
+}
