@@ -3,6 +3,7 @@
 #   make              the program, the C library (static and shared) and wanzoche.pc, in out/
 #   make example      the same, and then runs a stored example
 #   make test         the examples and the tests of the program, the C library, the Python package and the web page
+#   make test_rust    the tests of the Rust crate, which want cargo
 #   make install      to PREFIX (/usr/local), below DESTDIR if that is set; make uninstall takes the same files away
 #   make wheel        the Python package with its library, for pip
 #   make deb          a package for Debian and its like
@@ -120,6 +121,9 @@ example: $(program)
 	@cat $(work)/example
 	@cmp $(work)/example crates/pathsys/stdout
 
+test_rust:
+	rust/tests/run
+
 test: all test_program test_library test_package test_page
 	@echo "make test: all passed"
 
@@ -180,5 +184,5 @@ release:
 clean:
 	rm -rf $(OUT)
 
-.PHONY: all library example test test_program test_library test_package test_page prove install uninstall wheel deb release clean
+.PHONY: all library example test test_program test_library test_package test_page test_rust prove install uninstall wheel deb release clean
 .DELETE_ON_ERROR:

@@ -14,7 +14,11 @@ fn main() {
     let (object, archive) = (Path::new(&out).join("monitor.o"), Path::new(&out).join("libmonitor.a"));
     println!("cargo:rerun-if-changed=monitor.c");
     let cc = env::var("CC").unwrap_or_else(|_| "cc".to_string());
-    runs(Command::new(cc).args(["-std=c11", "-D_GNU_SOURCE", "-O2", "-Wall", "-Wextra", "-c", "monitor.c", "-I", &include, "-o"]).arg(&object));
+    runs(
+        Command::new(cc)
+            .args(["-std=c11", "-D_GNU_SOURCE", "-O2", "-Wall", "-Wextra", "-c", "monitor.c", "-I", &include, "-o"])
+            .arg(&object),
+    );
     runs(Command::new("ar").arg("rcs").arg(archive).arg(object));
     println!("cargo:rustc-link-search=native={out}");
     println!("cargo:rustc-link-lib=static=monitor");

@@ -1,6 +1,8 @@
 //! What asks for memory, and what happens when there is none. The allocator of this program counts what a thread asks for, and refuses it
 //! when it is told to. It stands for Rust's memory; the C library's own is tested by c/tests/failing.c.
 
+#![deny(unsafe_op_in_unsafe_fn)]
+
 use std::alloc::{GlobalAlloc, Layout, System};
 use std::cell::Cell;
 use std::ptr;
