@@ -1,6 +1,6 @@
 //! What a turn costs in Rust: to enter an operation that nobody else wants, and to leave it. Compares, in turn and by processor time, a
-//! `Mutex` with a flag and a `Condvar`, the same with a count of who waits, the C monitor, and the crate; and then eight threads at a buffer
-//! of eight places.
+//! `Mutex` with a flag and a `Condvar`, the same with a count of who waits, the C monitor, and the crate; and then eight threads at a
+//! buffer of eight places.
 //!
 //!     cargo run --release --manifest-path bench/turn/Cargo.toml -- [ROUNDS]
 

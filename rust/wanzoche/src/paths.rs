@@ -73,8 +73,8 @@ impl Options {
         self
     }
 
-    /// How often a thread that may not start gives way to others before it sleeps. Most operations are over sooner than a thread falls asleep
-    /// and is woken. 0 is right for operations that take long.
+    /// How often a thread that may not start gives way to others before it sleeps. Most operations are over sooner than a thread falls
+    /// asleep and is woken. 0 is right for operations that take long.
     pub fn yields(mut self, yields: u32) -> Options {
         self.yields = yields;
         self
@@ -83,8 +83,8 @@ impl Options {
     /// What gets the lines of the journal when it is full, before a new one is begun. Without a log they are dropped.
     ///
     /// The log is called under the lock of the paths, by the thread that needs room. So all others wait for it, and it calls nothing of
-    /// these paths: that would wait for itself. If it panics, the panic goes on in that thread, nothing is started there, and the lines stay
-    /// for the next time.
+    /// these paths: that would wait for itself. If it panics, the panic goes on in that thread, nothing is started there, and the lines
+    /// stay for the next time.
     pub fn log(mut self, log: Log) -> Options {
         self.log = Some(log);
         self
@@ -315,9 +315,9 @@ fn own(text: &str) -> Result<String, Error> {
 
 /// An operation in progress. It is finished when the guard is dropped, also by a panic.
 ///
-/// Any thread may use and drop it: a guard is `Send` and `Sync`, since the library doesn't ask which thread finishes, and whoever takes over
-/// a piece of work takes over its guard. The report and the journal go on naming the thread that began it. A guard that is forgotten
-/// (`std::mem::forget`) leaves its operation in progress for ever.
+/// Any thread may use and drop it: a guard is `Send` and `Sync`, since the library doesn't ask which thread finishes, and whoever takes
+/// over a piece of work takes over its guard. The report and the journal go on naming the thread that began it. A guard that is
+/// forgotten (`std::mem::forget`) leaves its operation in progress for ever.
 #[must_use = "the operation is over when the guard is dropped"]
 pub struct Guard<'a> {
     paths: &'a Paths,

@@ -79,6 +79,27 @@ fn operations_belong_to_their_paths() {
     assert_ne!(own.op("deposit").unwrap(), foreign);
 }
 
+/// Each thread has a number of its own, by which the journals of all paths name it.
+#[test]
+fn threads_have_numbers() {
+    let (one, other) = (Paths::open(BOOK).unwrap(), Paths::open(BOOK).unwrap());
+    let number_in = |paths: &Paths| {
+        drop(paths.enter(paths.op("read").unwrap()).unwrap());
+        thread_number()
+    };
+    let mut numbers: Vec<u32> = std::thread::scope(|scope| {
+        let threads: Vec<_> = (0..20).map(|_| scope.spawn(|| (number_in(&one), number_in(&other)))).collect();
+        threads.into_iter().map(|thread| thread.join().unwrap()).map(|(one, other)| if one == other { one } else { 0 }).collect()
+    });
+    for number in &numbers {
+        let line = format!("{number} start read: started ");
+        assert!(*number > 0 && one.journal().unwrap().contains(&line) && other.journal().unwrap().contains(&line));
+    }
+    numbers.sort_unstable();
+    numbers.dedup();
+    assert_eq!(numbers.len(), 20);
+}
+
 #[test]
 fn a_path_forbids_until_the_guard_is_dropped() {
     let paths = Paths::open(SLOT).unwrap();

@@ -61,7 +61,8 @@ fn asked(work: impl FnOnce()) -> u64 {
     ASKED.with(Cell::get) - before
 }
 
-/// Refuses each request of a call in turn: it answers that there is no memory, and at last what it answers with memory. How many there were.
+/// Refuses each request of a call in turn: it answers that there is no memory, and at last what it answers with memory. Returns how many
+/// requests there were.
 fn refuse_each<T>(call: impl Fn() -> Result<T, Error>) -> u64 {
     let mut requests = 0;
     loop {
