@@ -1,12 +1,13 @@
 //! What a turn costs in Rust: to enter an operation that nobody else wants, and to leave it. Compares, in turn and by processor time, a
 //! `Mutex` with a flag and a `Condvar`, the same with a count of who waits, the C monitor, and the crate; and then eight threads at a
-//! buffer of eight places.
+//! buffer of eight places, also by the clock.
 //!
 //!     cargo run --release --manifest-path bench/turn/Cargo.toml -- [ROUNDS]
 
 use std::os::raw::c_char;
 use std::sync::{Condvar, Mutex};
 use std::thread;
+use std::time::Instant;
 
 use wanzoche::{Op, Options, Paths};
 
@@ -123,13 +124,15 @@ impl Buffer {
     }
 }
 
-/// The processor time in nanoseconds of each of so many turns.
-fn timed(turns: u32, work: impl FnOnce()) -> f64 {
+/// The processor time in nanoseconds of each of so many turns, and the time by the clock.
+fn timed(turns: u32, work: impl FnOnce()) -> [f64; 2] {
+    let clock = Instant::now();
     // SAFETY: the call takes nothing, and only reads a clock.
     let began = unsafe { turn_time() };
     work();
     // SAFETY: as above.
-    (unsafe { turn_time() } - began) / f64::from(turns)
+    let used = unsafe { turn_time() } - began;
+    [used / f64::from(turns), clock.elapsed().as_secs_f64() * 1e9 / f64::from(turns)]
 }
 
 /// Turns of the C monitor.
@@ -170,25 +173,33 @@ fn median(times: &[f64]) -> f64 {
     times[times.len() / 2]
 }
 
-/// Runs these in turn, and tells the least and the median of each, and their ratios to the last one's.
-fn compare(rounds: usize, turns: u32, works: &[(&str, &dyn Fn())]) {
-    let mut times = vec![Vec::new(); works.len()];
+fn least(times: &[f64]) -> f64 {
+    times.iter().copied().fold(f64::INFINITY, f64::min)
+}
+
+/// The least and the median of some times, and what the last one's are of them: by the least, and in turn by the median.
+fn tell(times: &[f64], last: &[f64]) -> String {
+    let each: Vec<f64> = last.iter().zip(times).map(|(last, other)| last / other).collect();
+    let ratios = format!("{:.2}, {:.2}", least(last) / least(times), median(&each));
+    format!("{:.1} ns, {:.1} by the median; the crate {ratios} of it", least(times), median(times))
+}
+
+/// Runs these in turn, and tells the times of each, and what those of the last one are of them.
+fn compare(rounds: usize, turns: u32, shows_clock: bool, works: &[(&str, &dyn Fn())]) {
+    let mut times = vec![[Vec::new(), Vec::new()]; works.len()];
     for _ in 0..rounds {
         for ((_, work), times) in works.iter().zip(&mut times) {
-            times.push(timed(turns, work));
+            let [used, clock] = timed(turns, work);
+            times[0].push(used);
+            times[1].push(clock);
         }
     }
-    let least = |times: &[f64]| times.iter().copied().fold(f64::INFINITY, f64::min);
-    let own = times.last().cloned().unwrap_or_default();
+    let last = times[times.len() - 1].clone();
     for ((name, _), times) in works.iter().zip(&times) {
-        let each: Vec<f64> = own.iter().zip(times).map(|(own, other)| own / other).collect();
-        println!(
-            "  {name}: {:.1} ns at least, {:.1} by the median; the crate takes {:.2} of it at least, {:.2} in turn by the median",
-            least(times),
-            median(times),
-            least(&own) / least(times),
-            median(&each)
-        );
+        println!("  {name}: {}", tell(&times[0], &last[0]));
+        if shows_clock {
+            println!("    by the clock: {}", tell(&times[1], &last[1]));
+        }
     }
 }
 
@@ -202,6 +213,7 @@ fn alone(rounds: usize) {
     compare(
         rounds,
         TURNS,
+        false,
         &[
             ("by hand", &|| (0..TURNS).for_each(|_| (by_hand.enter(), by_hand.leave()).0)),
             ("by hand, with a count of who waits", &|| (0..TURNS).for_each(|_| (counted.enter(), counted.leave()).0)),
@@ -216,15 +228,19 @@ fn buffer(rounds: usize) {
     let by_hand = Buffer { places: Mutex::new(Places::default()), may_put: Condvar::new(), may_get: Condvar::new() };
     let paths = Options::new().room(ROOM).open(BUFFER).unwrap();
     let (put, get) = (paths.op("put").unwrap(), paths.op("get").unwrap());
+    let sleepy = Options::new().room(ROOM).yields(0).open(BUFFER).unwrap();
+    let (sleepy_put, sleepy_get) = (sleepy.op("put").unwrap(), sleepy.op("get").unwrap());
     open_c(BUFFER);
     println!("an operation of a buffer of eight places, {THREADS} threads:");
     let each = || 0..EACH;
     compare(
         rounds,
         THREADS * EACH,
+        true,
         &[
             ("by hand", &|| in_threads(|_| each().for_each(|_| by_hand.put()), |_| each().for_each(|_| by_hand.get()))),
             ("the C monitor", &|| in_threads(|worker| c_turns(worker, 0, EACH), |worker| c_turns(worker, 1, EACH))),
+            ("the crate, which sleeps at once", &|| in_threads(|_| turns(&sleepy, sleepy_put, EACH), |_| turns(&sleepy, sleepy_get, EACH))),
             ("the crate", &|| in_threads(|_| turns(&paths, put, EACH), |_| turns(&paths, get, EACH))),
         ],
     );

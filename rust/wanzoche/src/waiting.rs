@@ -6,7 +6,7 @@
 
 use std::any::Any;
 use std::panic::{catch_unwind, AssertUnwindSafe};
-use std::sync::{Condvar, Mutex, MutexGuard, PoisonError};
+use std::sync::{Condvar, Mutex, MutexGuard, PoisonError, TryLockError};
 use std::thread;
 use std::time::Instant;
 
@@ -76,6 +76,12 @@ impl State {
         }
         self.give_lines()?;
         Ok(attempt(&mut self.system))
+    }
+
+    /// Starts an operation if no path forbids it; none if one does, which takes no line of the journal.
+    fn start_if_free(&mut self, start: Start) -> Option<Told> {
+        let is_free = self.system.can_start(start.operation).code == code::CAN_START;
+        is_free.then(|| self.attempt(|system| start.attempt(system)))
     }
 
     /// Hands the lines to the log, and begins a new journal. If the log panics, the lines stay.
@@ -155,6 +161,15 @@ impl Monitor {
         self.state.lock().unwrap_or_else(PoisonError::into_inner)
     }
 
+    /// Takes the lock if nobody has it.
+    fn try_lock(&self) -> Option<MutexGuard<'_, State>> {
+        match self.state.try_lock() {
+            Ok(state) => Some(state),
+            Err(TryLockError::Poisoned(poisoned)) => Some(poisoned.into_inner()),
+            Err(TryLockError::WouldBlock) => None,
+        }
+    }
+
     /// Starts an operation when it is admitted: the activation.
     #[inline]
     pub(crate) fn enter(&self, start: Start) -> Result<u64, Error> {
@@ -192,20 +207,23 @@ impl Monitor {
         }
     }
 
-    /// Gives way to others while there is time, and starts if no path forbids it then.
-    fn give_way<'a>(&'a self, mut state: MutexGuard<'a, State>, start: Start, told: Told) -> (MutexGuard<'a, State>, Told) {
+    /// Gives way to others while there is time, and starts if no path forbids it then; else the lock is held without a break since the last
+    /// look. A thread that finds the lock taken doesn't wait for it: that would be a sleep, and whoever has it may be about to leave.
+    fn give_way<'a>(&'a self, state: MutexGuard<'a, State>, start: Start, told: Told) -> (MutexGuard<'a, State>, Told) {
+        drop(state);
         for _ in 0..self.yields {
             if start.limit.is_over() {
                 break;
             }
-            drop(state);
             thread::yield_now();
-            state = self.lock();
-            if state.system.can_start(start.operation).code == code::CAN_START {
-                let told = state.attempt(|system| start.attempt(system));
-                return (state, told);
+            if let Some(mut state) = self.try_lock() {
+                if let Some(told) = state.start_if_free(start) {
+                    return (state, told);
+                }
             }
         }
+        let mut state = self.lock();
+        let told = state.start_if_free(start).unwrap_or(told);
         (state, told)
     }
 

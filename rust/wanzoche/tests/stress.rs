@@ -185,21 +185,23 @@ fn a_buffer_loses_nothing() {
     }
 }
 
-/// Two threads that can only take turns: a signal that is lost would leave both asleep.
+/// Threads that can only take turns: if a signal were lost between two of them, both would sleep for ever.
 #[test]
 fn no_signal_is_lost() {
-    let paths = Options::new().yields(0).open("resource slot cell operation a, b path a ; b end end").unwrap();
-    let ops = [paths.op("a").unwrap(), paths.op("b").unwrap()];
-    thread::scope(|scope| {
-        for op in ops.into_iter().cycle().take(6) {
-            let paths = &paths;
-            scope.spawn(move || {
-                for n in 0..3000 * times() {
-                    let guard = if n % 3 == 0 { paths.enter_timeout(op, Duration::from_secs(600)) } else { paths.enter(op) };
-                    drop(guard.unwrap());
-                }
-            });
-        }
-    });
-    assert_eq!(paths.report().unwrap(), "startable a\nblocked b 0\nfrozen no\n");
+    for (threads, yields) in [(2, 0), (2, 1), (2, 3), (6, 0), (6, 1)] {
+        let paths = Options::new().yields(yields).open("resource slot cell operation a, b path a ; b end end").unwrap();
+        let ops = [paths.op("a").unwrap(), paths.op("b").unwrap()];
+        thread::scope(|scope| {
+            for op in ops.into_iter().cycle().take(threads) {
+                let paths = &paths;
+                scope.spawn(move || {
+                    for n in 0..2000 * times() {
+                        let guard = if n % 3 == 0 { paths.enter_timeout(op, Duration::from_secs(600)) } else { paths.enter(op) };
+                        drop(guard.unwrap());
+                    }
+                });
+            }
+        });
+        assert_eq!(paths.report().unwrap(), "startable a\nblocked b 0\nfrozen no\n");
+    }
 }
