@@ -1,7 +1,7 @@
 //! Builds the C library from the sources of the repository, or finds an installed one by its `wanzoche.pc`.
 //!
-//! The sources lie two folders up, and in a package in the folder `library`. They are taken unless `WANZOCHE_INSTALLED` is set. What is
-//! built is what the repository's Makefile builds: one object, of which only the names of wanzoche.h stay.
+//! The sources lie two folders up. They are taken unless `WANZOCHE_INSTALLED` is set. What is built is what the repository's Makefile
+//! builds: one object, of which only the names of wanzoche.h stay.
 
 use std::env;
 use std::path::{Path, PathBuf};
@@ -64,9 +64,8 @@ fn said(command: &mut Command) -> String {
 
 /// The folder with the library's sources, if there is one.
 fn sources() -> Option<PathBuf> {
-    let own = PathBuf::from(of_cargo("CARGO_MANIFEST_DIR"));
-    let places = [own.join("library"), own.join("../..")];
-    places.into_iter().find(|place| place.join("c/wanzoche.c").exists() && place.join("dist/system.c").exists())
+    let place = Path::new(&of_cargo("CARGO_MANIFEST_DIR")).join("../..");
+    (place.join("c/wanzoche.c").exists() && place.join("dist/system.c").exists()).then(|| place)
 }
 
 /// Builds `libwanzoche.a` in this folder.

@@ -230,7 +230,7 @@ impl Paths {
         Ok(self.monitor.lock().waiting(operation))
     }
 
-    /// The text of a path, as `deposit ; remove`; `None` if there is no path with this number. They count from 0 in the order of the text.
+    /// The text of a path, as `deposit; remove`; `None` if there is no path with this number. They count from 0 in the order of the text.
     /// The cost is that of the whole declaration's text.
     ///
     /// # Errors

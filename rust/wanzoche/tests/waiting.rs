@@ -1,5 +1,6 @@
 //! Threads that wait: who is let in when, and what becomes of their turns when a body panics, a thread dies or a time is over.
 
+use std::cell::RefCell;
 use std::panic::{catch_unwind, AssertUnwindSafe};
 use std::sync::atomic::{AtomicBool, AtomicU32, Ordering::SeqCst};
 use std::sync::{mpsc, Arc, Barrier};
@@ -161,6 +162,30 @@ fn a_guard_outlives_its_thread() {
         assert_eq!(waits.join().unwrap(), Ok(7));
     });
     assert!(is_idle(&paths));
+}
+
+/// What a thread drops as it ends may enter, too, and may hold a guard to the last.
+#[test]
+fn a_thread_may_enter_as_it_ends() {
+    struct Enters(RefCell<Option<(&'static Paths, Op)>>);
+    impl Drop for Enters {
+        fn drop(&mut self) {
+            let (paths, op) = self.0.borrow_mut().take().unwrap();
+            assert_eq!(paths.enter(op).unwrap().put(7), Ok(0));
+        }
+    }
+    thread_local! {
+        static LAST: Enters = const { Enters(RefCell::new(None)) };
+        static HELD: RefCell<Option<Guard<'static>>> = const { RefCell::new(None) };
+    }
+    let (paths, deposit, remove) = open(SLOT, 0, ["deposit", "remove"]);
+    let paths: &'static Paths = Box::leak(Box::new(paths));
+    let ends = move || LAST.with(|last| *last.0.borrow_mut() = Some((paths, deposit)));
+    thread::spawn(ends).join().unwrap();
+    let holds = move || HELD.with(|held| *held.borrow_mut() = Some(paths.enter(remove).unwrap()));
+    thread::spawn(holds).join().unwrap();
+    assert_eq!(paths.enter_timeout(deposit, Duration::from_secs(60)).unwrap().look(), Ok(7));
+    assert_eq!(paths.report().unwrap().matches("live").count(), 0);
 }
 
 /// A thread that forgets its guard and dies holds up others, but no longer than their limits, and not those beside it.
