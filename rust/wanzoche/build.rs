@@ -65,7 +65,7 @@ fn said(command: &mut Command) -> String {
 /// The folder with the library's sources, if there is one.
 fn sources() -> Option<PathBuf> {
     let place = Path::new(&of_cargo("CARGO_MANIFEST_DIR")).join("../..");
-    (place.join("c/wanzoche.c").exists() && place.join("dist/system.c").exists()).then(|| place)
+    (place.join("c/wanzoche.c").exists() && place.join("dist/system.c").exists()).then_some(place)
 }
 
 /// Builds `libwanzoche.a` in this folder.
@@ -102,6 +102,12 @@ fn find() {
     let program = variable("PKG_CONFIG").unwrap_or_else(|| "pkg-config".to_string());
     let asks = |words: &[&str]| said(Command::new(&program).args(words).arg("wanzoche"));
     variable("PKG_CONFIG_PATH");
+    let wanted = format!("wanzoche >= {}", of_cargo("CARGO_PKG_VERSION"));
+    let found = Command::new(&program).args(["--print-errors", "--errors-to-stdout", "--exists", &wanted]).output();
+    if !found.as_ref().map_or(false, |found| found.status.success()) {
+        let why = found.map_or_else(|error| error.to_string(), |found| String::from_utf8_lossy(&found.stdout).into_owned());
+        fail(&format!("{program} doesn't find `{wanted}`:\n{why}\nIn a copy of the whole repository the crate builds the library itself"));
+    }
     println!("cargo:rustc-link-search=native={}", asks(&["--variable=libdir"]).trim());
     println!("cargo:include={}", asks(&["--variable=includedir"]).trim());
 }
