@@ -120,6 +120,22 @@ impl fmt::Debug for Options {
 ///
 /// Threads share them by reference, as `&Paths` in scoped threads, in an `Arc` or in a `static`. When they are dropped, all memory is given
 /// back.
+///
+/// ```
+/// use std::sync::Arc;
+/// use std::thread;
+/// use wanzoche::Paths;
+///
+/// let paths = Arc::new(Paths::open("resource slot cell operation deposit, remove path deposit ; remove end end")?);
+/// let (deposit, remove) = (paths.op("deposit")?, paths.op("remove")?);
+/// let consumer = thread::spawn({
+///     let paths = Arc::clone(&paths);
+///     move || paths.enter(remove)?.look() // waits for the deposit
+/// });
+/// paths.enter(deposit)?.put(7)?;
+/// assert_eq!(consumer.join().unwrap(), Ok(7));
+/// # Ok::<(), wanzoche::Error>(())
+/// ```
 pub struct Paths {
     monitor: Monitor,
     id: u64,
@@ -176,6 +192,17 @@ impl Paths {
     /// # Errors
     ///
     /// [`Error::Blocked`] if a path still forbids it when the time is over; else those of [`enter`](Paths::enter).
+    ///
+    /// ```
+    /// use std::time::Duration;
+    /// use wanzoche::{Error, Paths};
+    ///
+    /// let paths = Paths::open("resource slot cell operation deposit, remove path deposit ; remove end end")?;
+    /// let refused = paths.enter_timeout(paths.op("remove")?, Duration::from_millis(10)).unwrap_err();
+    /// assert_eq!(refused, Error::Blocked { path: 0 });
+    /// assert_eq!(paths.path(0)?.as_deref(), Some("deposit; remove"));
+    /// # Ok::<(), Error>(())
+    /// ```
     pub fn enter_timeout(&self, op: Op, time: Duration) -> Result<Guard<'_>, Error> {
         let limit = match Instant::now().checked_add(time) {
             Some(end) if !time.is_zero() => Limit::Until(end),
@@ -275,6 +302,18 @@ impl Paths {
     }
 
     /// Replays a journal under the declaration of these paths, as [`audit()`](crate::audit()) does.
+    ///
+    /// ```
+    /// use wanzoche::{Paths, Verdict};
+    ///
+    /// let paths = Paths::open("resource till tally operation sell path sell end end")?;
+    /// paths.enter(paths.op("sell")?)?.add(5)?;
+    /// let journal = paths.journal()?;
+    /// assert!(journal.contains(" use 0 add 5: used 5\n"));
+    /// assert_eq!(paths.audit(&journal)?, Verdict::Sound);
+    /// assert_eq!(paths.audit(&journal.replace("used 5", "used 4"))?, Verdict::Wrong { index: 1 });
+    /// # Ok::<(), wanzoche::Error>(())
+    /// ```
     ///
     /// To audit all that happened, join what the log got and [`journal`](Paths::journal). A journal without its front may be wrong where
     /// nothing was.

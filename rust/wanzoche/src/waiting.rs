@@ -227,7 +227,7 @@ impl Monitor {
         (state, told)
     }
 
-    /// Sleeps and tries again, until a path admits it or the time is over.
+    /// Sleeps and tries again, until the paths admit it or the time is over.
     fn wait<'a>(&'a self, mut state: MutexGuard<'a, State>, start: Start) -> (MutexGuard<'a, State>, Told) {
         state.joins(start.operation);
         loop {
