@@ -67,7 +67,8 @@ impl Options {
     }
 
     /// How many lines the journal takes before the paths begin a new one, 1 to [`MOST_LINES`]. Each start, use and finish takes one, and so
-    /// does a start that a path forbids. Half of the room is also how many operations may be in progress at once. A line takes 144 bytes.
+    /// does a start that a path forbids. An operation in progress keeps one for its finish, so there are always fewer of them than the room
+    /// has lines. A line takes 144 bytes.
     pub fn room(mut self, lines: u32) -> Options {
         self.room = lines;
         self
