@@ -168,7 +168,8 @@ impl Paths {
     /// Starts an operation, and waits until the paths admit it. It is in progress until the guard is dropped.
     ///
     /// Waits for ever for what never comes, as a thread that waits for what it holds itself. Who comes next among those that may start
-    /// isn't said. Allocates nothing, but for the text of the journal if there is a log and the journal is full.
+    /// isn't said. Costs one lock and a look at each path that names the operation, where nobody has to wait; to drop the guard costs the
+    /// same. Allocates nothing, but for the text of the journal if there is a log and the journal is full.
     ///
     /// # Errors
     ///
@@ -231,7 +232,8 @@ impl Paths {
         Ok(Guard { paths: self, activation, worker })
     }
 
-    /// Which path forbids an operation now; `None` if none does. It may be otherwise by the time of a call that enters.
+    /// Which path forbids an operation now; `None` if none does. It may be otherwise by the time of a call that enters. Takes no line of the
+    /// journal, and costs one lock.
     ///
     /// # Errors
     ///
@@ -273,7 +275,7 @@ impl Paths {
     /// What can be started now, which path blocks what, and what is in progress: a line `startable` with operations, a line
     /// `blocked NAME P` for each other one with the first path that forbids it, a line `live A W NAME` for each that is in progress, with
     /// its activation and its [thread](thread_number), and `frozen yes` if nothing is in progress and nothing can ever start again, or
-    /// `frozen no`.
+    /// `frozen no`. Nothing changes. The cost is a look at each path for each operation, and others wait meanwhile.
     ///
     /// # Errors
     ///
@@ -317,7 +319,7 @@ impl Paths {
     /// ```
     ///
     /// To audit all that happened, join what the log got and [`journal`](Paths::journal). A journal without its front may be wrong where
-    /// nothing was.
+    /// nothing was. The cost is that of a start, a use or a finish for each line; nobody waits for it.
     ///
     /// # Errors
     ///
