@@ -232,8 +232,8 @@ impl Paths {
         Ok(Guard { paths: self, activation, worker })
     }
 
-    /// Which path forbids an operation now; `None` if none does. It may be otherwise by the time of a call that enters. Takes no line of the
-    /// journal, and costs one lock.
+    /// Which path forbids an operation now; `None` if none does. It may be otherwise by the time of a call that enters. Takes no line of
+    /// the journal, and costs one lock.
     ///
     /// # Errors
     ///
