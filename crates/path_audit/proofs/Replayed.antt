@@ -1,28 +1,27 @@
 -- The lines so far, and the first that is wrong.
-use Rattle.std.proofs.Common.{◌≡◌, ◌≢◌, ℕ, zero, suc, ◌+◌, ◌<◌, ◌≤◌, List, [], ◌∷◌, ◌++◌, All, length, get_or, take, drop, append-nil, append_assoc, arith, refl, ap, sym, subst, ◌∙◌, inl, inr, Result, Ok, Err, Vec}
+use Rattle.std.proofs.Common.{◌≡◌, ℕ, zero, suc, ◌+◌, ◌<◌, ◌≤◌, List, [], ◌∷◌, ◌++◌, All, length, get_or, take, drop, arith, refl, ap, sym, subst, ◌∙◌, inl, inr, Result, Ok, Err, Vec}
 use Rattle.std.specs.Prelude.{◌↔◌, map, IsErr, IfErr}
 use Rattle.std.specs.Result.{IsErrAnd}
 use Rattle.std.proofs.lemmas.Bool.{cases_lt}
-use Rattle.std.proofs.lemmas.List.{take_more, take-append-drop, take-take, length-take-le, get_or-map}
+use Rattle.std.proofs.lemmas.List.{take-append-drop, take-take, get_or-map}
 use Rattle.path_model.specs.declared.journal.Attempt.TheVariants.{Start}
 use Rattle.path_model.specs.declared.journal.Reply.{Reply}
-use Rattle.path_model.specs.declared.journal.Reply.TheVariants.{Started, NoRoom}
+use Rattle.path_model.specs.declared.journal.Reply.TheVariants.{Started}
 use Rattle.path_model.specs.declared.journal.Line.{Line}
 use Rattle.path_model.specs.declared.resource.Law.{Law}
 use Rattle.path_model.specs.Declarations.{Declaration, law_of}
 use Rattle.path_model.specs.Devices.{Fits}
-use Rattle.path_model.specs.Owed.{Owed, AreSame, by_words}
-use Rattle.path_model.specs.Honest.{IsHonest, IsHonestFrom}
-use Rattle.path_model.proofs.CallerLemmas.{line_of, one_reply_is_owed, fronts_are_honest, each_honest_journal_has_room, begun_lines}
-use Rattle.path_decl.specs.Lawful.{Lawful}
+use Rattle.path_model.specs.Owed.{AreSame}
+use Rattle.path_model.specs.Honest.{IsHonest}
+use Rattle.path_model.proofs.CallerLemmas.{fronts_are_honest}
 use Rattle.path_audit.specs.declared.auditor.AuditFault.{AuditFault}
 use Rattle.path_audit.specs.declared.auditor.AuditFault.TheVariants.{OutOfMemory}
 use Rattle.path_audit.specs.declared.journals.Verdict.{Verdict}
 use Rattle.path_audit.specs.declared.journals.Verdict.TheVariants.{Sound, WrongLine}
-use Rattle.path_audit.specs.Inner.Registers.{Register}
-use Rattle.path_audit.specs.Inner.Replays.{ReplayValue, Answers, IsReplayOf, IsOpened, says_failed}
+use Rattle.path_step.specs.Steps.{Register}
+use Rattle.path_audit.specs.Inner.Replays.{ReplayValue, IsReplayOf, IsOpened, says_failed}
 use Rattle.path_audit.specs.Verdicts.{IsFirstWrong, IsVerdict, FitsAt}
-use Rattle.path_audit.proofs.Written.{IsLike}
+use Rattle.path_audit.specs.Inner.Outcomes.{IsLike}
 
 -- the replay of no lines
 pub opened_is : (d : Declaration) (replay : ReplayValue) (room : ℕ) (openings : List (List ℕ)) → length openings ≡ length d.resources → IsOpened replay d openings
@@ -35,8 +34,8 @@ opened_is d replay room openings counted o = record {
   live = ap (λ (r : Register). r.live) o.register;
   begun = ap (λ (r : Register). r.begun) o.register;
   declared = subst (λ (r : Register). All (λ a. a.op.0 < length d.operations) r.live) (sym o.register) (λ k a h. absurd (omega arith));
-  resources = ap length o.contents ∙ counted;
-  contents = λ r within. ap (λ c. get_or c r []) (sym o.contents);
+  one_each = ap length o.contents ∙ counted;
+  held = λ r within. ap (λ c. get_or c r []) (sym o.contents);
 }
 
 -- the owed reply and that of a line are equal if they agree on whether the device failed

@@ -2,7 +2,6 @@
 use Rattle.std.proofs.Common.{◌≡◌, ◌≢◌, ℕ, ◌+◌, ◌<◌, ◌≤◌, Bool, true, false, List, [], ◌∷◌, ◌++◌, length, get_or, take, append-nil, append_assoc, length-append, arith, refl, ap, sym, subst, ◌∙◌, Vec}
 use Rattle.std.specs.Prelude.{◌&&◌, not, map, slice_get, Some}
 use Rattle.std.proofs.lemmas.List.{take_more, length-take-le, length-map, get_or-map}
-use Rattle.path_model.specs.declared.journal.Attempt.{Attempt}
 use Rattle.path_model.specs.declared.journal.Reply.{Reply}
 use Rattle.path_model.specs.declared.journal.Reply.TheVariants.{NoRoom}
 use Rattle.path_model.specs.declared.journal.Line.{Line}
@@ -15,12 +14,13 @@ use Rattle.path_model.proofs.CallerLemmas.{each_honest_journal_has_room, room_be
 use Rattle.path_decl.specs.Lawful.{Lawful}
 use Rattle.path_gate.specs.Places.{has_room, lacks_number}
 use Rattle.path_gate.proofs.CallerLemmas.{right_fails, same_room, owed_without_number, owed_with_number}
-use Rattle.path_audit.specs.Inner.Replays.{ReplayValue, Answers, IsReplayOf, can_take, says_failed}
+use Rattle.path_step.specs.Presents.{IsPresentOf}
+use Rattle.path_step.specs.Steps.{can_take}
+use Rattle.path_step.proofs.CallerLemmas.{owed_is, taken_is, with_the_line, without_room}
+use Rattle.path_audit.specs.Inner.Replays.{Held, ReplayValue, Replays, IsReplayOf, asked, held_for}
 use Rattle.path_audit.specs.Verdicts.{IsFirstWrong}
 use Rattle.path_audit.specs.Judged.{AuditorValue, HasJudged, IsFirstWrongBehind, IsOwedInstead}
-use Rattle.path_audit.proofs.Answered.{owed_is, taken_is}
-use Rattle.path_audit.proofs.Written.{with_the_line, like_line}
-use Rattle.path_audit.proofs.Roomless.{without_room}
+use Rattle.path_audit.proofs.Likeness.{like_line}
 use Rattle.path_audit.proofs.Replayed.{told_apart}
 
 -- the replay agrees with honest segments and with lines behind them
@@ -67,8 +67,8 @@ in_more replay d room more openings lines wider r = record {
   live = r.live;
   begun = r.begun;
   declared = r.declared;
-  resources = r.resources;
-  contents = r.contents;
+  one_each = r.one_each;
+  held = r.held;
 }
 
 -- the whole next segment was judged
@@ -100,26 +100,26 @@ module _ (d : Declaration) (lawful : Lawful d) (old : ReplayValue) (room : ℕ) 
   so_many = let k = length-append earlier (take n lines) in let l = length-take-le n lines (omega arith) in omega (arith, k, l)
 
   -- the lines and the finishes to come have room
-  pub few_lines : n + length old.register.live ≤ room
+  pub few_lines : n + length old.present.register.live ≤ room
   few_lines =
       let k = each_honest_journal_has_room d whole openings all s.replayed.honest in
-      let l = taken_is d lawful old whole openings all s.replayed in
+      let l = taken_is d lawful old.present old.held.contents whole openings all s.replayed in
       let m = room_behind_is earlier room in
       let o = so_many in
       omega (arith, k, l, m, o)
 
-  pub admitted_is : old.standing.admitted ≡ old.register.begun
+  pub admitted_is : old.present.standing.admitted ≡ old.present.register.begun
   admitted_is = s.replayed.admitted ∙ sym s.replayed.begun
 
-  module _ (line : Line) (at : line ≡ get_or lines n line) (reply : Reply) (new : ReplayValue) (answers : Answers d old room n line.worker line.attempt (says_failed line.reply) reply new) where
+  module _ (line : Line) (at : line ≡ get_or lines n line) (reply : Reply) (new : ReplayValue) (answers : Replays d old room n line reply new) where
     one_line : take (n + 1) lines ≡ take n lines ++ line ∷ []
     one_line = take_more lines n line within ∙ ap (λ x. take n lines ++ x ∷ []) (sym at)
 
     -- the answer is that of all lines in the whole room
-    answers_all : Answers d old whole (length all) line.worker line.attempt (says_failed line.reply) reply new
+    answers_all : Replays d old whole (length all) line reply new
     answers_all =
-        let same : can_take old (room + length earlier) (n + length earlier) line.worker line.attempt ≡ can_take old room n line.worker line.attempt =
-        ap (λ b. b && not (lacks_number old.register.begun line.attempt)) (same_room room n (length earlier) old.register.live line.worker line.attempt) in
+        let same : can_take old.present (room + length earlier) (n + length earlier) line.worker line.attempt ≡ can_take old.present room n line.worker line.attempt =
+        ap (λ b. b && not (lacks_number old.present.register.begun line.attempt)) (same_room room n (length earlier) old.present.register.live line.worker line.attempt) in
         rw (room_behind_is earlier room, so_many) (record {
           inside = λ is. answers.inside (sym same ∙ is);
           outside = λ is. answers.outside (sym same ∙ is);
@@ -128,13 +128,13 @@ module _ (d : Declaration) (lawful : Lawful d) (old : ReplayValue) (room : ℕ) 
     owed_behind : OwedBehind d room openings earlier (take n lines) line.worker line.attempt reply
     owed_behind = go _ refl
       where
-        go : (b : Bool) → lacks_number old.register.begun line.attempt ≡ b → OwedBehind d room openings earlier (take n lines) line.worker line.attempt reply
+        go : (b : Bool) → lacks_number old.present.register.begun line.attempt ≡ b → OwedBehind d room openings earlier (take n lines) line.worker line.attempt reply
         go true is =
-            owed_without_number d room openings s.good_room line.worker old.register.begun reply earlier (take n lines) line.attempt s.replayed.begun is
-            (answers.outside (right_fails (has_room room n old.register.live line.worker line.attempt) (lacks_number old.register.begun line.attempt) is)).0
+            owed_without_number d room openings s.good_room line.worker old.present.register.begun reply earlier (take n lines) line.attempt s.replayed.begun is
+            (answers.outside (right_fails (has_room room n old.present.register.live line.worker line.attempt) (lacks_number old.present.register.begun line.attempt) is)).0
         go false is =
-            owed_with_number d room openings s.good_room line.worker old.register.begun reply earlier (take n lines) line.attempt s.replayed.begun is
-            (owed_is d lawful old whole openings all s.replayed line.worker line.attempt (says_failed line.reply) reply new is answers_all)
+            owed_with_number d room openings s.good_room line.worker old.present.register.begun reply earlier (take n lines) line.attempt s.replayed.begun is
+            (owed_is (λ (h : Held). h.contents) asked d lawful old.present (held_for old.held line) whole openings all s.replayed line.worker line.attempt reply new.present new.held is answers_all)
 
     -- the line is right
     pub line_right : (reply ≡ line.reply) × (line.reply ≢ NoRoom) → IsReplayBehind new d room openings segments (take (n + 1) lines)
@@ -146,7 +146,7 @@ module _ (d : Declaration) (lawful : Lawful d) (old : ReplayValue) (room : ℕ) 
           honest = segments_more d room openings segments (take n lines) line s.honest owed told.1;
           replayed = subst (IsReplayOf new d whole openings) (append_assoc earlier (take n lines) (line ∷ []))
               (subst (λ r. IsReplayOf new d whole openings (all ++ record { worker = line.worker; attempt = line.attempt; reply = r } ∷ [])) told.0
-              (with_the_line d lawful old whole openings all s.replayed line.worker line.attempt (says_failed line.reply) reply new answers_all some));
+              (with_the_line (λ (h : Held). h.contents) asked d lawful old.present (held_for old.held line) whole openings all s.replayed line.worker line.attempt reply new.present new.held answers_all some));
         })
 
     -- the line is wrong
@@ -157,18 +157,19 @@ module _ (d : Declaration) (lawful : Lawful d) (old : ReplayValue) (room : ℕ) 
       wrong = λ honest.
           let last = last_from d room openings [] segments (take n lines) line (subst (λ xs. AreHonest d room openings (segments ++ xs ∷ [])) one_line honest) in
           let same = one_reply_is_owed_behind d room openings earlier (take n lines) line.worker line.attempt reply line.reply owed_behind last.0 in
-          other (told_apart reply line.reply (like_line d old new line.worker (says_failed line.reply) reply whole (length all) line.attempt answers_all) same, last.1);
+          other (told_apart reply line.reply (like_line d old new whole (length all) line reply answers_all) same, last.1);
     }
 
     -- the replay agrees with the lines before and with this one as it should have been answered
     answered : (r : Reply) → reply ≡ r → IsReplayOf new d whole openings (earlier ++ with_line (take n lines) line.worker line.attempt r)
     answered NoRoom is =
-        subst (λ v. IsReplayOf v d whole openings all)
-        (sym (without_room d old new line.worker (says_failed line.reply) reply whole (length all) line.attempt answers_all is)) s.replayed
+        let still = without_room (λ (h : Held). h.contents) asked d old.present new.present (held_for old.held line) new.held line.worker reply whole (length all) line.attempt answers_all is in
+        subst (λ p. IsPresentOf p new.held.contents d whole openings all) (sym still.0)
+        (subst (λ (h : Held). IsPresentOf old.present h.contents d whole openings all) (sym still.1) s.replayed)
     answered r is =
         subst (IsReplayOf new d whole openings) (append_assoc earlier (take n lines) (record { worker = line.worker; attempt = line.attempt; reply = r } ∷ []))
         (subst (λ x. IsReplayOf new d whole openings (all ++ record { worker = line.worker; attempt = line.attempt; reply = x } ∷ [])) is
-        (with_the_line d lawful old whole openings all s.replayed line.worker line.attempt (says_failed line.reply) reply new answers_all (λ e. let told = is in cc)))
+        (with_the_line (λ (h : Held). h.contents) asked d lawful old.present (held_for old.held line) whole openings all s.replayed line.worker line.attempt reply new.present new.held answers_all (λ e. let told = is in cc)))
 
     -- the line is wrong, and this is what was owed
     pub owed_instead : slice_get lines n ≡ Some line → ((reply ≡ line.reply) × (line.reply ≢ NoRoom) → ⊥) → IsOwedInstead new d room openings segments lines n reply

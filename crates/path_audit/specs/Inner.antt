@@ -1,5 +1,4 @@
 -- How values are stored, and what loops and private functions know. What a public call promises is in the files beside this one.
 pub mod Owners
-pub mod Registers
 pub mod Outcomes
 pub mod Replays

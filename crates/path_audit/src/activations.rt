@@ -1,10 +1,10 @@
 //! The activations of a journal, by their numbers.
 
-ghost use Rattle.std.specs.Prelude.{◌≡◌, ◌+◌, ◌++◌, ◌∷◌, [], length, IfOk};
-ghost use Rattle.path_model.specs.Journals.{activation_of, without};
-ghost use Rattle.path_audit.specs.Inner.Registers.{registered};
+ghost use Rattle.std.specs.Prelude.{◌≡◌, [], IfOk};
 
+use path_ledger::EndFault;
 use path_model::{ActId, Activation, OpId, OutOfMemory};
+use path_step::Live;
 use std::alloc::{Allocator, Global};
 use std::marker::Model;
 
@@ -26,7 +26,7 @@ pub struct Activations<A: Allocator + Copy = Global> {
 
 impl<A: Allocator + Copy> Model for Activations<A> {
     ghost use Rattle.std.specs.Prelude.{◌≡◌, length};
-    ghost use Rattle.path_audit.specs.Inner.Registers.{Register};
+    ghost use Rattle.path_step.specs.Steps.{Register};
     ghost use Rattle.path_audit.specs.Inner.Owners.{live_from};
 
     ghost Value = { Register };
@@ -47,36 +47,6 @@ impl<A: Allocator + Copy> Activations<A> {
         }
     }
 
-    /// How many are live. Takes constant time.
-    pub fn live(&self) -> usize
-        ensures { result ≡ length self.now.live }
-    {
-        self.live
-    }
-
-    /// How many were begun. Takes constant time.
-    pub fn begun(&self) -> u64
-        ensures { result ≡ self.now.begun }
-    {
-        self.begun.len() as u64
-    }
-
-    /// The live activation of this number, if there is one. Looks it up by number.
-    pub fn find(&self, act: ActId) -> Option<Activation>
-        ensures { result ≡ activation_of act self.now.live }
-    {
-        let place = act.0 as usize;
-        if place >= self.begun.len() {
-            return None;
-        }
-        let owner = self.begun[place]?;
-        Some(Activation {
-            act,
-            worker: owner.worker,
-            op: owner.op,
-        })
-    }
-
     /// The live activations, in the order of their starts. Fails only if allocation fails. The cost is a look at each that was begun.
     pub fn listed(&self, alloc: A) -> Result<Vec<Activation, A>, OutOfMemory>
         ensures { IfOk result (λ list. list.items ≡ self.now.live) }
@@ -93,26 +63,55 @@ impl<A: Allocator + Copy> Activations<A> {
         }
         Ok(list)
     }
+}
 
-    /// Appends an activation of this worker and operation, and returns its number: how many were begun before it. Fails only if
-    /// allocation fails.
-    pub fn begin(&mut self, worker: u32, op: OpId) -> Result<ActId, OutOfMemory>
-        ensures number { IfOk result (λ n. n.0 ≡ self.old.begun) }
-        ensures appended { IfOk result (λ n. self.new ≡ registered self.old (record { act = n; worker = worker; op = op })) }
-    {
+impl<A: Allocator + Copy> Live for Activations<A> {
+    ghost register = { λ a. a };
+
+    ghost has_place = { λ a. Unit {0} };
+
+    type Fault = OutOfMemory;
+
+    fn count(&self) -> usize {
+        self.live
+    }
+
+    fn begun(&self) -> u64 {
+        self.begun.len() as u64
+    }
+
+    /// Looks it up by number.
+    fn find(&self, act: ActId) -> Option<Activation> {
+        let place = act.0 as usize;
+        if place >= self.begun.len() {
+            return None;
+        }
+        let owner = self.begun[place]?;
+        Some(Activation {
+            act,
+            worker: owner.worker,
+            op: owner.op,
+        })
+    }
+
+    /// Fails only if allocation fails.
+    fn begin(&mut self, worker: u32, op: OpId) -> Result<ActId, OutOfMemory> {
         let act = ActId(self.begun.len() as u64);
         self.begun.push(Some(Owner { worker, op }))?;
         self.live += 1;
         Ok(act)
     }
 
-    /// Ends the live activation of this number, if there is one. Looks it up by number: no other activation moves.
-    pub fn end(&mut self, act: ActId)
-        ensures { self.new ≡ record self.old { live = without act self.old.live } }
-    {
-        if self.find(act).is_some() {
-            self.begun[act.0 as usize] = None;
-            self.live -= 1;
+    /// Looks it up by number: no other activation moves.
+    fn end_own(&mut self, worker: u32, act: ActId) -> Result<Activation, EndFault> {
+        let Some(activation) = self.find(act) else {
+            return Err(EndFault::Stale);
+        };
+        if activation.worker != worker {
+            return Err(EndFault::NotYours);
         }
+        self.begun[act.0 as usize] = None;
+        self.live -= 1;
+        Ok(activation)
     }
 }

@@ -1,16 +1,17 @@
 //! An auditor judges the segments of a journal, one after another.
 
-ghost use Rattle.std.specs.Prelude.{◌≡◌, ◌≢◌, ◌↔◌, ◌++◌, ◌∷◌, [], ℕ, List, IsTrue, IfOk, IfErr, OnOk, MatchOption, length, map};
+ghost use Rattle.std.specs.Prelude.{◌≡◌, ◌≢◌, ◌↔◌, ◌<◌, ◌++◌, ◌∷◌, [], ℕ, List, IsTrue, IfOk, IfErr, OnOk, MatchOption, length, map};
 ghost use Rattle.path_model.specs.declared.journal.Line.{Line};
 ghost use Rattle.path_model.specs.declared.journal.Reply.TheVariants as replies;
+ghost use Rattle.path_model.specs.Declarations as declarations;
 ghost use Rattle.path_model.specs.Devices.{Fits};
 ghost use Rattle.path_audit.specs.declared.auditor.AuditFault.TheVariants as faults;
 ghost use Rattle.path_audit.specs.declared.auditor.JudgeFault.TheVariants as judge_faults;
 ghost use Rattle.path_audit.specs.Verdicts.{AllFit, IsAuditable, IsAuditFault, IsFirstMisfit};
 ghost use Rattle.path_audit.specs.Judged.{HasJudged, IsExamined, IsJudgeFault};
 
-use crate::replay::{Replay, law_at};
-use path_decl::{Decl, counts};
+use crate::replay::Replay;
+use path_decl::{Decl, counts, law_of};
 use path_gate::Gate;
 use path_model::{Activation, Law, Line, OutOfMemory, Reply, ResId, is_room};
 use std::alloc::{Allocator, Global};
@@ -59,6 +60,14 @@ impl From<OutOfMemory> for JudgeFault {
     fn from(_error: OutOfMemory) -> JudgeFault {
         JudgeFault::OutOfMemory
     }
+}
+
+/// The law of a declared resource.
+fn law_at<A: Allocator + Copy>(decl: &Decl<A>, resource: ResId) -> Law
+    requires { resource.0 < length decl.now.declaration.resources }
+    ensures { result ≡ declarations.law_of decl.now.declaration resource.0 }
+{
+    law_of(decl, resource).unwrap()
 }
 
 /// Whether a device of this law may contain these numbers.
@@ -152,14 +161,14 @@ impl<A: Allocator + Copy> Examined<A> {
 
     /// The gate behind the right lines and the first wrong one as it should have been answered. Takes constant time.
     pub fn gate(&self) -> &Gate<A>
-        ensures { result.now ≡ self.now.replay.standing }
+        ensures { result.now ≡ self.now.replay.present.standing }
     {
         self.replay.gate()
     }
 
     /// What is live there, in the order of the starts. Fails only if allocation fails. The cost is a look at each activation.
     pub fn live(&self, alloc: A) -> Result<Vec<Activation, A>, OutOfMemory>
-        ensures { IfOk result (λ live. live.items ≡ self.now.replay.register.live) }
+        ensures { IfOk result (λ live. live.items ≡ self.now.replay.present.register.live) }
     {
         self.replay.live(alloc)
     }
@@ -211,10 +220,10 @@ impl<A: Allocator + Copy> Auditor<A> {
     {
         let Auditor { mut replay, room } = self;
         for (n, line) in lines.iter().enumerate() {
-            let owed = replay.answer(decl, room, n, *line)?;
+            let place = n as u32;
+            let owed = replay.answer(decl, room, place, *line)?;
             if !is_told(owed, line.reply) {
-                let line = n as u32;
-                let wrong = Some(Wrong { line, owed });
+                let wrong = Some(Wrong { line: place, owed });
                 return Ok(Examined {
                     replay,
                     room,

@@ -7,9 +7,9 @@
 
 mod activations;
 mod auditor;
-mod contents;
 mod journals;
 mod replay;
+mod resources;
 
 pub use auditor::{AuditFault, Auditor, Examined, JudgeFault, Wrong};
 pub use journals::{SegmentsVerdict, Verdict, audit, audit_segments};

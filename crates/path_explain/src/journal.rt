@@ -81,7 +81,7 @@ fn behind<A: Allocator + Copy>(
     right: &[Line],
     owed: Option<Line>,
 ) -> Result<String<A>, OutOfMemory>
-    requires { examined.now.replay.standing.paths ≡ paths_of decl.now.declaration }
+    requires { examined.now.replay.present.standing.paths ≡ paths_of decl.now.declaration }
 {
     let mut text = String::new(alloc);
     let live = examined.live(alloc)?;
@@ -221,7 +221,7 @@ fn sound<A: Allocator + Copy>(
     examined: &Examined<A>,
     lines: &[Line],
 ) -> Result<String<A>, OutOfMemory>
-    requires { examined.now.replay.standing.paths ≡ paths_of decl.now.declaration }
+    requires { examined.now.replay.present.standing.paths ≡ paths_of decl.now.declaration }
     ensures { IfOk result (λ text. Begins (sound_line (length lines.now)) (string_bytes text)) }
 {
     let mut text = String::new(alloc);
@@ -240,7 +240,7 @@ fn unsound<A: Allocator + Copy>(
     journal: &JournalText<A>,
     wrong: Wrong,
 ) -> Result<String<A>, OutOfMemory>
-    requires paths { examined.now.replay.standing.paths ≡ paths_of decl.now.declaration }
+    requires paths { examined.now.replay.present.standing.paths ≡ paths_of decl.now.declaration }
     requires within { wrong.line < length journal.now.lines.items }
     ensures { IfOk result (λ text. (l : Line) → slice_get journal.now.lines.items wrong.line ≡ Some l
         → Begins (owed_lines decl.now.declaration (is_some journal.now.room) wrong.line l wrong.owed) (string_bytes text)) }

@@ -11,16 +11,17 @@ use Rattle.path_model.specs.declared.journal.Reply.{Reply}
 use Rattle.path_model.specs.declared.journal.Reply.TheVariants.{Started, Blocked, UnknownOperation, NoRoom}
 use Rattle.path_model.specs.declared.journal.Line.{Line}
 use Rattle.path_model.specs.declared.journal.Activation.{Activation}
+use Rattle.path_model.specs.declared.resource.Law.{Law}
 use Rattle.path_model.specs.Legal as legal
 use Rattle.path_model.specs.Declarations.{Declaration, paths_of, resource_of, law_of}
 use Rattle.path_model.specs.Devices.{Outcome, serves, refuses, outcome_of}
 use Rattle.path_model.specs.Journals.{live, activation_of, admitted_history}
 use Rattle.path_model.specs.Owed.{by_words, taken, IsOwn, OwedToStart, OwedToUse, OwedToFinish, Owed, outcome_for}
-use Rattle.path_model.proofs.CallerLemmas.{each_honest_journal_is_legal}
+use Rattle.path_model.proofs.CallerLemmas.{each_honest_journal_is_legal, live_in_progress}
 use Rattle.path_decl.specs.Lawful.{Lawful}
 use Rattle.path_gate.specs.Places.{has_room, is_own_of, lacks_number}
 use Rattle.path_gate.proofs.CallerLemmas.{both_left, left_fails, roomy, not_roomy, roomy_or, not_roomy_or, not_own, own_or_other, none_forbids, found_declared}
-use Rattle.path_step.specs.Steps.{Present, Acts, held_at, MovesStart, MovesUse, MovesFinish, Moves, Answers, can_take}
+use Rattle.path_step.specs.Steps.{Present, Acts, AreReady, IsRunning, held_at, MovesStart, MovesUse, MovesFinish, Moves, Answers, can_take}
 use Rattle.path_step.specs.Presents.{IsPresentOf}
 
 module _ (d : Declaration) (lawful : Lawful d) (old : Present) (before : List (List ℕ)) (room : ℕ) (openings : List (List ℕ)) (journal : List Line) (s : IsPresentOf old before d room openings journal) where
@@ -64,14 +65,6 @@ module _ (d : Declaration) (lawful : Lawful d) (old : Present) (before : List (L
   ]
   owed_served w n verb a (refuses r) reply held left fits own is acts = rw acts.0 (OwedToUse.refused a r fits own is)
 
-  owed_use : (w : ℕ) (n : ActId) (verb : Verb) (o : Option Activation) (reply : Reply) (after : List (List ℕ)) → taken journal + 1 ≤ room
-      → activation_of n old.register.live ≡ o → MovesUse d w verb o before reply after → OwedToUse d room openings journal w n verb reply
-  owed_use w n verb None reply after fits is m = rw m.0 (OwedToUse.stale fits (found_live n None is))
-  owed_use w n verb (Some a) reply after fits is m = elim (cases_eq a.worker w) [
-    | inl own ↦ owed_served w n verb a _ reply _ (m.1 own).left fits (record { found = found_live n (Some a) is; own = own }) (outcome_is n a verb is) (m.1 own).acts
-    | inr other ↦ rw ((m.0 other).0) (OwedToUse.not_yours a fits (found_live n (Some a) is) other)
-  ]
-
   owed_finish : (w : ℕ) (n : ActId) (o : Option Activation) (reply : Reply) (new : Present) → (is_own_of w o ≡ false → taken journal + 1 ≤ room)
       → activation_of n old.register.live ≡ o → MovesFinish old w n o reply new → OwedToFinish d room journal w n reply
   owed_finish w n None reply new fits is m = rw m.0 (OwedToFinish.stale (fits refl) (found_live n None is))
@@ -79,14 +72,6 @@ module _ (d : Declaration) (lawful : Lawful d) (old : Present) (before : List (L
     | inl own ↦ rw ((m.1 own).told) (OwedToFinish.finished a (record { found = found_live n (Some a) is; own = own }))
     | inr other ↦ rw ((m.0 other).0) (OwedToFinish.not_yours a (fits (not_own w a other)) (found_live n (Some a) is) other)
   ]
-
-  -- the reply where there is room
-  owed_inside : (w : ℕ) (attempt : Attempt) (reply : Reply) (new : Present) (after : List (List ℕ)) → has_room room (length journal) old.register.live w attempt ≡ true
-      → Moves d old before w attempt reply new after → Owed d room openings journal w attempt reply
-  owed_inside w (Start a) reply new after has m = let k = roomy (length journal + length old.register.live + 2) room has in owed_start w a reply new (omega (arith, k, taken_is)) m.0
-  owed_inside w (Apply n verb) reply new after has m = let k = roomy (length journal + length old.register.live + 1) room has in owed_use w n verb (activation_of n old.register.live) reply after (omega (arith, k, taken_is)) refl m.0
-  owed_inside w (Finish n) reply new after has m =
-      owed_finish w n (activation_of n old.register.live) reply new (λ other. let k = roomy_or (length journal + length old.register.live + 1) room (is_own_of w (activation_of n old.register.live)) has other in omega (arith, k, taken_is)) refl m.0
 
   not_own_of : (w : ℕ) (n : ActId) → is_own_of w (activation_of n old.register.live) ≡ false → (a : Activation) → IsOwn journal w n a → ⊥
   not_own_of w n is a own =
@@ -98,17 +83,48 @@ module _ (d : Declaration) (lawful : Lawful d) (old : Present) (before : List (L
   owed_outside w (Apply n verb) has = let k = not_roomy (length journal + length old.register.live + 1) room has in OwedToUse.no_room (omega (arith, k, taken_is))
   owed_outside w (Finish n) has = let k = not_roomy_or (length journal + length old.register.live + 1) room (is_own_of w (activation_of n old.register.live)) has in OwedToFinish.no_room (not_own_of w n k.1) (omega (arith, k, taken_is))
 
+  -- what is live was declared, and each resource has its law
+  pub ready : (has_law : ℕ → Law → Type 0) → ((r : ℕ) → r < length d.resources → has_law r (law_of d r)) → AreReady d old.register.live before has_law
+  ready has_law laws = record {
+    within = λ n a is. found_declared (length d.operations) n old.register.live a s.declared is;
+    resources = λ op declared. lawful.operations op _ declared;
+    one_each = s.one_each;
+    laws = laws;
+  }
+
+  -- what is live is in progress if a path names it
+  pub running : IsRunning old.standing old.register
+  running n a is named = let k = live_in_progress d room openings journal s.honest n a (found_live n (Some a) is) in let p = s.at.progress a.op named in omega (arith, k, p)
+
+module _ {D : Type 0} (contents : D → List (List ℕ)) (asked : D → ℕ → Verb → Reply → D → Type 0) (d : Declaration) (lawful : Lawful d) (old : Present) (before : D) (room : ℕ)
+    (openings : List (List ℕ)) (journal : List Line) (s : IsPresentOf old (contents before) d room openings journal) where
+  owed_use : (w : ℕ) (n : ActId) (verb : Verb) (o : Option Activation) (reply : Reply) (after : D) → taken journal + 1 ≤ room
+      → activation_of n old.register.live ≡ o → MovesUse contents asked d w verb o before reply after → OwedToUse d room openings journal w n verb reply
+  owed_use w n verb None reply after fits is m = rw m.0 (OwedToUse.stale fits (found_live d lawful old (contents before) room openings journal s n None is))
+  owed_use w n verb (Some a) reply after fits is m = elim (cases_eq a.worker w) [
+    | inl own ↦ owed_served d lawful old (contents before) room openings journal s w n verb a _ reply _ (m.1 own).serves.left fits (record { found = found_live d lawful old (contents before) room openings journal s n (Some a) is; own = own }) (outcome_is d lawful old (contents before) room openings journal s n a verb is) (m.1 own).serves.acts
+    | inr other ↦ rw ((m.0 other).0) (OwedToUse.not_yours a fits (found_live d lawful old (contents before) room openings journal s n (Some a) is) other)
+  ]
+
+  -- the reply where there is room
+  owed_inside : (w : ℕ) (attempt : Attempt) (reply : Reply) (new : Present) (after : D) → has_room room (length journal) old.register.live w attempt ≡ true
+      → Moves contents asked d old before w attempt reply new after → Owed d room openings journal w attempt reply
+  owed_inside w (Start a) reply new after has m = let k = roomy (length journal + length old.register.live + 2) room has in owed_start d lawful old (contents before) room openings journal s w a reply new (omega (arith, k, taken_is d lawful old (contents before) room openings journal s)) m.0
+  owed_inside w (Apply n verb) reply new after has m = let k = roomy (length journal + length old.register.live + 1) room has in owed_use w n verb (activation_of n old.register.live) reply after (omega (arith, k, taken_is d lawful old (contents before) room openings journal s)) refl m.0
+  owed_inside w (Finish n) reply new after has m =
+      owed_finish d lawful old (contents before) room openings journal s w n (activation_of n old.register.live) reply new (λ other. let k = roomy_or (length journal + length old.register.live + 1) room (is_own_of w (activation_of n old.register.live)) has other in omega (arith, k, taken_is d lawful old (contents before) room openings journal s)) refl m.0
+
   -- the reply to what can be taken
-  pub owed_taken : (w : ℕ) (attempt : Attempt) (reply : Reply) (new : Present) (after : List (List ℕ)) → can_take old room (length journal) w attempt ≡ true
-      → Answers d old before room (length journal) w attempt reply new after → Owed d room openings journal w attempt reply
+  pub owed_taken : (w : ℕ) (attempt : Attempt) (reply : Reply) (new : Present) (after : D) → can_take old room (length journal) w attempt ≡ true
+      → Answers contents asked d old before room (length journal) w attempt reply new after → Owed d room openings journal w attempt reply
   owed_taken w attempt reply new after is answers = owed_inside w attempt reply new after (both_left _ _ is) (answers.inside is)
 
-  owed_case : (w : ℕ) (attempt : Attempt) (reply : Reply) (new : Present) (after : List (List ℕ)) (can : Bool) → can_take old room (length journal) w attempt ≡ can
-      → lacks_number old.register.begun attempt ≡ false → Answers d old before room (length journal) w attempt reply new after → Owed d room openings journal w attempt reply
+  owed_case : (w : ℕ) (attempt : Attempt) (reply : Reply) (new : Present) (after : D) (can : Bool) → can_take old room (length journal) w attempt ≡ can
+      → lacks_number old.register.begun attempt ≡ false → Answers contents asked d old before room (length journal) w attempt reply new after → Owed d room openings journal w attempt reply
   owed_case w attempt reply new after true is numbered answers = owed_taken w attempt reply new after is answers
-  owed_case w attempt reply new after false is numbered answers = rw ((answers.outside is).0) (owed_outside w attempt (left_fails _ _ is numbered))
+  owed_case w attempt reply new after false is numbered answers = rw ((answers.outside is).0) (owed_outside d lawful old (contents before) room openings journal s w attempt (left_fails _ _ is numbered))
 
   -- each reply is owed, if a start has a number left
-  pub owed_is : (w : ℕ) (attempt : Attempt) (reply : Reply) (new : Present) (after : List (List ℕ)) → lacks_number old.register.begun attempt ≡ false
-      → Answers d old before room (length journal) w attempt reply new after → Owed d room openings journal w attempt reply
+  pub owed_is : (w : ℕ) (attempt : Attempt) (reply : Reply) (new : Present) (after : D) → lacks_number old.register.begun attempt ≡ false
+      → Answers contents asked d old before room (length journal) w attempt reply new after → Owed d room openings journal w attempt reply
   owed_is w attempt reply new after numbered answers = owed_case w attempt reply new after _ refl numbered answers

@@ -1,6 +1,12 @@
 -- What the crates above cite of these proofs, and all that they cite.
 
+-- where the gate, what is live and the contents are those of an honest journal, a step may be made
+pub use Rattle.path_step.proofs.Answered.{ready, running, taken_is}
 -- the reply of a step is owed by the lines before it
 pub use Rattle.path_step.proofs.Answered.{owed_is}
 -- what the step leaves is that of the journal with its line
 pub use Rattle.path_step.proofs.Written.{with_the_line}
+-- what gets no room changes nothing
+pub use Rattle.path_step.proofs.Roomless.{without_room}
+-- what a law refuses with is neither `Used` nor `DeviceFailed`
+pub use Rattle.path_step.proofs.Written.{IsRefusal, refusal_of}

@@ -1,4 +1,4 @@
 pub mod Answered
-pub mod Serving
 pub mod Written
+pub mod Roomless
 pub mod CallerLemmas

@@ -238,16 +238,6 @@ module _ (d : Declaration) (lawful : Lawful d) (old : Present) (before : List (L
       subst (λ c. IsPresentOf old c d room openings (journal ++ line_of w (Apply n verb) reply ∷ [])) (sym same)
       (still_line w (Apply n verb) reply told old is refl (still_quiet w (Apply n verb) told (quiet_use w n verb told) (λ r. unserved r n verb told _ plain)) honest)
 
-  -- a use
-  after_use : (w : ℕ) (n : ActId) (verb : Verb) (o : Option Activation) (reply : Reply) (after : List (List ℕ)) → activation_of n old.register.live ≡ o → MovesUse d w verb o before reply after
-      → IsHonest d room openings (journal ++ line_of w (Apply n verb) reply ∷ []) → IsPresentOf old after d room openings (journal ++ line_of w (Apply n verb) reply ∷ [])
-  after_use w n verb None reply after is m honest = still_use w n verb reply Stale after m.0 m.1 (λ x e. cc) honest
-  after_use w n verb (Some a) reply after is m honest = elim (cases_eq a.worker w) [
-    | inl own ↦ subst (λ c. IsPresentOf old c d room openings (journal ++ line_of w (Apply n verb) reply ∷ [])) (sym (m.1 own).others)
-        (now_acted w n verb a _ reply (m.1 own).left is refl (refusal_of (law_of d (resource_of d a.op.0)) verb (held_at before (resource_of d a.op.0))) (m.1 own).acts honest)
-    | inr other ↦ still_use w n verb reply NotYours after (m.0 other).0 (m.0 other).1 (λ x e. cc) honest
-  ]
-
   -- a finish
   after_finish : (w : ℕ) (n : ActId) (o : Option Activation) (reply : Reply) (new : Present) → activation_of n old.register.live ≡ o → MovesFinish old w n o reply new
       → IsHonest d room openings (journal ++ line_of w (Finish n) reply ∷ []) → IsPresentOf new before d room openings (journal ++ line_of w (Finish n) reply ∷ [])
@@ -259,21 +249,33 @@ module _ (d : Declaration) (lawful : Lawful d) (old : Present) (before : List (L
     | inr other ↦ still_line w (Finish n) reply NotYours new (m.0 other).0 (m.0 other).1 (still_quiet w (Finish n) NotYours (quiet_reply w (Finish n) NotYours (λ k e. cc) (λ e. cc)) (λ r. refl)) honest
   ]
 
-  after_move : (w : ℕ) (attempt : Attempt) (reply : Reply) (new : Present) (after : List (List ℕ)) → Moves d old before w attempt reply new after
-      → IsHonest d room openings (journal ++ line_of w attempt reply ∷ []) → IsPresentOf new after d room openings (journal ++ line_of w attempt reply ∷ [])
+module _ {D : Type 0} (contents : D → List (List ℕ)) (asked : D → ℕ → Verb → Reply → D → Type 0) (d : Declaration) (lawful : Lawful d) (old : Present) (before : D) (room : ℕ)
+    (openings : List (List ℕ)) (journal : List Line) (s : IsPresentOf old (contents before) d room openings journal) where
+  -- a use
+  after_use : (w : ℕ) (n : ActId) (verb : Verb) (o : Option Activation) (reply : Reply) (after : D) → activation_of n old.register.live ≡ o → MovesUse contents asked d w verb o before reply after
+      → IsHonest d room openings (journal ++ line_of w (Apply n verb) reply ∷ []) → IsPresentOf old (contents after) d room openings (journal ++ line_of w (Apply n verb) reply ∷ [])
+  after_use w n verb None reply after is m honest = still_use d lawful old (contents before) room openings journal s w n verb reply Stale (contents after) m.0 (ap contents m.1) (λ x e. cc) honest
+  after_use w n verb (Some a) reply after is m honest = elim (cases_eq a.worker w) [
+    | inl own ↦ subst (λ c. IsPresentOf old c d room openings (journal ++ line_of w (Apply n verb) reply ∷ [])) (sym (m.1 own).serves.others)
+        (now_acted d lawful old (contents before) room openings journal s w n verb a _ reply (m.1 own).serves.left is refl (refusal_of (law_of d (resource_of d a.op.0)) verb (held_at (contents before) (resource_of d a.op.0))) (m.1 own).serves.acts honest)
+    | inr other ↦ still_use d lawful old (contents before) room openings journal s w n verb reply NotYours (contents after) (m.0 other).0 (ap contents (m.0 other).1) (λ x e. cc) honest
+  ]
+
+  after_move : (w : ℕ) (attempt : Attempt) (reply : Reply) (new : Present) (after : D) → Moves contents asked d old before w attempt reply new after
+      → IsHonest d room openings (journal ++ line_of w attempt reply ∷ []) → IsPresentOf new (contents after) d room openings (journal ++ line_of w attempt reply ∷ [])
   after_move w (Start a) reply new after m honest =
-      subst (λ c. IsPresentOf new c d room openings (journal ++ line_of w (Start a) reply ∷ [])) (sym m.1) (after_start w a reply new m.0 honest)
+      subst (λ c. IsPresentOf new (contents c) d room openings (journal ++ line_of w (Start a) reply ∷ [])) (sym m.1) (after_start d lawful old (contents before) room openings journal s w a reply new m.0 honest)
   after_move w (Apply n verb) reply new after m honest =
-      subst (λ p. IsPresentOf p after d room openings (journal ++ line_of w (Apply n verb) reply ∷ [])) (sym m.1) (after_use w n verb (activation_of n old.register.live) reply after refl m.0 honest)
+      subst (λ p. IsPresentOf p (contents after) d room openings (journal ++ line_of w (Apply n verb) reply ∷ [])) (sym m.1) (after_use w n verb (activation_of n old.register.live) reply after refl m.0 honest)
   after_move w (Finish n) reply new after m honest =
-      subst (λ c. IsPresentOf new c d room openings (journal ++ line_of w (Finish n) reply ∷ [])) (sym m.1) (after_finish w n (activation_of n old.register.live) reply new refl m.0 honest)
+      subst (λ c. IsPresentOf new (contents c) d room openings (journal ++ line_of w (Finish n) reply ∷ [])) (sym m.1) (after_finish d lawful old (contents before) room openings journal s w n (activation_of n old.register.live) reply new refl m.0 honest)
 
   -- with a line
-  pub with_the_line : (w : ℕ) (attempt : Attempt) (reply : Reply) (new : Present) (after : List (List ℕ)) → Answers d old before room (length journal) w attempt reply new after → reply ≢ NoRoom
-      → IsPresentOf new after d room openings (journal ++ line_of w attempt reply ∷ [])
+  pub with_the_line : (w : ℕ) (attempt : Attempt) (reply : Reply) (new : Present) (after : D) → Answers contents asked d old before room (length journal) w attempt reply new after → reply ≢ NoRoom
+      → IsPresentOf new (contents after) d room openings (journal ++ line_of w attempt reply ∷ [])
   with_the_line w attempt reply new after answers some = go _ refl
     where
-      go : (can : Bool) → can_take old room (length journal) w attempt ≡ can → IsPresentOf new after d room openings (journal ++ line_of w attempt reply ∷ [])
+      go : (can : Bool) → can_take old room (length journal) w attempt ≡ can → IsPresentOf new (contents after) d room openings (journal ++ line_of w attempt reply ∷ [])
       go true is = after_move w attempt reply new after (answers.inside is)
-          (honest_more d room openings journal (line_of w attempt reply) s.honest (owed_taken d lawful old before room openings journal s w attempt reply new after is answers) some)
+          (honest_more d room openings journal (line_of w attempt reply) s.honest (owed_taken contents asked d lawful old before room openings journal s w attempt reply new after is answers) some)
       go false is = absurd (some ((answers.outside is).0))

@@ -95,13 +95,6 @@ pub record Serves (law : Law) (r : ℕ) (verb : Verb) (old : List (List ℕ)) (r
   pub acts : Acts (outcome_of law verb (held_at old r)) reply (held_at old r) left
   pub others : new ≡ slice_set old r left
 
--- a use of the activation, if it is live, takes the contents from old to new with this reply
-abbrev pub MovesUse : Declaration → ℕ → Verb → Option Activation → List (List ℕ) → Reply → List (List ℕ) → Type 0
-MovesUse d w verb None old reply new = (reply ≡ Stale) × (new ≡ old)
-MovesUse d w verb (Some a) old reply new =
-    (a.worker ≢ w → (reply ≡ NotYours) × (new ≡ old))
-    × (a.worker ≡ w → Serves (law_of d (resource_of d a.op.0)) (resource_of d a.op.0) verb old reply new)
-
 -- what is live was declared, and each resource has its law
 pub record AreReady (d : Declaration) (live : List Activation) (contents : List (List ℕ)) (has_law : ℕ → Law → Type 0) : Type 0 where
   pub within : (n : ActId) (a : Activation) → activation_of n live ≡ Some a → a.op.0 < length d.operations
@@ -109,20 +102,34 @@ pub record AreReady (d : Declaration) (live : List Activation) (contents : List 
   pub one_each : length contents ≡ length d.resources
   pub laws : (r : ℕ) → r < length d.resources → has_law r (law_of d r)
 
--- one attempt for which there is room takes one present and contents to others with this reply
-abbrev pub Moves : Declaration → Present → List (List ℕ) → ℕ → Attempt → Reply → Present → List (List ℕ) → Type 0
-Moves d old before w (Start a) reply new after = MovesStart (length d.operations) old w a reply new × (after ≡ before)
-Moves d old before w (Apply n verb) reply new after =
-    MovesUse d w verb (activation_of n old.register.live) before reply after × (new ≡ old)
-Moves d old before w (Finish n) reply new after =
-    MovesFinish old w n (activation_of n old.register.live) reply new × (after ≡ before)
-
 -- whether there is room for the attempt after this number of lines, and a number if it is a start
 abbrev pub can_take : Present → ℕ → ℕ → ℕ → Attempt → Bool
 can_take old room lines w attempt = has_room room lines old.register.live w attempt && not (lacks_number old.register.begun attempt)
 
--- what can be taken moves, and for what can't nothing changes
-pub record Answers (d : Declaration) (old : Present) (before : List (List ℕ)) (room lines w : ℕ) (attempt : Attempt) (reply : Reply)
-    (new : Present) (after : List (List ℕ)) : Type 0 where
-  pub inside : can_take old room lines w attempt ≡ true → Moves d old before w attempt reply new after
-  pub outside : can_take old room lines w attempt ≡ false → (reply ≡ NoRoom) × (new ≡ old) × (after ≡ before)
+-- devices of a type D: what each resource contains, and what else is known when one was asked
+module _ {D : Type 0} (contents : D → List (List ℕ)) (asked : D → ℕ → Verb → Reply → D → Type 0) where
+  -- the resource r serves by its law
+  pub record IsServed (law : Law) (r : ℕ) (verb : Verb) (old : D) (reply : Reply) (new : D) : Type 0 where
+    pub serves : Serves law r verb (contents old) reply (contents new)
+    pub known : asked old r verb reply new
+
+  -- a use of the activation, if it is live, takes the devices from old to new with this reply
+  abbrev pub MovesUse : Declaration → ℕ → Verb → Option Activation → D → Reply → D → Type 0
+  MovesUse d w verb None old reply new = (reply ≡ Stale) × (new ≡ old)
+  MovesUse d w verb (Some a) old reply new =
+      (a.worker ≢ w → (reply ≡ NotYours) × (new ≡ old))
+      × (a.worker ≡ w → IsServed (law_of d (resource_of d a.op.0)) (resource_of d a.op.0) verb old reply new)
+
+  -- one attempt for which there is room takes one present and devices to others with this reply
+  abbrev pub Moves : Declaration → Present → D → ℕ → Attempt → Reply → Present → D → Type 0
+  Moves d old before w (Start a) reply new after = MovesStart (length d.operations) old w a reply new × (after ≡ before)
+  Moves d old before w (Apply n verb) reply new after =
+      MovesUse d w verb (activation_of n old.register.live) before reply after × (new ≡ old)
+  Moves d old before w (Finish n) reply new after =
+      MovesFinish old w n (activation_of n old.register.live) reply new × (after ≡ before)
+
+  -- what can be taken moves, and for what can't nothing changes
+  pub record Answers (d : Declaration) (old : Present) (before : D) (room lines w : ℕ) (attempt : Attempt) (reply : Reply) (new : Present)
+      (after : D) : Type 0 where
+    pub inside : can_take old room lines w attempt ≡ true → Moves d old before w attempt reply new after
+    pub outside : can_take old room lines w attempt ≡ false → (reply ≡ NoRoom) × (new ≡ old) × (after ≡ before)

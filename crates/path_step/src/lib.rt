@@ -4,7 +4,6 @@
 mod devices;
 mod live;
 mod moves;
-mod shelved;
 
 pub use devices::Devices;
 pub use live::Live;

@@ -1,6 +1,6 @@
 //! Who keeps the live activations.
 
-ghost use Rattle.std.specs.Prelude.{◌≡◌, ◌<◌, length, OnErr, OnOk};
+ghost use Rattle.std.specs.Prelude.{◌≡◌, ◌<◌, length, IfOk, OnErr, OnOk};
 ghost use Rattle.path_model.specs.Journals.{activation_of, without};
 ghost use Rattle.path_ledger.specs.Ledgers.{own_of};
 ghost use Rattle.path_step.specs.Steps.{Register, registered};
@@ -8,6 +8,7 @@ ghost use Rattle.path_step.specs.Steps.{Register, registered};
 use path_ledger::{EndFault, Ledger};
 use path_model::{ActId, Activation, OpId};
 use std::alloc::Allocator;
+use std::convert::Infallible;
 
 /// What keeps the live activations. Contracts see them, in the order of their starts, and how many were begun.
 pub trait Live: Drop {
@@ -15,6 +16,9 @@ pub trait Live: Drop {
 
     // There is a place for one more.
     ghost has_place: { Self → Type 0 };
+
+    /// Why an activation isn't begun.
+    type Fault;
 
     /// How many are live.
     fn count(&self) -> usize
@@ -29,11 +33,12 @@ pub trait Live: Drop {
         ensures { result ≡ activation_of act (register self.now).live };
 
     /// Appends an activation of this worker and operation, and returns its number: how many were begun before it. There has to be a place
-    /// for it.
-    fn begin(&mut self, worker: u32, op: OpId) -> ActId
+    /// for it. After a fault nothing is known of what is live.
+    fn begin(&mut self, worker: u32, op: OpId) -> Result<ActId, Self::Fault>
         requires { has_place self.old }
-        ensures number { result.0 ≡ (register self.old).begun }
-        ensures appended { register self.new ≡ registered (register self.old) (record { act = result; worker = worker; op = op }) };
+        ensures number { IfOk result (λ n. n.0 ≡ (register self.old).begun) }
+        ensures appended { IfOk result (λ n.
+            register self.new ≡ registered (register self.old) (record { act = n; worker = worker; op = op })) };
 
     /// Takes out the live activation of this number if it is this worker's own. Fails with `Stale` if none has the number, and else with
     /// `NotYours`; then nothing changes.
@@ -48,6 +53,8 @@ impl<A: Allocator + Copy> Live for Ledger<A> {
 
     ghost has_place = { λ b. (length b.live < b.room) × (b.begun < 4294967295) };
 
+    type Fault = Infallible;
+
     fn count(&self) -> usize {
         Ledger::live(self).len()
     }
@@ -60,8 +67,8 @@ impl<A: Allocator + Copy> Live for Ledger<A> {
         Ledger::find(self, act)
     }
 
-    fn begin(&mut self, worker: u32, op: OpId) -> ActId {
-        Ledger::begin(self, worker, op)
+    fn begin(&mut self, worker: u32, op: OpId) -> Result<ActId, Infallible> {
+        Ok(Ledger::begin(self, worker, op))
     }
 
     fn end_own(&mut self, worker: u32, act: ActId) -> Result<Activation, EndFault> {

@@ -1,6 +1,6 @@
 //! What one attempt does.
 
-ghost use Rattle.std.specs.Prelude.{◌≡◌, ◌+◌, ◌<◌, ◌≤◌, length};
+ghost use Rattle.std.specs.Prelude.{◌≡◌, ◌+◌, ◌<◌, ◌≤◌, length, IfOk};
 ghost use Rattle.path_model.specs.Journals.{activation_of};
 ghost use Rattle.path_step.specs.Steps.{Answers, AreReady, IsRunning, MovesFinish, MovesStart, MovesUse, present};
 
@@ -20,18 +20,18 @@ fn start<L: Live, A: Allocator + Copy>(
     live: &mut L,
     worker: u32,
     op: OpId,
-) -> Reply
+) -> Result<Reply, L::Fault>
     requires place { L.has_place live.old }
     requires admitted { gate.old.admitted < 4294967295 }
-    ensures { MovesStart operations (present gate.old (L.register live.old)) worker op result
-        (present gate.new (L.register live.new)) }
+    ensures { IfOk result (λ reply. MovesStart operations (present gate.old (L.register live.old)) worker op reply
+        (present gate.new (L.register live.new))) }
 {
     if op.0 >= operations {
-        return Reply::UnknownOperation;
+        return Ok(Reply::UnknownOperation);
     }
     match gate.admit(op) {
-        Err(path) => Reply::Blocked(path),
-        Ok(()) => Reply::Started(live.begin(worker, op)),
+        Err(path) => Ok(Reply::Blocked(path)),
+        Ok(()) => Ok(Reply::Started(live.begin(worker, op)?)),
     }
 }
 
@@ -66,16 +66,16 @@ fn apply<L: Live, D: Devices, A: Allocator + Copy>(
     worker: u32,
     act: ActId,
     verb: Verb,
-) -> Reply
+) -> Result<Reply, D::Fault>
     requires { AreReady decl.now.declaration (L.register live.now).live (D.contents devices.old) (D.has_law devices.old) }
-    ensures { MovesUse decl.now.declaration worker verb (activation_of act (L.register live.now).live) (D.contents devices.old) result
-        (D.contents devices.new) }
+    ensures { IfOk result (λ reply. MovesUse D.contents D.asked decl.now.declaration worker verb
+        (activation_of act (L.register live.now).live) devices.old reply devices.new) }
 {
     match live.find(act) {
-        None => Reply::Stale,
+        None => Ok(Reply::Stale),
         Some(activation) => {
             if activation.worker != worker {
-                return Reply::NotYours;
+                return Ok(Reply::NotYours);
             }
             let resource = resource_of(decl, activation.op).unwrap();
             let law = law_of(decl, resource).unwrap();
@@ -90,10 +90,12 @@ fn apply<L: Live, D: Devices, A: Allocator + Copy>(
 /// nothing changes.
 ///
 /// The gate and what is live agree: as many starts were admitted as activations were begun, and what is live is in progress if a path names
-/// it. Where a start has room, there is a place for its activation. Allocates nothing. The cost is that of the gate for a start or a
-/// finish, of the search for the activation for a use or a finish, and for a use that of serving it.
+/// it. Where a start has room, there is a place for its activation.
+///
+/// Fails only as `live` does at a start, and `devices` at a use. Allocates nothing of its own. The cost is that of the gate for a start or
+/// a finish, of the search for the activation for a use or a finish, and for a use that of serving it.
 #[inline(always)]
-pub fn answer<L: Live, D: Devices, A: Allocator + Copy>(
+pub fn answer<L: Live, D: Devices<Fault = L::Fault>, A: Allocator + Copy>(
     decl: &Decl<A>,
     gate: &mut Gate<A>,
     live: &mut L,
@@ -102,15 +104,15 @@ pub fn answer<L: Live, D: Devices, A: Allocator + Copy>(
     lines: u32,
     worker: u32,
     attempt: Attempt,
-) -> Reply
+) -> Result<Reply, L::Fault>
     requires ready { AreReady decl.now.declaration (L.register live.old).live (D.contents devices.old) (D.has_law devices.old) }
     requires running { IsRunning gate.old (L.register live.old) }
     requires few { lines + length (L.register live.old).live ≤ room }
     requires place { lines + length (L.register live.old).live + 2 ≤ room → (L.register live.old).begun < 4294967295
         → L.has_place live.old }
     requires admitted { gate.old.admitted ≡ (L.register live.old).begun }
-    ensures answers { Answers decl.now.declaration (present gate.old (L.register live.old)) (D.contents devices.old) room lines worker
-        attempt result (present gate.new (L.register live.new)) (D.contents devices.new) }
+    ensures answers { IfOk result (λ reply. Answers D.contents D.asked decl.now.declaration (present gate.old (L.register live.old))
+        devices.old room lines worker attempt reply (present gate.new (L.register live.new)) devices.new) }
 {
     let taken = lines as usize + live.count();
     let room = room as usize;
@@ -119,22 +121,22 @@ pub fn answer<L: Live, D: Devices, A: Allocator + Copy>(
             if taken + 2 <= room && live.begun() < u64::from(u32::MAX) {
                 start(counts(decl).operations, gate, live, worker, op)
             } else {
-                Reply::NoRoom
+                Ok(Reply::NoRoom)
             }
         }
         Attempt::Apply(act, verb) => {
             if taken + 1 <= room {
                 apply(decl, live, devices, worker, act, verb)
             } else {
-                Reply::NoRoom
+                Ok(Reply::NoRoom)
             }
         }
         Attempt::Finish(act) => {
             let reply = finish(gate, live, worker, act);
             if taken + 1 <= room || matches!(reply, Reply::Finished) {
-                reply
+                Ok(reply)
             } else {
-                Reply::NoRoom
+                Ok(Reply::NoRoom)
             }
         }
     }

@@ -15,3 +15,8 @@ abbrev pub Acts : Outcome → Bool → Reply → List ℕ → List ℕ → Type 
 Acts (serves x rest) false reply before left = (reply ≡ Used x) × (left ≡ rest)
 Acts (serves x rest) true reply before left = (reply ≡ DeviceFailed) × (left ≡ before)
 Acts (refuses r) fails reply before left = (reply ≡ r) × (left ≡ before)
+
+-- the reply says that the device failed exactly where it should fail, if the law would serve
+pub record IsLike (fails : Bool) (reply : Reply) : Type 0 where
+  pub used : (x : ℕ) → reply ≡ Used x → fails ≡ false
+  pub failed : reply ≡ DeviceFailed → fails ≡ true

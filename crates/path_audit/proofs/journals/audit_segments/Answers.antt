@@ -1,5 +1,5 @@
 -- A right segment goes on; the first wrong line ends the audit.
-use Rattle.std.proofs.Common.{◌≡◌, ◌∷◌, [], ◌++◌, ◌∙◌, List, length, take, subst, ap, sym, arith}
+use Rattle.std.proofs.Common.{◌≡◌, ◌∷◌, [], ◌++◌, ◌∙◌, List, take, subst, ap, sym, arith}
 use Rattle.std.specs.Prelude.{map}
 use Rattle.std.proofs.lemmas.List.{take_all, length-map}
 use Rattle.path_model.specs.declared.journal.Line.{Line}

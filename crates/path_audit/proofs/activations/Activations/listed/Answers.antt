@@ -1,7 +1,6 @@
 -- One more is listed if it is live.
-use Rattle.std.proofs.Common.{◌≡◌, ◌+◌, ◌++◌, ◌∷◌, [], List, Option, Some, None, length, get_or, take, ap, sym, ◌∙◌, arith}
+use Rattle.std.proofs.Common.{◌≡◌, ◌+◌, ◌++◌, ◌∷◌, [], None, length, get_or, take, ap, sym, ◌∙◌, arith}
 use Rattle.std.proofs.lemmas.List.{take_more, length-take-le}
-use Rattle.path_audit.specs.declared.activations.Owner.{Owner}
 use Rattle.path_audit.specs.Inner.Owners.{live_from}
 use Rattle.path_audit.proofs.Places.{more, no_more, activation}
 use Rattle.path_audit.proofs.activations.Activations.listed.Goals as goal

@@ -1,11 +1,11 @@
 -- A line with the owed reply goes on; the first without it is wrong.
-use Rattle.std.proofs.Common.{rules, ◌≡◌, ◌≢◌, ◌<◌, ◌∷◌, [], ◌++◌, ◌∙◌, length, get_or, subst, arith, ap, sym}
+use Rattle.std.proofs.Common.{◌≡◌, ◌≢◌, ◌∷◌, [], ◌++◌, get_or, subst, arith, sym}
 use Rattle.std.proofs.lemmas.List.{take_all}
 use Rattle.std.proofs.lemmas.Option.{slice_get-get_or}
 use Rattle.path_model.specs.declared.journal.Line.{Line}
 use Rattle.path_model.specs.declared.journal.Reply.TheVariants.{NoRoom}
-use Rattle.path_audit.specs.Judged.{AuditorValue, HasJudged, IsOwedInstead}
-use Rattle.path_audit.proofs.Answered.{ready}
+use Rattle.path_audit.specs.Judged.{AuditorValue, HasJudged}
+use Rattle.path_step.proofs.CallerLemmas.{ready, running}
 use Rattle.path_audit.proofs.Replayed.{line_at, nothing}
 use Rattle.path_audit.proofs.Segments.{begins_next, has_judged, few_lines, admitted_is, line_right, owed_instead}
 use Rattle.path_audit.proofs.auditor.Auditor.examine.Goals as goal
@@ -16,7 +16,10 @@ loop-n-init g c openings segments h =
     (subst (λ (v : AuditorValue). HasJudged v c.args.decl.now.declaration openings segments) (sym c.self.view_is) h)
 
 pub answer-requires-clause-ready : goal.answer-requires-clause-ready
-answer-requires-clause-ready g c = ready _ c.args.decl.now.lawful _ _ _ _ (c.loop-n.invariant c.requires.0 c.requires.1 c.requires.2).replayed
+answer-requires-clause-ready g c = ready _ c.args.decl.now.lawful _ _ _ _ _ (c.loop-n.invariant c.requires.0 c.requires.1 c.requires.2).replayed _ (λ r declared. tt)
+
+pub answer-requires-clause-running : goal.answer-requires-clause-running
+answer-requires-clause-running g c = running _ c.args.decl.now.lawful _ _ _ _ _ (c.loop-n.invariant c.requires.0 c.requires.1 c.requires.2).replayed
 
 pub answer-requires-clause-few : goal.answer-requires-clause-few
 answer-requires-clause-few g c = few_lines _ c.args.decl.now.lawful _ _ _ _ c.args.lines.now c.loop-n.n (c.loop-n.invariant c.requires.0 c.requires.1 c.requires.2) c.loop-n-test.true
@@ -24,8 +27,8 @@ answer-requires-clause-few g c = few_lines _ c.args.decl.now.lawful _ _ _ _ c.ar
 pub answer-requires-clause-admitted : goal.answer-requires-clause-admitted
 answer-requires-clause-admitted g c = admitted_is _ c.args.decl.now.lawful _ _ _ _ c.args.lines.now c.loop-n.n (c.loop-n.invariant c.requires.0 c.requires.1 c.requires.2) c.loop-n-test.true
 
-pub overflow_cast-line : goal.overflow_cast-line
-overflow_cast-line g c =
+pub overflow_cast-place : goal.overflow_cast-place
+overflow_cast-place g c =
     let s = c.loop-n.invariant c.requires.0 c.requires.1 c.requires.2 in
     let few = few_lines _ c.args.decl.now.lawful _ _ _ _ c.args.lines.now c.loop-n.n s c.loop-n-test.true in
     omega (arith, few, s.good_room.1)

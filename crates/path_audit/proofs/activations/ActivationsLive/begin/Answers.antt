@@ -3,7 +3,7 @@ use Rattle.std.proofs.Common.{◌≡◌, ◌+◌, ◌∷◌, [], Some, length, l
 use Rattle.path_audit.specs.declared.activations.Owner.{Owner}
 use Rattle.path_audit.specs.Inner.Owners.{live_from}
 use Rattle.path_audit.proofs.Places.{few, more, activation}
-use Rattle.path_audit.proofs.activations.Activations.begin.Goals as goal
+use Rattle.path_audit.proofs.activations.ActivationsLive.begin.Goals as goal
 
 pub overflow_add-self : goal.overflow_add-self
 overflow_add-self g c = omega (arith, few 0 c.self.inside.begun.items, c.self.invariant, c.self.inside.begun.ok.0, c.push.ensures.upper_bound, c.push.ensures.len)

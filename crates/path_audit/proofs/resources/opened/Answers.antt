@@ -2,7 +2,7 @@
 use Rattle.std.proofs.Common.{◌∙◌, rules, ◌≡◌, ◌<◌, length}
 use Rattle.std.specs.List.{each_same}
 use Rattle.path_audit.proofs.Lists.{copied}
-use Rattle.path_audit.proofs.replay.opened.Goals as goal
+use Rattle.path_audit.proofs.resources.opened.Goals as goal
 
 pub loop-opening-preserved : goal.loop-opening-preserved
 loop-opening-preserved g c =

@@ -2,7 +2,7 @@
 use Rattle.std.proofs.Common.{sym, ap, arith, ◌∙◌}
 use Rattle.path_audit.specs.Inner.Owners.{owned}
 use Rattle.path_audit.proofs.Places.{late, here}
-use Rattle.path_audit.proofs.activations.Activations.find.Goals as goal
+use Rattle.path_audit.proofs.activations.ActivationsLive.find.Goals as goal
 
 pub returns-then-place-len : goal.returns-then-place-len
 returns-then-place-len g c =

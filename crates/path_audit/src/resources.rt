@@ -1,16 +1,48 @@
-//! What a resource contains, and how its law changes that.
+//! What resources contain, and how their laws change that.
 
-ghost use Rattle.std.specs.Prelude.{◌≡◌, [], ◌∷◌, IfOk, OnOk, slice_index};
+ghost use Rattle.std.specs.Prelude.{◌≡◌, [], ◌∷◌, IfOk, OnOk, map, slice_index};
 ghost use Rattle.path_model.specs.declared.resource.Law.TheVariants as laws;
 ghost use Rattle.path_model.specs.Devices.{outcome_of, contents_left};
 ghost use Rattle.path_audit.specs.Inner.Outcomes.{IsAnswer, Acts};
 
-use path_model::{Law, OutOfMemory, Reply, Verb};
+use path_model::{Law, OutOfMemory, Reply, ResId, Verb};
+use path_step::Devices;
 use std::alloc::Allocator;
 use std::collections::VecDeque;
+use std::marker::Model;
 
 /// The numbers that a resource contains, in order.
-pub type Contents<A> = VecDeque<u64, A>;
+type Contents<A> = VecDeque<u64, A>;
+
+/// What each resource contains, and whether the device of the next use fails where its law would serve.
+#[derive(Drop)]
+pub struct Resources<A: Allocator + Copy> {
+    contents: Vec<Contents<A>, A>,
+    fails: bool,
+}
+
+impl<A: Allocator + Copy> Model for Resources<A> {
+    ghost use Rattle.std.specs.Prelude.{map};
+    ghost use Rattle.path_audit.specs.Inner.Replays.{Held};
+
+    ghost Value = { Held };
+
+    ghost view = { λ r. record { contents = map (λ held. held.items) r.contents.items; fails = r.fails } };
+}
+
+/// A copy of the contents that each opening lists. Fails only if allocation fails.
+fn opened<A: Allocator + Copy>(
+    alloc: A,
+    openings: &[Vec<u64, A>],
+) -> Result<Vec<Contents<A>, A>, OutOfMemory>
+    ensures { IfOk result (λ contents. map (λ held. held.items) contents.items ≡ map (λ opening. opening.items) openings.now) }
+{
+    let mut contents = Vec::with_capacity(alloc, openings.len())?;
+    for opening in openings {
+        contents.push(VecDeque::from_vec(opening.clone()?))?;
+    }
+    Ok(contents)
+}
 
 /// The first number; 0 if there is none.
 fn first<A: Allocator + Copy>(held: &Contents<A>) -> u64
@@ -123,7 +155,7 @@ fn change<A: Allocator + Copy>(
 
 /// The reply of a resource of this law to a verb; changes its contents. If `fails` is set and the law would serve, the reply is
 /// `DeviceFailed` and the contents stay. Fails only if allocation fails.
-pub fn act_on<A: Allocator + Copy>(
+fn act_on<A: Allocator + Copy>(
     law: Law,
     verb: Verb,
     fails: bool,
@@ -138,5 +170,47 @@ pub fn act_on<A: Allocator + Copy>(
             change(law, verb, held)?;
             Ok(Reply::Used(number))
         }
+    }
+}
+
+impl<A: Allocator + Copy> Resources<A> {
+    /// Resources that contain what the openings list. Fails only if allocation fails.
+    pub fn open(alloc: A, openings: &[Vec<u64, A>]) -> Result<Resources<A>, OutOfMemory>
+        ensures { IfOk result (λ resources. resources.contents ≡ map (λ opening. opening.items) openings.now) }
+    {
+        let contents = opened(alloc, openings)?;
+        Ok(Resources {
+            contents,
+            fails: false,
+        })
+    }
+
+    /// The device of the next use fails where its law would serve, or it doesn't.
+    pub fn set_fails(&mut self, fails: bool)
+        ensures { self.new ≡ record self.old { fails = fails } }
+    {
+        self.fails = fails;
+    }
+}
+
+impl<A: Allocator + Copy> Devices for Resources<A> {
+    ghost use Rattle.path_audit.specs.Inner.Replays.{asked};
+
+    ghost contents = { λ r. r.contents };
+
+    ghost has_law = { λ r i law. Unit {0} };
+
+    ghost asked = { λ old i verb reply new. asked old i verb reply new };
+
+    type Fault = OutOfMemory;
+
+    /// Fails only if allocation fails.
+    fn act(&mut self, law: Law, resource: ResId, verb: Verb) -> Result<Reply, OutOfMemory> {
+        act_on(
+            law,
+            verb,
+            self.fails,
+            &mut self.contents[resource.0 as usize],
+        )
     }
 }
