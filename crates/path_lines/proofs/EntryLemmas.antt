@@ -62,16 +62,13 @@ ends_first line text (none, inr (rest, e)) = (10 ∷ rest, refl, e)
 abbrev pub BeginsNoLine : List ℕ → Type 0
 BeginsNoLine text = (w : ℕ) (rest : List ℕ) → w < 2 ^ 32 → text ≢ decimal w ++ (32 ∷ rest)
 
-pub no_number : (text : List ℕ) → ((n : ℕ) (rest : List ℕ) → n < 2 ^ 64 → HasNoDigitNext rest → text ≢ decimal n ++ rest) → BeginsNoLine text
+pub no_number : (text : List ℕ) → ((n : ℕ) (rest : List ℕ) → n ≤ 4294967295 → HasNoDigitNext rest → text ≢ decimal n ++ rest) → BeginsNoLine text
 no_number text none w rest lt e = none w (32 ∷ rest) (omega (arith, lt)) (space_ends rest) e
 
-pub wide_number : (text : List ℕ) (n : ℕ) (r : List ℕ) → text ≡ decimal n ++ r → HasNoDigitNext r → n < 2 ^ 64 → (n < 2 ^ 32 → ⊥) → BeginsNoLine text
-wide_number text n r e stop fits wide w rest lt f =
-    let p = same_number text n w r (32 ∷ rest) e stop fits (omega (arith, lt)) (space_ends rest) f in
-    let same = p.0 in wide (omega (arith, same, lt))
-
-pub no_space : (text : List ℕ) (n : ℕ) (r : List ℕ) → text ≡ decimal n ++ r → HasNoDigitNext r → n < 2 ^ 64 → ((rest : List ℕ) → r ≢ 32 ∷ rest) → BeginsNoLine text
-no_space text n r e stop fits none w rest lt f = none rest (same_number text n w r (32 ∷ rest) e stop fits (omega (arith, lt)) (space_ends rest) f).1
+pub no_space : (text : List ℕ) (n : ℕ) (r : List ℕ) → (text ≡ decimal n ++ r) × (n ≤ 4294967295) × HasNoDigitNext r → ((rest : List ℕ) → r ≢ 32 ∷ rest) → BeginsNoLine text
+no_space text n r found none w rest lt f =
+    let few = found.1 in
+    none rest (same_number text n w r (32 ∷ rest) found.0 found.2 (omega (arith, few)) (omega (arith, lt)) (space_ends rest) f).1
 
 -- a text that doesn't begin with a worker's number and a space has a bad line
 pub front_fault : (d : Declaration) (text : List ℕ) → BeginsNoLine text → IsFirstFault d text line_faults.Bad

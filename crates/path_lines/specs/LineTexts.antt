@@ -45,26 +45,37 @@ attempt_text d (Finish n) = codes "finish " ++ decimal n.0
 abbrev pub line_text : Declaration → ℕ → Attempt → List ℕ
 line_text d w a = decimal w ++ (32 ∷ attempt_text d a)
 
--- a number if there is one
-abbrev pub digits : Option ℕ → List ℕ
-digits None = []
-digits (Some n) = decimal n
+-- the words of a reply
+abbrev pub reply_words : Reply → List ℕ
+reply_words (Started n) = codes "started"
+reply_words (Blocked p) = codes "blocked"
+reply_words UnknownOperation = codes "unknown operation"
+reply_words (Used x) = codes "used"
+reply_words NotOffered = codes "not offered"
+reply_words Empty = codes "empty"
+reply_words Full = codes "full"
+reply_words Overflow = codes "overflow"
+reply_words DeviceFailed = codes "device failed"
+reply_words Finished = codes "finished"
+reply_words Stale = codes "stale"
+reply_words NotYours = codes "not yours"
+reply_words NoRoom = codes "no room"
+
+-- the number of a reply: of the activation, of the path, or what the device answers
+abbrev pub reply_number : Reply → Option ℕ
+reply_number (Started n) = Some n.0
+reply_number (Blocked p) = Some p.0
+reply_number (Used x) = Some x
+reply_number r = None
+
+-- a number behind a space, if there is one
+abbrev pub spaced : Option ℕ → List ℕ
+spaced None = []
+spaced (Some n) = 32 ∷ decimal n
 
 -- a reply
 abbrev pub reply_text : Reply → List ℕ
-reply_text (Started n) = codes "started " ++ decimal n.0
-reply_text (Blocked p) = codes "blocked " ++ decimal p.0
-reply_text UnknownOperation = codes "unknown operation"
-reply_text (Used x) = codes "used " ++ decimal x
-reply_text NotOffered = codes "not offered"
-reply_text Empty = codes "empty"
-reply_text Full = codes "full"
-reply_text Overflow = codes "overflow"
-reply_text DeviceFailed = codes "device failed"
-reply_text Finished = codes "finished"
-reply_text Stale = codes "stale"
-reply_text NotYours = codes "not yours"
-reply_text NoRoom = codes "no room"
+reply_text r = reply_words r ++ spaced (reply_number r)
 
 -- a line of a journal: the attempt, a colon, a space, the reply
 abbrev pub journal_line_text : Declaration → Line → List ℕ

@@ -1,6 +1,6 @@
 //! From the first line of a text to the worker and the attempt in it.
 //!
-//! Each reader takes a text and returns what it begins with and what follows that, so a line is read in one pass.
+//! Each reader takes a text and returns what it begins with and what follows that, so a line is read in one pass; or where it stopped.
 
 ghost use Rattle.std.specs.Prelude.{◌≡◌, ◌≢◌, ◌↔◌, ℕ, ◌<◌, ◌≤◌, ◌^◌, [], ◌∷◌, ◌++◌, List, decimal, length, All, Contains};
 ghost use Rattle.std.specs.Prelude.{Some, slice_get, IsTrue, IfSome, IfNone, IfOk, IfErr, OnErr};
@@ -13,11 +13,15 @@ ghost use Rattle.path_lines.specs.LineTexts.{operation_names, operation_text, ve
 ghost use Rattle.path_lines.specs.LineTexts.{VerbFits, AttemptFits};
 ghost use Rattle.path_lines.specs.AttemptTexts.{EntryFits, IsAttemptFault, IsFirstLine, IsFirstFault, IsNoRest};
 
+use crate::stop::{Stop, Wanted, after, bad, end, keyword, last, number_to, word};
 use path_decl::{Decl, counts, operation};
-use path_fields::{at_end, last_number, number, strip, until};
+use path_fields::{number, strip, until};
 use path_lex::is_name;
 use path_model::{ActId, Attempt, OpId, Verb};
 use std::alloc::Allocator;
+
+/// The greatest number of a worker.
+const LAST_WORKER: u64 = 4_294_967_295;
 
 /// Why a line isn't an attempt.
 #[derive(Clone, Copy, Debug, PartialEq, Eq)]
@@ -40,37 +44,43 @@ pub struct FirstLine {
 }
 
 /// The verb that is the whole first line of the text, with its number if it has one, and the text from the end of that line on, which
-/// is empty or begins with a line feed; `None` if that line isn't a verb. One pass over the line; allocates nothing.
-pub fn read_verb(text: &[u8]) -> Option<(Verb, &[u8])>
-    ensures some { IfSome result (λ p. (text.now ≡ verb_text p.0 ++ p.1.now) × VerbFits p.0 × EndsAt 10 p.1.now) }
-    ensures none { IfNone result ((v : Verb) (rest : List ℕ) → VerbFits v → EndsAt 10 rest → text.now ≢ verb_text v ++ rest) }
+/// is empty or begins with a line feed; else where that line stops being a verb. One pass over the line; allocates nothing.
+pub fn read_verb(text: &[u8]) -> Result<(Verb, &[u8]), Stop>
+    ensures ok { IfOk result (λ p. (text.now ≡ verb_text p.0 ++ p.1.now) × VerbFits p.0 × EndsAt 10 p.1.now) }
+    ensures err { OnErr result ((v : Verb) (rest : List ℕ) → VerbFits v → EndsAt 10 rest → text.now ≢ verb_text v ++ rest) }
+    ensures bad { IfErr result (λ stop. stop.fault ≡ LineFault.Bad) }
 {
-    if let Some(rest) = strip(text, b"put ") {
-        let (value, rest) = last_number(rest)?;
-        return Some((Verb::Put(value), rest));
+    if let Some(rest) = keyword(text, b"put") {
+        let rest = after(rest, b" ", Wanted::Space)?;
+        let (value, rest) = last(rest, u64::MAX, Wanted::Value)?;
+        return Ok((Verb::Put(value), rest));
     }
-    if let Some(rest) = strip(text, b"look") {
-        let rest = at_end(rest)?;
-        return Some((Verb::Look, rest));
+    if let Some(rest) = keyword(text, b"look") {
+        end(rest)?;
+        return Ok((Verb::Look, rest));
     }
-    if let Some(rest) = strip(text, b"take") {
-        let rest = at_end(rest)?;
-        return Some((Verb::Take, rest));
+    if let Some(rest) = keyword(text, b"take") {
+        end(rest)?;
+        return Ok((Verb::Take, rest));
     }
-    let rest = strip(text, b"add ")?;
-    let (value, rest) = last_number(rest)?;
-    Some((Verb::Add(value), rest))
+    let Some(rest) = keyword(text, b"add") else {
+        return Err(bad(text, Wanted::Verb));
+    };
+    let rest = after(rest, b" ", Wanted::Space)?;
+    let (value, rest) = last(rest, u64::MAX, Wanted::Value)?;
+    Ok((Verb::Add(value), rest))
 }
 
 /// The activation of a use, and its verb.
-fn read_use(text: &[u8]) -> Option<(ActId, Verb, &[u8])>
-    ensures some { IfSome result (λ p. (text.now ≡ use_text p.0.0 p.1 ++ p.2.now) × (p.0.0 < 2 ^ 64) × VerbFits p.1 × EndsAt 10 p.2.now) }
-    ensures none { IfNone result ((n : ℕ) (v : Verb) (r : List ℕ) → n < 2 ^ 64 → VerbFits v → EndsAt 10 r → text.now ≢ use_text n v ++ r) }
+fn read_use(text: &[u8]) -> Result<(ActId, Verb, &[u8]), Stop>
+    ensures ok { IfOk result (λ p. (text.now ≡ use_text p.0.0 p.1 ++ p.2.now) × (p.0.0 < 2 ^ 64) × VerbFits p.1 × EndsAt 10 p.2.now) }
+    ensures err { OnErr result ((n : ℕ) (v : Verb) (r : List ℕ) → n < 2 ^ 64 → VerbFits v → EndsAt 10 r → text.now ≢ use_text n v ++ r) }
+    ensures bad { IfErr result (λ stop. stop.fault ≡ LineFault.Bad) }
 {
-    let (act, rest) = number(text)?;
-    let rest = strip(rest, b" ")?;
+    let (act, rest) = number_to(text, u64::MAX, Wanted::Activation)?;
+    let rest = after(rest, b" ", Wanted::Space)?;
     let (verb, rest) = read_verb(rest)?;
-    Some((ActId(act), verb, rest))
+    Ok((ActId(act), verb, rest))
 }
 
 /// The operation whose number follows `#`. It isn't a declared one: its number is at least `operations`.
@@ -128,55 +138,65 @@ fn read_operation<A: Allocator + Copy>(decl: &Decl<A>, text: &[u8]) -> Result<Op
     }
 }
 
+/// Where a text stops whose first line isn't an operation, but has this fault.
+fn no_operation<A: Allocator + Copy>(decl: &Decl<A>, text: &[u8], fault: LineFault) -> Stop
+    ensures { result.fault ≡ fault }
+{
+    let (name, rest) = word(text);
+    let stop = match read_operation(decl, name) {
+        Ok(_) => bad(rest, Wanted::End),
+        Err(_) => bad(text, Wanted::Operation),
+    };
+    Stop { fault, ..stop }
+}
+
 /// The attempt after the worker's number, up to the end of the line.
 fn read_attempt<'a, A: Allocator + Copy>(
     decl: &Decl<A>,
     text: &'a [u8],
-) -> Result<(Attempt, &'a [u8]), LineFault>
+) -> Result<(Attempt, &'a [u8]), Stop>
     ensures ok { IfOk result (λ p. (text.now ≡ attempt_text decl.now.declaration p.0 ++ p.1.now) × AttemptFits p.0 × EndsAt 10 p.1.now) }
     ensures err { OnErr result ((a : Attempt) (r : List ℕ)
         → AttemptFits a → EndsAt 10 r → text.now ≢ attempt_text decl.now.declaration a ++ r) }
-    ensures fault { IfErr result (λ f. (line : List ℕ) → IsFirstLine line text.now → IsAttemptFault decl.now.declaration line f) }
+    ensures fault { IfErr result (λ s. (line : List ℕ) → IsFirstLine line text.now → IsAttemptFault decl.now.declaration line s.fault) }
 {
-    if let Some(rest) = strip(text, b"use ") {
-        let (act, verb, rest) = read_use(rest).ok_or(LineFault::Bad)?;
+    if let Some(rest) = keyword(text, b"use") {
+        let rest = after(rest, b" ", Wanted::Space)?;
+        let (act, verb, rest) = read_use(rest)?;
         return Ok((Attempt::Apply(act, verb), rest));
     }
-    if let Some(rest) = strip(text, b"finish ") {
-        let (act, rest) = last_number(rest).ok_or(LineFault::Bad)?;
+    if let Some(rest) = keyword(text, b"finish") {
+        let rest = after(rest, b" ", Wanted::Space)?;
+        let (act, rest) = last(rest, u64::MAX, Wanted::Activation)?;
         return Ok((Attempt::Finish(ActId(act)), rest));
     }
-    let Some(rest) = strip(text, b"start ") else {
-        return Err(LineFault::Bad);
+    let Some(rest) = keyword(text, b"start") else {
+        return Err(bad(text, Wanted::Attempt));
     };
-    let (name, rest) = until(rest, b'\n');
-    let op = read_operation(decl, name)?;
-    Ok((Attempt::Start(op), rest))
+    let named = after(rest, b" ", Wanted::Space)?;
+    let (name, rest) = until(named, b'\n');
+    match read_operation(decl, name) {
+        Ok(op) => Ok((Attempt::Start(op), rest)),
+        Err(fault) => Err(no_operation(decl, named, fault)),
+    }
 }
 
 /// The worker and the attempt in the first line of a text, and the length of that line. The line ends at its line feed or at the end
-/// of the text; an empty text has an empty first line, which is bad. The error says why the line isn't an attempt. One pass over
-/// the line and one look-up of a name; allocates nothing.
-pub fn first_entry<A: Allocator + Copy>(decl: &Decl<A>, text: &[u8]) -> Result<FirstLine, LineFault>
+/// of the text; an empty text has an empty first line, which is bad. The error says why the line isn't an attempt, and where it stops
+/// being one. One pass over the line and one look-up of a name; allocates nothing.
+pub fn first_entry<A: Allocator + Copy>(decl: &Decl<A>, text: &[u8]) -> Result<FirstLine, Stop>
     ensures line { IfOk result (λ f. IsFirstLine (line_text decl.now.declaration f.worker f.attempt) text.now) }
     ensures fits { IfOk result (λ f. EntryFits (f.worker, f.attempt)) }
     ensures length { IfOk result (λ f. f.length ≡ length (line_text decl.now.declaration f.worker f.attempt)) }
-    ensures err { IfErr result (λ fault. IsFirstFault decl.now.declaration text.now fault) }
+    ensures err { IfErr result (λ stop. IsFirstFault decl.now.declaration text.now stop.fault) }
     // No attempts before this text make it a text of attempts.
     ensures none { OnErr result (text.now ≢ [] → IsNoRest decl.now.declaration text.now) }
 {
-    let Some((worker, rest)) = number(text) else {
-        return Err(LineFault::Bad);
-    };
-    let Ok(worker) = u32::try_from(worker) else {
-        return Err(LineFault::Bad);
-    };
-    let Some(rest) = strip(rest, b" ") else {
-        return Err(LineFault::Bad);
-    };
+    let (worker, rest) = number_to(text, LAST_WORKER, Wanted::Worker)?;
+    let rest = after(rest, b" ", Wanted::Space)?;
     let (attempt, rest) = read_attempt(decl, rest)?;
     Ok(FirstLine {
-        worker,
+        worker: worker as u32,
         attempt,
         length: text.len() - rest.len(),
     })

@@ -3,8 +3,10 @@
 
 mod entry;
 mod lines;
+mod stop;
 mod texts;
 
 pub use entry::{FirstLine, LineFault, declared, first_entry, read_verb};
-pub use lines::{push_line, push_operation, push_reply, push_told, write_line};
+pub use lines::{REPLIES, push_line, push_operation, push_reply, push_told, spelled, write_line};
+pub use stop::{Stop, Wanted, after, bad, end, keyword, last, number_to, word};
 pub use texts::{LIMIT, TextFault, fault_at, read_attempts};

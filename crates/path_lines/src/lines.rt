@@ -3,11 +3,11 @@
 ghost use Rattle.std.specs.Prelude.{◌≡◌, ◌++◌, ◌∷◌, [], codes, decimal, IfOk, OnOk};
 ghost use Rattle.std.specs.String.{string_bytes};
 ghost use Rattle.path_lines.specs.LineTexts.{verb_text, operation_text, use_text, attempt_text, line_text};
-ghost use Rattle.path_lines.specs.LineTexts.{digits, reply_text, journal_line_text};
+ghost use Rattle.path_lines.specs.LineTexts.{reply_words, reply_number, spaced, reply_text, journal_line_text};
 
 use itoa::write_digits;
 use path_decl::{Decl, op_name};
-use path_model::{ActId, Attempt, Line, OpId, OutOfMemory, Reply, Verb};
+use path_model::{ActId, Attempt, Line, OpId, OutOfMemory, PathId, Reply, Verb};
 use std::alloc::Allocator;
 
 /// Appends a verb, with its number if it has one.
@@ -64,15 +64,33 @@ fn push_attempt<A: Allocator + Copy, B: Allocator + Copy>(
     Ok(())
 }
 
-/// The words of a reply, up to its number if it has one, and that number.
-fn spelled(reply: Reply) -> (&'static str, Option<u64>)
-    ensures { reply_text reply ≡ result.0.now ++ digits result.1 }
+/// A reply of each kind, with 0 for its number if it has one.
+pub const REPLIES: &[Reply] = &[
+    Reply::Started(ActId(0)),
+    Reply::Finished,
+    Reply::Used(0),
+    Reply::Blocked(PathId(0)),
+    Reply::UnknownOperation,
+    Reply::NotOffered,
+    Reply::Empty,
+    Reply::Full,
+    Reply::Overflow,
+    Reply::DeviceFailed,
+    Reply::Stale,
+    Reply::NotYours,
+    Reply::NoRoom,
+];
+
+/// The words of a reply, and the number that follows them and a space, if it has one. Takes constant time.
+pub fn spelled(reply: Reply) -> (&'static str, Option<u64>)
+    ensures words { result.0.now ≡ reply_words reply }
+    ensures number { result.1 ≡ reply_number reply }
 {
     match reply {
-        Reply::Started(act) => ("started ", Some(act.0)),
-        Reply::Blocked(path) => ("blocked ", Some(u64::from(path.0))),
+        Reply::Started(act) => ("started", Some(act.0)),
+        Reply::Blocked(path) => ("blocked", Some(u64::from(path.0))),
         Reply::UnknownOperation => ("unknown operation", None),
-        Reply::Used(answer) => ("used ", Some(answer)),
+        Reply::Used(answer) => ("used", Some(answer)),
         Reply::NotOffered => ("not offered", None),
         Reply::Empty => ("empty", None),
         Reply::Full => ("full", None),
@@ -85,18 +103,19 @@ fn spelled(reply: Reply) -> (&'static str, Option<u64>)
     }
 }
 
-/// Appends words, a number and a line feed.
-fn push_numbered<A: Allocator + Copy>(
+/// Appends a space and a number, if there is one.
+fn push_spaced<A: Allocator + Copy>(
     out: &mut Vec<u8, A>,
-    words: &[u8],
-    number: u64,
+    number: Option<u64>,
 ) -> Result<(), OutOfMemory>
-    ensures { OnOk result (out.new.items ≡ out.old.items ++ (words.now ++ (decimal number ++ 10 ∷ []))) }
+    ensures { OnOk result (out.new.items ≡ out.old.items ++ spaced number) }
 {
-    let mut line = [b'\n'; 21];
-    let start = write_digits(number, &mut line, 20);
-    out.extend_from_slice(words)?;
-    out.extend_from_slice(&line[start..])?;
+    if let Some(number) = number {
+        let mut digits = [b'0'; 20];
+        let start = write_digits(number, &mut digits, 20);
+        out.push(b' ')?;
+        out.extend_from_slice(&digits[start..])?;
+    }
     Ok(())
 }
 
@@ -105,21 +124,11 @@ fn push_numbered<A: Allocator + Copy>(
 pub fn push_told<A: Allocator + Copy>(out: &mut Vec<u8, A>, reply: Reply) -> Result<(), OutOfMemory>
     ensures { OnOk result (out.new.items ≡ out.old.items ++ (codes ": " ++ (reply_text reply ++ 10 ∷ []))) }
 {
-    match reply {
-        Reply::Started(act) => push_numbered(out, b": started ", act.0)?,
-        Reply::Blocked(path) => push_numbered(out, b": blocked ", u64::from(path.0))?,
-        Reply::UnknownOperation => out.extend_from_slice(b": unknown operation\n")?,
-        Reply::Used(answer) => push_numbered(out, b": used ", answer)?,
-        Reply::NotOffered => out.extend_from_slice(b": not offered\n")?,
-        Reply::Empty => out.extend_from_slice(b": empty\n")?,
-        Reply::Full => out.extend_from_slice(b": full\n")?,
-        Reply::Overflow => out.extend_from_slice(b": overflow\n")?,
-        Reply::DeviceFailed => out.extend_from_slice(b": device failed\n")?,
-        Reply::Finished => out.extend_from_slice(b": finished\n")?,
-        Reply::Stale => out.extend_from_slice(b": stale\n")?,
-        Reply::NotYours => out.extend_from_slice(b": not yours\n")?,
-        Reply::NoRoom => out.extend_from_slice(b": no room\n")?,
-    }
+    let (words, number) = spelled(reply);
+    out.extend_from_slice(b": ")?;
+    out.extend_from_slice(words.as_bytes())?;
+    push_spaced(out, number)?;
+    out.push(b'\n')?;
     Ok(())
 }
 
@@ -131,7 +140,7 @@ pub fn push_reply<A: Allocator + Copy>(out: &mut String<A>, reply: Reply) -> Res
     let (words, number) = spelled(reply);
     out.push_str(words)?;
     if let Some(number) = number {
-        write!(out, "{number}")?;
+        write!(out, " {number}")?;
     }
     Ok(())
 }

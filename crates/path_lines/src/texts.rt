@@ -90,7 +90,7 @@ pub fn read_attempts<A: Allocator + Copy, B: Allocator + Copy>(
                 entries.push((line.worker, line.attempt))?;
                 rest = after_line(rest, line.length);
             }
-            Err(fault) => return Err(fault_at(entries.len() as u32, fault)),
+            Err(stop) => return Err(fault_at(entries.len() as u32, stop.fault)),
         }
     }
     Ok(entries)

@@ -19,8 +19,8 @@ loop-rest-preserved g c =
 pub returns-in-Err-clause-none : goal.returns-in-Err-clause-none
 returns-in-Err-clause-none g c = λ long memory.
     let some : c.loop-rest.rest.now ≢ [] = λ e. let k : length c.loop-rest.rest.now ≡ 0 = ap length e in grind (arith, common_steps) in
-    none_at_fault c.args.decl.now.declaration c.args.text.now c.len.result c.in-Err.fault c.args.decl.now.lawful.operation_names.each
-    (faulty c.args.decl.now.declaration c.args.text.now c.loop-rest.rest.now c.loop-rest.entries.items c.len.result c.in-Err.fault (search rules) some c.in-Err.ensures.err c.loop-rest.invariant)
+    none_at_fault c.args.decl.now.declaration c.args.text.now c.len.result c.in-Err.stop.fault c.args.decl.now.lawful.operation_names.each
+    (faulty c.args.decl.now.declaration c.args.text.now c.loop-rest.rest.now c.loop-rest.entries.items c.len.result c.in-Err.stop.fault (search rules) some c.in-Err.ensures.err c.loop-rest.invariant)
 
 pub returns-clause-one : goal.returns-clause-one
 returns-clause-one g c =
@@ -36,8 +36,8 @@ overflow_cast-len g c =
 pub returns-in-Err-clause-err : goal.returns-in-Err-clause-err
 returns-in-Err-clause-err g c =
     let some : c.loop-rest.rest.now ≢ [] = λ e. let k : length c.loop-rest.rest.now ≡ 0 = ap length e in grind (arith, common_steps) in
-    rw c.fault_at.ensures (fault_text c.args.decl.now.declaration c.args.text.now c.len.result c.in-Err.fault
-    (faulty c.args.decl.now.declaration c.args.text.now c.loop-rest.rest.now c.loop-rest.entries.items c.len.result c.in-Err.fault (c.len.ensures ∙ c.loop-rest.entries.ok.0) some c.in-Err.ensures.err c.loop-rest.invariant))
+    rw c.fault_at.ensures (fault_text c.args.decl.now.declaration c.args.text.now c.len.result c.in-Err.stop.fault
+    (faulty c.args.decl.now.declaration c.args.text.now c.loop-rest.rest.now c.loop-rest.entries.items c.len.result c.in-Err.stop.fault (c.len.ensures ∙ c.loop-rest.entries.ok.0) some c.in-Err.ensures.err c.loop-rest.invariant))
 
 pub returns-clause-ok : goal.returns-clause-ok
 returns-clause-ok g c =
