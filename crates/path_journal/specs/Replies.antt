@@ -1,20 +1,18 @@
--- The replies that have no number, by their words.
-use Rattle.std.specs.Prelude.{ℕ, if◌then◌else◌, List, codes, Option, Some, None}
-use Rattle.std.specs.Str.{bytes_eq}
+-- Kinds of replies: of one kind are those that differ by their number alone.
+use Rattle.std.specs.Prelude.{◌≢◌, ℕ, List, ◌++◌}
 use Rattle.path_model.specs.declared.journal.Reply.{Reply}
-use Rattle.path_model.specs.declared.journal.Reply.TheVariants.{UnknownOperation, NotOffered, Empty, Full}
-use Rattle.path_model.specs.declared.journal.Reply.TheVariants.{Overflow, DeviceFailed, Finished, Stale, NotYours, NoRoom}
+use Rattle.path_model.specs.declared.journal.Reply.TheVariants.{Started, Blocked, Used}
+use Rattle.path_fields.specs.Splits.{EndsAt}
+use Rattle.path_lines.specs.LineTexts.{reply_text}
+use Rattle.path_journal.specs.JournalTexts.{ReplyFits}
 
--- the reply with these words and no number
-unfoldable pub plain_reply : List ℕ → Option Reply
-plain_reply w =
-    if bytes_eq w (codes "finished") then Some Finished else
-    if bytes_eq w (codes "unknown operation") then Some UnknownOperation else
-    if bytes_eq w (codes "not offered") then Some NotOffered else
-    if bytes_eq w (codes "empty") then Some Empty else
-    if bytes_eq w (codes "full") then Some Full else
-    if bytes_eq w (codes "overflow") then Some Overflow else
-    if bytes_eq w (codes "device failed") then Some DeviceFailed else
-    if bytes_eq w (codes "stale") then Some Stale else
-    if bytes_eq w (codes "not yours") then Some NotYours else
-    if bytes_eq w (codes "no room") then Some NoRoom else None
+-- the reply of this kind with this number, if it has one
+abbrev pub with_number : Reply → ℕ → Reply
+with_number (Started m) n = Started (record { 0 = n })
+with_number (Blocked p) n = Blocked (record { 0 = n })
+with_number (Used x) n = Used n
+with_number r n = r
+
+-- a text begins with no reply of this kind that ends the line
+abbrev pub IsNone : Reply → List ℕ → Type 0
+IsNone kind text = (n : ℕ) (rest : List ℕ) → ReplyFits (with_number kind n) → EndsAt 10 rest → text ≢ reply_text (with_number kind n) ++ rest

@@ -11,7 +11,7 @@ use crate::head::read_head;
 use crate::record::first_record;
 use path_decl::Decl;
 use path_fields::{after_line, strip};
-use path_lines::{LIMIT, TextFault, fault_at};
+use path_lines::{LIMIT, Stop, TextFault, fault_at};
 use path_model::{JournalText, Line};
 use std::alloc::Allocator;
 
@@ -43,7 +43,7 @@ fn read_lines<A: Allocator + Copy, B: Allocator + Copy>(
                 lines.push(line)?;
                 rest = after_line(rest, length);
             }
-            Err(fault) => return Err(fault_at(before + lines.len() as u32, fault)),
+            Err(stop) => return Err(fault_at(before + lines.len() as u32, stop.fault)),
         }
     }
     Ok(lines)
@@ -79,7 +79,7 @@ pub fn read_journal<A: Allocator + Copy, B: Allocator + Copy>(
         let lines = read_lines(alloc, decl, text, 0)?;
         return Ok(JournalText { room: None, lines });
     };
-    let Some((room, rest)) = read_head(text) else {
+    let Ok((room, rest)) = read_head(text) else {
         return Err(TextFault::BadLine(0));
     };
     let lines = read_lines(alloc, decl, after_line(rest, 0), 1)?;
@@ -87,4 +87,14 @@ pub fn read_journal<A: Allocator + Copy, B: Allocator + Copy>(
         room: Some(room),
         lines,
     })
+}
+
+/// Where a line stops being the one of this number, counted from 0, of a journal, of which the first may be a head; `None` if it is one.
+/// Three passes over the line; allocates nothing.
+pub fn stop_in<A: Allocator + Copy>(decl: &Decl<A>, number: u32, line: &[u8]) -> Option<Stop> {
+    if number == 0 && line.starts_with(b"j") {
+        read_head(line).err()
+    } else {
+        first_record(decl, line).err()
+    }
 }

@@ -5,6 +5,8 @@ mod head;
 mod journal;
 mod record;
 mod reply;
+mod writer;
 
 pub use head::write_head;
-pub use journal::read_journal;
+pub use journal::{read_journal, stop_in};
+pub use writer::write_journal;

@@ -1,6 +1,6 @@
 //! From the first line of a text to a line of a journal.
 //!
-//! The reply is read first: a line with a wrong reply is bad, whatever its attempt.
+//! A line with a wrong reply is bad, whatever its attempt.
 
 ghost use Rattle.std.specs.Prelude.{◌≡◌, ◌≢◌, length, IfOk, IfErr, OnErr};
 ghost use Rattle.path_lines.specs.LineTexts.{line_text, journal_line_text};
@@ -11,49 +11,68 @@ ghost use Rattle.path_journal.specs.JournalFaults.{IsFirstRecordFault};
 use crate::reply::read_told;
 use path_decl::Decl;
 use path_fields::{cut, until};
-use path_lines::{LineFault, first_entry};
+use path_lines::{LineFault, Stop, Wanted, bad, first_entry};
 use path_model::{Attempt, Line};
 use std::alloc::Allocator;
 
-/// The worker and the attempt of which these bytes are the whole text.
+/// A stop in the attempt of a line, behind which so many more bytes follow: where the attempt could end, a reply has to follow.
+fn in_attempt(stop: Stop, behind: usize) -> Stop
+    ensures { result.fault ≡ stop.fault }
+{
+    let wanted = match stop.wanted {
+        Wanted::End => Wanted::Colon,
+        wanted => wanted,
+    };
+    Stop {
+        fault: stop.fault,
+        left: stop.left.saturating_add(behind),
+        wanted,
+    }
+}
+
+/// The worker and the attempt of which these bytes are the whole text; so many more bytes follow in the line.
 fn whole_entry<A: Allocator + Copy>(
     decl: &Decl<A>,
     text: &[u8],
-) -> Result<(u32, Attempt), LineFault>
+    behind: usize,
+) -> Result<(u32, Attempt), Stop>
     ensures ok { IfOk result (λ e. (text.now ≡ line_text decl.now.declaration e.0 e.1) × EntryFits e) }
     ensures err { OnErr result (IsNoEntry decl.now.declaration text.now) }
-    ensures fault { IfErr result (λ fault. IsLineFault decl.now.declaration text.now fault) }
+    ensures fault { IfErr result (λ stop. IsLineFault decl.now.declaration text.now stop.fault) }
 {
     match first_entry(decl, text) {
         Ok(line) => {
             if line.length < text.len() {
-                return Err(LineFault::Bad);
+                return Err(in_attempt(bad(&text[line.length..], Wanted::End), behind));
             }
             Ok((line.worker, line.attempt))
         }
-        Err(fault) => match cut(text, b'\n') {
-            Some(_) => Err(LineFault::Bad),
-            None => Err(fault),
+        Err(stop) => match cut(text, b'\n') {
+            Some(_) => Err(bad(text, Wanted::Worker)),
+            None => Err(in_attempt(stop, behind)),
         },
     }
 }
 
 /// The line of a journal in the first line of a text, and how many bytes it has without its line feed. The error says why there is
-/// none. Two passes over the attempt, one over the reply; allocates nothing.
-pub fn first_record<A: Allocator + Copy>(
-    decl: &Decl<A>,
-    text: &[u8],
-) -> Result<(Line, usize), LineFault>
+/// none, and where the line stops being one: in its attempt if that is none, else in its reply. Two passes over the attempt, one over
+/// the reply; allocates nothing.
+pub fn first_record<A: Allocator + Copy>(decl: &Decl<A>, text: &[u8]) -> Result<(Line, usize), Stop>
     ensures line { IfOk result (λ p. IsFirstLine (journal_line_text decl.now.declaration p.0) text.now) }
     ensures fits { IfOk result (λ p. LineFits p.0) }
     ensures length { IfOk result (λ p. p.1 ≡ length (journal_line_text decl.now.declaration p.0)) }
-    ensures err { IfErr result (λ fault. IsFirstRecordFault decl.now.declaration text.now fault) }
+    ensures err { IfErr result (λ stop. IsFirstRecordFault decl.now.declaration text.now stop.fault) }
 {
-    let (front, rest) = until(text, b':');
-    let Some((reply, rest)) = read_told(rest) else {
-        return Err(LineFault::Bad);
+    let (front, told) = until(text, b':');
+    let entry = whole_entry(decl, front, told.len());
+    let (reply, rest) = match read_told(told) {
+        Ok(read) => read,
+        Err(stop) => return Err(Stop {
+            fault: LineFault::Bad,
+            ..entry.err().unwrap_or(stop)
+        }),
     };
-    let (worker, attempt) = whole_entry(decl, front)?;
+    let (worker, attempt) = entry?;
     let line = Line {
         worker,
         attempt,

@@ -1,74 +1,85 @@
 //! From a text to the reply that it begins with.
 
-ghost use Rattle.std.specs.Prelude.{◌≡◌, ◌≢◌, ◌++◌, codes, IfSome, IfNone, List, ℕ};
+ghost use Rattle.std.specs.Prelude.{◌≡◌, ◌≢◌, ◌++◌, ◌≤◌, ◌^◌, ◌<◌, codes, IfOk, OnErr, List, ℕ};
 ghost use Rattle.path_model.specs.declared.journal.Reply.{Reply};
 ghost use Rattle.path_fields.specs.Splits.{EndsAt};
 ghost use Rattle.path_lines.specs.LineTexts.{reply_text};
 ghost use Rattle.path_journal.specs.JournalTexts.{ReplyFits};
-ghost use Rattle.path_journal.specs.Replies.{plain_reply};
+ghost use Rattle.path_journal.specs.Replies as replies;
 
-use path_fields::{last_number, strip, until};
+use path_lines::{REPLIES, Stop, Wanted, after, bad, end, keyword, last, spelled};
 use path_model::{ActId, PathId, Reply};
 
-/// The reply with these words and no number.
-#[tactic(auto, unfolding(crate::specs::Replies::plain_reply))]
-fn plain(words: &[u8]) -> Option<Reply>
-    ensures { result ≡ plain_reply words.now }
+/// The greatest number that a path can have.
+const LAST_PATH: u64 = 4_294_967_295;
+
+/// The greatest number that a reply of this kind can have.
+fn most(kind: Reply) -> u64
+    ensures fits { (n : ℕ) → n ≤ result → ReplyFits (replies.with_number kind n) }
+    ensures all { (n : ℕ) → ReplyFits (replies.with_number kind n) → n < 2 ^ 64 → n ≤ result }
 {
-    if words == b"finished".as_slice() {
-        Some(Reply::Finished)
-    } else if words == b"unknown operation".as_slice() {
-        Some(Reply::UnknownOperation)
-    } else if words == b"not offered".as_slice() {
-        Some(Reply::NotOffered)
-    } else if words == b"empty".as_slice() {
-        Some(Reply::Empty)
-    } else if words == b"full".as_slice() {
-        Some(Reply::Full)
-    } else if words == b"overflow".as_slice() {
-        Some(Reply::Overflow)
-    } else if words == b"device failed".as_slice() {
-        Some(Reply::DeviceFailed)
-    } else if words == b"stale".as_slice() {
-        Some(Reply::Stale)
-    } else if words == b"not yours".as_slice() {
-        Some(Reply::NotYours)
-    } else if words == b"no room".as_slice() {
-        Some(Reply::NoRoom)
-    } else {
-        None
+    match kind {
+        Reply::Blocked(_) => LAST_PATH,
+        _ => u64::MAX,
     }
 }
 
-/// The reply up to the end of the line, and the text from the end of the line on.
-fn read_reply(text: &[u8]) -> Option<(Reply, &[u8])>
-    ensures some { IfSome result (λ p. (text.now ≡ reply_text p.0 ++ p.1.now) × ReplyFits p.0 × EndsAt 10 p.1.now) }
-    ensures none { IfNone result ((r : Reply) (rest : List ℕ) → ReplyFits r → EndsAt 10 rest → text.now ≢ reply_text r ++ rest) }
+/// The reply of this kind with this number, if it has one.
+fn with_number(kind: Reply, number: u64) -> Reply
+    requires { ReplyFits (replies.with_number kind number) }
+    ensures { result ≡ replies.with_number kind number }
 {
-    if let Some(rest) = strip(text, b"started ") {
-        let (act, rest) = last_number(rest)?;
-        return Some((Reply::Started(ActId(act)), rest));
+    match kind {
+        Reply::Started(_) => Reply::Started(ActId(number)),
+        Reply::Blocked(_) => Reply::Blocked(PathId(number as u32)),
+        Reply::Used(_) => Reply::Used(number),
+        _ => kind,
     }
-    if let Some(rest) = strip(text, b"used ") {
-        let (answer, rest) = last_number(rest)?;
-        return Some((Reply::Used(answer), rest));
-    }
-    if let Some(rest) = strip(text, b"blocked ") {
-        let (path, rest) = last_number(rest)?;
-        let path = u32::try_from(path).ok()?;
-        return Some((Reply::Blocked(PathId(path)), rest));
-    }
-    let (words, rest) = until(text, b'\n');
-    let reply = plain(words)?;
-    Some((reply, rest))
 }
 
-/// The reply after a colon and a space, up to the end of the line, and the text from there on.
-pub fn read_told(text: &[u8]) -> Option<(Reply, &[u8])>
-    ensures some { IfSome result (λ p. (text.now ≡ codes ": " ++ (reply_text p.0 ++ p.1.now)) × ReplyFits p.0 × EndsAt 10 p.1.now) }
-    ensures none { IfNone result ((r : Reply) (rest : List ℕ)
+/// A reply of this kind up to the end of the line, and the text from there on.
+fn read_as(kind: Reply, text: &[u8]) -> Result<(Reply, &[u8]), Stop>
+    ensures ok { IfOk result (λ p. (text.now ≡ reply_text p.0 ++ p.1.now) × ReplyFits p.0 × EndsAt 10 p.1.now) }
+    ensures err { OnErr result (replies.IsNone kind text.now) }
+{
+    let (words, number) = spelled(kind);
+    let words = words.as_bytes();
+    if number.is_none() {
+        let rest = after(text, words, Wanted::Reply)?;
+        end(rest)?;
+        return Ok((kind, rest));
+    }
+    let Some(rest) = keyword(text, words) else {
+        return Err(bad(text, Wanted::Reply));
+    };
+    let rest = after(rest, b" ", Wanted::Space)?;
+    let (number, rest) = last(rest, most(kind), Wanted::ReplyNumber)?;
+    Ok((with_number(kind, number), rest))
+}
+
+/// The reply up to the end of the line, and the text from the end of the line on; else the furthest stop of those that the kinds of
+/// replies come to.
+fn read_reply(text: &[u8]) -> Result<(Reply, &[u8]), Stop>
+    ensures ok { IfOk result (λ p. (text.now ≡ reply_text p.0 ++ p.1.now) × ReplyFits p.0 × EndsAt 10 p.1.now) }
+    ensures err { OnErr result ((r : Reply) (rest : List ℕ) → ReplyFits r → EndsAt 10 rest → text.now ≢ reply_text r ++ rest) }
+{
+    let mut furthest = bad(text, Wanted::Reply);
+    for kind in REPLIES {
+        match read_as(*kind, text) {
+            Ok(read) => return Ok(read),
+            Err(stop) if stop.left < furthest.left => furthest = stop,
+            Err(_) => {}
+        }
+    }
+    Err(furthest)
+}
+
+/// The reply after a colon and a space, up to the end of the line, and the text from there on; else where the line stops being that.
+pub fn read_told(text: &[u8]) -> Result<(Reply, &[u8]), Stop>
+    ensures ok { IfOk result (λ p. (text.now ≡ codes ": " ++ (reply_text p.0 ++ p.1.now)) × ReplyFits p.0 × EndsAt 10 p.1.now) }
+    ensures err { OnErr result ((r : Reply) (rest : List ℕ)
         → ReplyFits r → EndsAt 10 rest → text.now ≢ codes ": " ++ (reply_text r ++ rest)) }
 {
-    let rest = strip(text, b": ")?;
+    let rest = after(text, b": ", Wanted::Colon)?;
     read_reply(rest)
 }

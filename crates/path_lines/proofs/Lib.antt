@@ -1,3 +1,4 @@
+pub mod Pieces
 pub mod CallerLemmas
 pub mod NameLemmas
 pub mod EntryLemmas

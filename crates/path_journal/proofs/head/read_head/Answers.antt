@@ -1,27 +1,19 @@
 -- A head names one room.
-use Rattle.std.proofs.Common.{◌≡◌, ◌++◌, decimal, arith, inl, inr}
-use Rattle.std.proofs.lemmas.Grind.{common_steps}
+use Rattle.std.proofs.Common.{◌≡◌, ◌++◌, decimal, arith}
+use Rattle.std.proofs.lemmas.Result.{err_from_is_err_and}
 use Rattle.path_journal.proofs.HeadLemmas.{behind_head, one_number}
 use Rattle.path_journal.proofs.head.read_head.Goals as goal
 
-pub returns-in_err-rest-clause-none : goal.returns-in_err-rest-clause-none
-returns-in_err-rest-clause-none c = rw c.from_residual.ensures (λ room rest is end e. c.in_err-rest.ensures (decimal room ++ rest) e)
+pub returns-in_err-named-clause-err : goal.returns-in_err-named-clause-err
+returns-in_err-named-clause-err c =
+    rw (err_from_is_err_and c.from_residual.result c.from_residual.ensures.1).1 (λ room rest is end e. c.in_err-named.ensures.err (decimal room ++ rest) e)
 
-pub returns-in_err-room-2-clause-none : goal.returns-in_err-room-2-clause-none
-returns-in_err-room-2-clause-none c =
-    rw c.from_residual-in_err-room-2.ensures (λ room rest is end e.
-    let few = is.1 in
-    let p = one_number c.in_ok-rest.rest.now c.in_ok-room.room room c.in_ok-room.rest.now rest c.in_ok-room.ensures.some.0 c.in_ok-room.ensures.some.1 c.in_ok-room.ensures.some.2 (omega (arith, few)) end (behind_head c.args.text.now c.in_ok-rest.rest.now room rest c.in_ok-rest.ensures e) in
-    let same : c.in_ok-room.room ≡ room = p.0 in
-    grind (arith, common_steps))
-
-pub returns-else-is_room-clause-none : goal.returns-else-is_room-clause-none
-returns-else-is_room-clause-none c = λ room rest is end e.
+pub returns-then-room-eq0-clause-err : goal.returns-then-room-eq0-clause-err
+returns-then-room-eq0-clause-err c = λ room rest is end e.
     let some = is.0 in
     let few = is.1 in
-    let p = one_number c.in_ok-rest.rest.now c.in_ok-room.room room c.in_ok-room.rest.now rest c.in_ok-room.ensures.some.0 c.in_ok-room.ensures.some.1 c.in_ok-room.ensures.some.2 (omega (arith, few)) end (behind_head c.args.text.now c.in_ok-rest.rest.now room rest c.in_ok-rest.ensures e) in
+    let read = c.in_ok-room.ensures.ok in
+    let zero = c.if-room-eq0.true in
+    let p = one_number c.in_ok-named.named.now c.in_ok-room.room room c.in_ok-room.rest.now rest read.0 (omega (arith, zero)) read.2 (omega (arith, few)) end (behind_head c.args.text.now c.in_ok-named.named.now room rest c.in_ok-named.ensures.ok e) in
     let same : c.in_ok-room.room ≡ room = p.0 in
-    elim (c.is_room.ensures.bad c.if-is_room.false) [
-      | inl zero ↦ absurd (grind (arith, common_steps, zero))
-      | inr over ↦ absurd (grind (arith, common_steps, over))
-    ]
+    absurd (omega (arith, same, zero, some))

@@ -13,8 +13,8 @@ loop-rest-preserved g c =
 pub returns-in-Err-clause-none : goal.returns-in-Err-clause-none
 returns-in-Err-clause-none g c = λ memory.
     let some : c.loop-rest.rest.now ≢ [] = λ e. let k : length c.loop-rest.rest.now ≡ 0 = ap length e in grind (arith, common_steps) in
-    no_lines c.args.decl.now.declaration c.args.decl.now.lawful.operation_names c.args.text.now c.len.result c.in-Err.fault
-    (records_fault c.args.decl.now.declaration c.args.text.now c.loop-rest.rest.now c.loop-rest.lines.items c.len.result c.in-Err.fault (search rules) some c.in-Err.ensures.err c.loop-rest.invariant)
+    no_lines c.args.decl.now.declaration c.args.decl.now.lawful.operation_names c.args.text.now c.len.result c.in-Err.stop.fault
+    (records_fault c.args.decl.now.declaration c.args.text.now c.loop-rest.rest.now c.loop-rest.lines.items c.len.result c.in-Err.stop.fault (search rules) some c.in-Err.ensures.err c.loop-rest.invariant)
 
 pub returns-clause-one : goal.returns-clause-one
 returns-clause-one g c =
