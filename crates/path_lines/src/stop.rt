@@ -135,7 +135,8 @@ pub fn end(text: &[u8]) -> Result<(), Stop>
     }
 }
 
-/// A number of at most `most`, without leading zeros, and what follows its last digit; else a stop at the beginning. One pass over the digits.
+/// A number of at most `most`, without leading zeros, and what follows its last digit; else a stop at the beginning. One pass over the
+/// digits.
 pub fn number_to(text: &[u8], most: u64, wanted: Wanted) -> Result<(u64, &[u8]), Stop>
     ensures ok { IfOk result (λ p. (text.now ≡ decimal p.0 ++ p.1.now) × (p.0 ≤ most) × HasNoDigitNext p.1.now) }
     ensures err { OnErr result ((n : ℕ) (rest : List ℕ) → n ≤ most → HasNoDigitNext rest → text.now ≢ decimal n ++ rest) }

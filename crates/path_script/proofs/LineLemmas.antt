@@ -35,12 +35,19 @@ no_use line r e none (uses v) fit i = none v [] fit tt (use_tail (sym e ∙ i) �
 no_use line r e none leaves fit i = let h = same_head (sym e ∙ i) in omega arith
 no_use line r e none ends fit i = let h = same_head (sym e ∙ i) in omega arith
 
--- what stands behind a verb in its line is nothing
-pub whole_use : (line r x rest : List ℕ) → HasNone 10 line → line ≡ codes "use " ++ r → r ≡ x ++ rest → EndsAt 10 rest → line ≡ codes "use " ++ x
-whole_use line r x [] clean e f end = e ∙ ap (λ v. codes "use " ++ v) (f ∙ append-nil x)
-whole_use line r x (b ∷ bs) clean e f end =
-    let whole : line ≡ (codes "use " ++ x) ++ 10 ∷ bs = e ∙ ap (λ v. codes "use " ++ v) (f ∙ ap (λ k. x ++ k ∷ bs) end) in
-    absurd (cut_none 10 (codes "use " ++ x) bs (subst (HasNone 10) whole clean))
+-- what begins with none of the words is no line
+pub no_word : (line : List ℕ) → ((rest : List ℕ) → line ≢ codes "use" ++ 32 ∷ rest) → ((rest : List ℕ) → line ≢ codes "enter" ++ 32 ∷ rest) → ((rest : List ℕ) → line ≢ codes "process" ++ 32 ∷ rest)
+    → ((rest : List ℕ) → EndsAt 10 rest → line ≢ codes "leave" ++ rest) → ((rest : List ℕ) → EndsAt 10 rest → line ≢ codes "end" ++ rest) → (l : ScriptLine) → LineFits l → line ≢ line_text l
+no_word line used entered begun left ended (begins name) fit e = begun name e
+no_word line used entered begun left ended (enters name) fit e = entered name e
+no_word line used entered begun left ended (uses v) fit e = used (verb_text v) e
+no_word line used entered begun left ended leaves fit e = left [] tt e
+no_word line used entered begun left ended ends fit e = ended [] tt e
+
+-- what stands at the end of a line is nothing
+pub whole : (line front rest : List ℕ) → HasNone 10 line → line ≡ front ++ rest → EndsAt 10 rest → line ≡ front
+whole line front [] clean e end = e ∙ append-nil front
+whole line front (b ∷ bs) clean e end = absurd (cut_none 10 front bs (subst (HasNone 10) (e ∙ ap (λ k. front ++ k ∷ bs) end) clean))
 
 process_clean : HasNone 10 (codes "process ")
 process_clean = search rules

@@ -8,5 +8,6 @@ mod steps;
 mod texts;
 
 pub use fault::ScriptFault;
+pub use line::{Form, read_form};
 pub use script::{Process, Script, Step};
 pub use texts::{LIMIT, read_script};

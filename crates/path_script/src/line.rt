@@ -1,12 +1,12 @@
 //! From a line to its form.
 
-ghost use Rattle.std.specs.Prelude.{◌≡◌, ◌≢◌, IfSome, IfNone};
+ghost use Rattle.std.specs.Prelude.{◌≡◌, ◌≢◌, ◌∷◌, ℕ, List, IfOk, OnErr};
+ghost use Rattle.path_lex.specs.Names.{IsName};
 ghost use Rattle.path_fields.specs.Splits.{HasNone};
 ghost use Rattle.path_script.specs.ScriptLines.{ScriptLine, line_of, line_text, LineFits};
 
-use path_fields::strip;
 use path_lex::is_name;
-use path_lines::read_verb;
+use path_lines::{Stop, Wanted, after, bad, end, keyword, read_verb, word};
 use path_model::Verb;
 
 /// A line of a script.
@@ -24,27 +24,50 @@ pub enum Form<'a> {
     End,
 }
 
-/// The form of a line, if it has one. Names aren't looked up.
-pub fn read_form(line: &[u8]) -> Option<Form<'_>>
-    requires { HasNone 10 line.now }
-    ensures some { IfSome result (λ f. (line.now ≡ line_text (line_of f)) × LineFits (line_of f)) }
-    ensures none { IfNone result ((l : ScriptLine) → LineFits l → line.now ≢ line_text l) }
+/// The name that follows a space and is the whole rest of a line.
+fn named(rest: &[u8], wanted: Wanted) -> Result<&[u8], Stop>
+    ensures ok { IfOk result (λ name. (rest.now ≡ 32 ∷ name.now) × IsName name.now) }
+    ensures err { OnErr result ((name : List ℕ) → IsName name → rest.now ≢ 32 ∷ name) }
 {
-    if let Some(rest) = strip(line, b"use ") {
+    let name = after(rest, b" ", Wanted::Space)?;
+    if is_name(name) {
+        return Ok(name);
+    }
+    let (first, behind) = word(name);
+    if is_name(first) {
+        Err(bad(behind, Wanted::End))
+    } else {
+        Err(bad(name, wanted))
+    }
+}
+
+/// The form of a line, which must have no line feed; else where it stops having one. Names aren't looked up. One pass over the line;
+/// allocates nothing.
+pub fn read_form(line: &[u8]) -> Result<Form<'_>, Stop>
+    requires { HasNone 10 line.now }
+    ensures ok { IfOk result (λ f. (line.now ≡ line_text (line_of f)) × LineFits (line_of f)) }
+    ensures err { OnErr result ((l : ScriptLine) → LineFits l → line.now ≢ line_text l) }
+{
+    if let Some(rest) = keyword(line, b"use") {
+        let rest = after(rest, b" ", Wanted::Space)?;
         let (verb, _) = read_verb(rest)?;
-        return Some(Form::Use(verb));
+        return Ok(Form::Use(verb));
     }
-    if let Some(name) = strip(line, b"enter ") {
-        return is_name(name).then_some(Form::Enter(name));
+    if let Some(rest) = keyword(line, b"enter") {
+        let name = named(rest, Wanted::Operation)?;
+        return Ok(Form::Enter(name));
     }
-    if let Some(name) = strip(line, b"process ") {
-        return is_name(name).then_some(Form::Process(name));
+    if let Some(rest) = keyword(line, b"process") {
+        let name = named(rest, Wanted::ProcessName)?;
+        return Ok(Form::Process(name));
     }
-    if line == b"leave".as_slice() {
-        return Some(Form::Leave);
+    if let Some(rest) = keyword(line, b"leave") {
+        end(rest)?;
+        return Ok(Form::Leave);
     }
-    if line == b"end".as_slice() {
-        return Some(Form::End);
-    }
-    None
+    let Some(rest) = keyword(line, b"end") else {
+        return Err(bad(line, Wanted::Step));
+    };
+    end(rest)?;
+    Ok(Form::End)
 }

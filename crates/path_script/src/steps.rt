@@ -52,7 +52,7 @@ fn step_said<A: Allocator + Copy>(decl: &Decl<A>, line: &[u8]) -> Result<Option<
     ensures end { IfOk result (λ said. IfNone said (line.now ≡ line_text ends)) }
     ensures err { IfErr result (λ cause. (steps entered : ℕ) → Refuses decl.now.declaration (within steps entered) line.now cause) }
 {
-    let Some(form) = read_form(line) else {
+    let Ok(form) = read_form(line) else {
         return Err(Cause::Bad);
     };
     match form {

@@ -32,7 +32,7 @@ fn read_begin(line: &[u8], processes: u32) -> Result<&[u8], Cause>
     ensures ok { IfOk result (λ name. (line.now ≡ line_text (begins name.now)) × IsName name.now × (processes < 16)) }
     ensures err { IfErr result (λ cause. (d : Declaration) → Refuses d (between processes) line.now cause) }
 {
-    let Some(form) = read_form(line) else {
+    let Ok(form) = read_form(line) else {
         return Err(Cause::Bad);
     };
     let name = match form {
