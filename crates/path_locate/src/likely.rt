@@ -1,6 +1,7 @@
 //! Likely causes that a byte tells.
 
 use crate::places::Spot;
+use path_lines::{REPLIES, spelled, word};
 use std::fmt;
 use std::fmt::Display;
 
@@ -53,7 +54,7 @@ impl Display for Likely {
     }
 }
 
-/// The words of all the languages that have no capitals.
+/// The words of the languages that have no capitals, but for those of replies.
 const WORDS: &[&str] = &[
     "start",
     "use",
@@ -72,25 +73,21 @@ const WORDS: &[&str] = &[
     "cell",
     "tally",
     "queue",
-    "started",
-    "blocked",
-    "used",
-    "finished",
-    "stale",
-    "empty",
-    "full",
-    "overflow",
     "journal",
     "room",
-    "no",
-    "not",
-    "device",
-    "unknown",
 ];
 
-/// Whether these bytes are a word of the languages, but for capitals.
+/// Whether these bytes are this word, but for capitals.
+fn is_in_capitals(token: &[u8], word: &[u8]) -> bool {
+    word != token && word.eq_ignore_ascii_case(token)
+}
+
+/// Whether these bytes are a word of the languages or the first of a reply, but for capitals.
 fn is_word_in_capitals(token: &[u8]) -> bool {
-    WORDS.iter().any(|word| word.as_bytes() != token && word.as_bytes().eq_ignore_ascii_case(token))
+    WORDS
+        .iter()
+        .any(|known| is_in_capitals(token, known.as_bytes()))
+        || REPLIES.iter().any(|reply| is_in_capitals(token, word(spelled(*reply).0.as_bytes()).0))
 }
 
 /// Whether these bytes begin with 0 and a digit.

@@ -1,99 +1,39 @@
 //! Texts of scripts.
 
 ghost use Rattle.std.specs.Prelude.{◌≡◌, IfNone, IfOk, IfSome};
+ghost use Rattle.path_fields.specs.Splits.{HasNone};
 ghost use Rattle.path_script.specs.declared.fault.ScriptFault.TheVariants as faults;
 ghost use Rattle.path_locate.specs.Places.{IsLineSpot, IsSpotBehind, script_number};
 
 use crate::finding::Finding;
 use crate::lines::{found, line_of, too_long};
-use crate::miss::{Miss, Wanted, after, at_end, missing, verb, word};
 use crate::places::behind;
 use crate::wording::Wrong;
 use path_decl::Decl;
-use path_lex::is_name;
+use path_lines::{Stop, Wanted, bad};
 use path_model::OutOfMemory;
-use path_script::{LIMIT, ScriptFault};
+use path_script::{Form, LIMIT, ScriptFault, read_form};
 use std::alloc::Allocator;
 
-/// A space and a name, and then nothing.
-fn name(rest: &[u8], wanted: Wanted) -> Result<(), Miss> {
-    let rest = after(rest, b" ", Wanted::Space)?;
-    let (name, left) = word(rest);
-    if is_name(name) {
-        at_end(left)
-    } else {
-        Err(missing(rest, wanted))
-    }
-}
-
-/// A line of a script.
-fn step(line: &[u8]) -> Result<(), Miss> {
-    let (first, rest) = word(line);
-    if first == b"process".as_slice() {
-        return name(rest, Wanted::ProcessName);
-    }
-    if first == b"enter".as_slice() {
-        return name(rest, Wanted::Operation);
-    }
-    if first == b"use".as_slice() {
-        let rest = after(rest, b" ", Wanted::Space)?;
-        return verb(rest);
-    }
-    if first == b"leave".as_slice() || first == b"end".as_slice() {
-        return at_end(rest);
-    }
-    Err(missing(line, Wanted::Step))
-}
-
-/// Whether a line begins a process.
-fn begins(line: &[u8]) -> bool {
-    word(line).0 == b"process".as_slice()
-}
-
-/// What a line wants that is right by itself, but can't stand where it does.
-fn misplaced(line: &[u8]) -> Miss {
-    if begins(line) {
-        missing(line, Wanted::Step)
-    } else {
-        missing(line, Wanted::Process)
-    }
-}
-
-/// The miss of a line that enters an operation which isn't declared.
-fn undeclared(line: &[u8]) -> Miss {
-    let (_, rest) = word(line);
-    match after(rest, b" ", Wanted::Space) {
-        Ok(rest) => missing(rest, Wanted::Operation),
-        Err(miss) => miss,
-    }
-}
-
-/// What an unbalanced line wants: to end a process, what is entered must be left first, and to use or leave, something must be entered.
-fn unbalanced(line: &[u8]) -> Miss {
-    if line == b"end".as_slice() {
-        missing(line, Wanted::ProcessEnd)
-    } else {
-        missing(line, Wanted::Entry)
-    }
-}
-
-/// The miss of a line that begins a process or takes a step past the limit.
-fn past_limit(line: &[u8]) -> Miss {
-    if begins(line) {
-        missing(line, Wanted::ScriptEnd)
-    } else {
-        missing(line, Wanted::ProcessEnd)
-    }
-}
-
-/// The miss of a line with this fault.
-fn miss_of(line: &[u8], fault: ScriptFault) -> Miss {
-    match fault {
-        ScriptFault::Undeclared(_) => undeclared(line),
-        ScriptFault::Unbalanced(_) => unbalanced(line),
-        ScriptFault::BadLine(_) => step(line).err().unwrap_or(misplaced(line)),
-        _ => past_limit(line),
-    }
+/// Where a line stops that has this fault. One that is right by itself can't stand where it does: to end a process, what is entered must
+/// be left first, and to use or leave, something must be entered.
+fn stop_of(line: &[u8], fault: ScriptFault) -> Stop
+    requires { HasNone 10 line.now }
+{
+    let form = match read_form(line) {
+        Ok(form) => form,
+        Err(stop) => return stop,
+    };
+    let wanted = match (fault, form) {
+        (ScriptFault::Undeclared(_), Form::Enter(name)) => return bad(name, Wanted::Operation),
+        (ScriptFault::BadLine(_), Form::Process(_)) => Wanted::Step,
+        (ScriptFault::BadLine(_), _) => Wanted::Process,
+        (ScriptFault::Unbalanced(_), Form::End) => Wanted::ProcessEnd,
+        (ScriptFault::Unbalanced(_), _) => Wanted::Entry,
+        (_, Form::Process(_)) => Wanted::ScriptEnd,
+        _ => Wanted::ProcessEnd,
+    };
+    bad(line, wanted)
 }
 
 /// Whether a text has no more than so many lines.
@@ -117,13 +57,13 @@ fn line_finding<'a, A: Allocator + Copy>(
 {
     let wrong = Wrong::Script(fault);
     if ends_before(text, number) {
-        let miss = missing(b"", Wanted::ProcessEnd);
-        let mut finding = found(alloc, decl, text, number, miss, wrong)?;
+        let stop = bad(b"", Wanted::ProcessEnd);
+        let mut finding = found(alloc, decl, text, number, stop, wrong)?;
         finding.likely = None;
         return Ok(finding);
     }
-    let miss = miss_of(line_of(text, number), fault);
-    found(alloc, decl, text, number, miss, wrong)
+    let stop = stop_of(line_of(text, number), fault);
+    found(alloc, decl, text, number, stop, wrong)
 }
 
 /// Where the text of a script has this fault, which [`read_script`](path_script::read_script) found in it; `None` if memory was wanting

@@ -5,12 +5,11 @@ ghost use Rattle.path_lines.specs.declared.texts.TextFault.TheVariants as faults
 ghost use Rattle.path_locate.specs.Places.{IsLineSpot, number_of};
 
 use crate::finding::Finding;
-use crate::lines::{attempt, found, line_of, too_long};
-use crate::miss::{Miss, Wanted, missing};
-use crate::records::record;
+use crate::lines::{found, line_of, too_long};
 use crate::wording::Wrong;
 use path_decl::Decl;
-use path_lines::{LIMIT, TextFault};
+use path_journal::stop_in;
+use path_lines::{LIMIT, Stop, TextFault, Wanted, bad, first_entry};
 use path_model::OutOfMemory;
 use std::alloc::Allocator;
 
@@ -24,12 +23,12 @@ pub enum TextKind {
 }
 
 /// Where the line of this number, counted from 0, stops being one of such a text; its end if it is one.
-fn miss_of<A: Allocator + Copy>(decl: &Decl<A>, kind: TextKind, number: u32, line: &[u8]) -> Miss {
-    let read = match kind {
-        TextKind::Attempts => attempt(decl, line),
-        TextKind::Journal => record(decl, number, line),
+fn stop_of<A: Allocator + Copy>(decl: &Decl<A>, kind: TextKind, number: u32, line: &[u8]) -> Stop {
+    let stop = match kind {
+        TextKind::Attempts => first_entry(decl, line).err(),
+        TextKind::Journal => stop_in(decl, number, line),
     };
-    read.err().unwrap_or(missing(b"", Wanted::End))
+    stop.unwrap_or(bad(b"", Wanted::End))
 }
 
 /// Where a text of this kind has this fault, which [`read_attempts`](path_lines::read_attempts) or
@@ -51,6 +50,6 @@ pub fn text_finding<'a, A: Allocator + Copy>(
         TextFault::BadLine(number) => (number, Wrong::Line),
         TextFault::Undeclared(number) => (number, Wrong::Undeclared),
     };
-    let miss = miss_of(decl, kind, number, line_of(text, number));
-    Ok(Some(found(alloc, decl, text, number, miss, wrong)?))
+    let stop = stop_of(decl, kind, number, line_of(text, number));
+    Ok(Some(found(alloc, decl, text, number, stop, wrong)?))
 }

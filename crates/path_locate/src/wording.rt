@@ -1,6 +1,7 @@
-//! What is wrong, in a few words.
+//! What is wrong and what could stand there, in a few words.
 
 use path_lex::DeclFault;
+use path_lines::Wanted;
 use path_script::ScriptFault;
 use std::fmt;
 use std::fmt::Display;
@@ -51,6 +52,30 @@ fn script_words(fault: ScriptFault) -> &'static str {
         ScriptFault::TooDeep(_) => "this would be the 17th operation entered at once",
         ScriptFault::TooMany(_) => "this would be the 17th process or the 4,097th step",
         ScriptFault::OutOfMemory => "out of memory",
+    }
+}
+
+/// What could stand in a line.
+pub fn wanted_words(wanted: Wanted) -> &'static str {
+    match wanted {
+        Wanted::Worker => "a worker's number, 0 to 4294967295",
+        Wanted::Space => "one space",
+        Wanted::Attempt => "`start NAME`, `use A VERB` or `finish A`",
+        Wanted::Operation => "the name of a declared operation",
+        Wanted::Activation => "the number of an activation",
+        Wanted::Verb => "`put N`, `take`, `look` or `add N`",
+        Wanted::Value => "a number, 0 to 18446744073709551615",
+        Wanted::End => "the end of the line",
+        Wanted::Colon => "`: ` and the reply",
+        Wanted::Reply => "a reply, as `started 0`, `blocked 0`, `used 0`, `finished` or `stale`",
+        Wanted::ReplyNumber => "the number of the reply",
+        Wanted::Head => "`journal 2 room N`, with N from 1 to 1048576",
+        Wanted::Process => "`process NAME`",
+        Wanted::ProcessName => "the name of a process",
+        Wanted::Step => "`enter NAME`, `use VERB`, `leave` or `end`",
+        Wanted::ProcessEnd => "`leave` for each operation that is entered, and then `end`",
+        Wanted::Entry => "`enter NAME` or `end`",
+        Wanted::ScriptEnd => "the end of the script",
     }
 }
 
