@@ -351,6 +351,54 @@ static void forks(void) {
     wanzoche_close(&w);
 }
 
+/* A line of a journal is read that has the words of this code behind its colon, and then this text. */
+static bool is_reply(uint32_t code, const char *behind) {
+    char line[64];
+    snprintf(line, sizeof line, "1 start deposit: %s%s", wanzoche_words(code), behind);
+    return audited(line, NULL).code != WANZOCHE_BAD_LINE;
+}
+
+/* Each line of this journal ends with the words of the answer that it got, and with its number if its kind has one. */
+static bool are_told(const char *journal, const wanzoche_answer *answers, size_t count) {
+    char told[64];
+    for (size_t n = 0; n < count; n++) {
+        const char *reply = strstr(journal, ": "), *next = reply == NULL ? NULL : strchr(reply, '\n');
+        if (next == NULL) return false;
+        snprintf(told, sizeof told, ": %s %llu", wanzoche_words(answers[n].code), (unsigned long long)answers[n].number);
+        if (is_reply(answers[n].code, "")) *strrchr(told, ' ') = 0;
+        strcat(told, "\n");
+        if (strncmp(reply, told, strlen(told)) || reply + strlen(told) != next + 1) return false;
+        journal = next + 1;
+    }
+    return *journal == 0;
+}
+
+/* The words of the replies are those of journals. */
+static void replies(void) {
+    wanzoche w = WANZOCHE_CLOSED_HANDLE;
+    wanzoche_answer answers[12];
+    char journal[1024];
+    CHECK(is(open_with(&w, THREE, 64, NULL), WANZOCHE_OPENED, 0));
+    answers[0] = wanzoche_start(&w, 1, 2);
+    answers[1] = wanzoche_use(&w, 1, 0, WANZOCHE_ADD, UINT64_MAX);
+    answers[2] = wanzoche_use(&w, 1, 0, WANZOCHE_ADD, 1);
+    answers[3] = wanzoche_use(&w, 1, 0, WANZOCHE_PUT, 1);
+    answers[4] = wanzoche_start(&w, 1, 3);
+    answers[5] = wanzoche_use(&w, 1, 1, WANZOCHE_TAKE, 0);
+    answers[6] = wanzoche_use(&w, 1, 1, WANZOCHE_PUT, 5);
+    answers[7] = wanzoche_use(&w, 1, 1, WANZOCHE_PUT, 6);
+    answers[8] = wanzoche_use(&w, 2, 1, WANZOCHE_LOOK, 0);
+    answers[9] = wanzoche_start(&w, 2, 4);
+    answers[10] = wanzoche_finish(&w, 1, 0);
+    answers[11] = wanzoche_finish(&w, 1, 0);
+    CHECK(answers[9].code == WANZOCHE_BLOCKED && answers[10].code == WANZOCHE_FINISHED && answers[11].code == WANZOCHE_STALE);
+    CHECK(wanzoche_journal(&w, journal, sizeof journal).code == WANZOCHE_WRITTEN && are_told(journal, answers, 12));
+    wanzoche_close(&w);
+    for (uint32_t code = WANZOCHE_STARTED; code <= WANZOCHE_NO_ROOM; code++) CHECK(is_reply(code, "") != is_reply(code, " 0"));
+    CHECK(is_reply(WANZOCHE_DEVICE_FAILED, "") && is_reply(WANZOCHE_NO_ROOM, "") && is_reply(WANZOCHE_UNKNOWN_OPERATION, ""));
+    CHECK(!is_reply(WANZOCHE_CLOSED, "") && !is_reply(WANZOCHE_NO_VERB, "") && !is_reply(WANZOCHE_CAN_START, ""));
+}
+
 static void words(void) {
     CHECK(!strcmp(wanzoche_words(WANZOCHE_BLOCKED), "blocked") && !strcmp(wanzoche_words(46), "no such code"));
     for (uint32_t code = 0; code <= WANZOCHE_TOO_MANY; code++)
@@ -371,6 +419,7 @@ int main(void) {
     rotations();
     audits();
     forks();
+    replies();
     words();
     printf("calls: %d failures\n", failures);
     return failures != 0;
