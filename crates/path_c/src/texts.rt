@@ -93,7 +93,7 @@ pub extern "C" fn path_c_report(alloc: Global, handle: &mut Handle, buffer: &mut
             let text = service.report_text(alloc);
             handle.put(service);
             match text {
-                Ok(text) => give(buffer, &text),
+                Ok(text) => give(buffer, text.as_bytes()),
                 Err(_) => plainly(OUT_OF_MEMORY),
             }
         }

@@ -11,7 +11,7 @@ use path_lines::{LineFault, first_entry, push_told};
 use path_model::{Attempt, OutOfMemory};
 use path_shelf::Device;
 use path_system::Controller;
-use path_trace::push_report;
+use path_trace::write_report;
 use std::alloc::Allocator;
 
 /// Steps the system, and appends the attempt's own line with its reply and a line feed.
@@ -41,7 +41,9 @@ fn push_present<D: Device, A: Allocator + Copy>(
     ensures { OnOk result (IsReportText system.now.declaration system.now.journal told.new.items) }
 {
     let present = system.report(alloc)?;
-    push_report(told, system.decl(), &present)
+    let text = write_report(alloc, system.decl(), &present)?;
+    told.extend_from_slice(text.as_bytes())?;
+    Ok(())
 }
 
 /// Makes `told` the answer to a line: an attempt with its reply, or the report if the line is `?`. `Some` says why the line is
@@ -69,6 +71,6 @@ pub fn answer<D: Device, A: Allocator + Copy>(
             push_reply_to(system, first.worker, first.attempt, line, told)?;
             Ok(None)
         }
-        Err(fault) => Ok(Some(fault)),
+        Err(stop) => Ok(Some(stop.fault)),
     }
 }

@@ -85,7 +85,7 @@ fn ended<D: Device, A: Allocator + Copy, R: Read, O: Write, E: Write>(
 }
 
 /// Answers the lines of the input, one after the other: an attempt with its reply in the line of [`trace_to`](path_trace::trace_to), and
-/// the line `?` with the report of the system as it is then ([`push_report`](path_trace::push_report)). Each answer is written and flushed
+/// the line `?` with the report of the system as it is then ([`write_report`](path_trace::write_report)). Each answer is written and flushed
 /// before the next line is looked at, and never waits for more of the input than its own line. A line that is neither is told on `err`,
 /// with its number counted from 0, and below that where it stops being an attempt, with its number from 1; and it is skipped. The last
 /// line may lack its line feed.

@@ -4,8 +4,7 @@ ghost use Rattle.std.specs.Prelude.{◌≡◌, ◌≢◌, ◌⊎◌, ◌++◌, S
 ghost use Rattle.std.specs.String.{string_bytes};
 ghost use Rattle.std.specs.Io.KnownBytes.{Appends, Keeps};
 ghost use Rattle.path_model.specs.Rooms.{IsRoom, IsBadRoom};
-ghost use Rattle.path_journal.specs.JournalTexts.{lines_text};
-ghost use Rattle.path_journal.specs.JournalTexts as texts;
+ghost use Rattle.path_journal.specs.JournalTexts.{journal_text};
 ghost use Rattle.path_streams.specs.Refusals.{IsNoDeclaration};
 ghost use Rattle.path_streams.specs.Statuses.{status_of};
 ghost use Rattle.path_streams.specs.Writes.{AppendsSome, IsFrontOf};
@@ -16,9 +15,7 @@ ghost use Rattle.path_processes.specs.RunTexts.{IsBadScript, IsBadScriptUnder, I
 
 use crate::ends::{ends_text, status_of_ends};
 use path_decl::Decl;
-use path_journal::write_head;
-use path_lines::push_line;
-use path_model::{Line, OutOfMemory};
+use path_journal::write_journal;
 use path_run::{AlwaysOpen, End, Outcome, RunFault, run};
 use path_script::{Script, read_script};
 use path_shelf::Device;
@@ -30,37 +27,6 @@ use std::alloc::Allocator;
 use std::io::Write;
 use std::sync::Wait;
 use std::thread::Threads;
-
-/// Appends lines of a journal, each with a line feed.
-fn push_lines<A: Allocator + Copy>(
-    text: &mut String<A>,
-    decl: &Decl<A>,
-    lines: &[Line],
-) -> Result<(), OutOfMemory>
-    ensures { OnOk result (string_bytes text.new ≡ string_bytes text.old ++ lines_text decl.now.declaration lines.now) }
-{
-    for line in lines {
-        push_line(text, decl, line)?;
-        text.push_str("\n")?;
-    }
-    Ok(())
-}
-
-/// The text of a journal with room for that many lines, in version 2. Fails only if allocation fails.
-fn journal_text<A: Allocator + Copy>(
-    alloc: A,
-    decl: &Decl<A>,
-    room: u32,
-    lines: &[Line],
-) -> Result<String<A>, OutOfMemory>
-    requires { IsRoom room }
-    ensures { IfOk result (λ text. string_bytes text ≡ texts.journal_text decl.now.declaration (Some room) lines.now) }
-{
-    let mut text = write_head(alloc, room)?;
-    text.push_str("\n")?;
-    push_lines(&mut text, decl, lines)?;
-    Ok(text)
-}
 
 /// What is told of a run that has no outcome.
 fn no_outcome<S: Steps>(fault: RunFault<S>) -> Fault<'static>
@@ -121,15 +87,15 @@ fn tell_outcome<D: Device, A: Allocator + Copy, O: Write, E: Write>(
     requires room { IsRoom room }
     requires ends { length outcome.now.ends.items ≡ length script.now.processes }
     ensures done { result ≡ Status.Done → AllDone outcome.now.ends.items × Appends (O.contents out.old) (O.contents out.new)
-        (texts.journal_text outcome.now.system.declaration (Some room) outcome.now.system.journal) }
+        (journal_text outcome.now.system.declaration (Some room) outcome.now.system.journal) }
     ensures unsound { result ≡ Status.Unsound → NotAllDone outcome.now.ends.items × Appends (O.contents out.old) (O.contents out.new)
-        (texts.journal_text outcome.now.system.declaration (Some room) outcome.now.system.journal) }
+        (journal_text outcome.now.system.declaration (Some room) outcome.now.system.journal) }
     ensures memory { result ≡ Status.NoMemory → AppendsSome (O.contents out.old) (O.contents out.new)
-        (IsFrontOf (λ all. all ≡ texts.journal_text outcome.now.system.declaration (Some room) outcome.now.system.journal)) }
+        (IsFrontOf (λ all. all ≡ journal_text outcome.now.system.declaration (Some room) outcome.now.system.journal)) }
     ensures statuses { (result ≡ Status.Done) ⊎ (result ≡ Status.Unsound) ⊎ (result ≡ Status.StreamFailed) ⊎ (result ≡ Status.NoMemory) }
 {
     let decl = outcome.system.decl();
-    let Ok(journal) = journal_text(alloc, decl, room, outcome.system.journal()) else {
+    let Ok(journal) = write_journal(alloc, decl, Some(room), outcome.system.journal()) else {
         return tell(err, Fault::OutOfMemory);
     };
     let Ok(ends) = ends_text(alloc, decl, script.processes(), &outcome.ends) else {

@@ -5,4 +5,5 @@ mod declaration;
 mod fields;
 mod journals;
 mod lines;
+mod stops;
 mod verbs;

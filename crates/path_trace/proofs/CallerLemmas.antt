@@ -4,5 +4,3 @@
 pub use Rattle.path_trace.proofs.OwnLemmas.{own_room, unfailing}
 -- how a call ends that was refused its declaration
 pub use Rattle.path_trace.proofs.FaultLemmas.{ends_undeclared, no_front}
--- a loop that appends a piece for each item
-pub use Rattle.path_trace.proofs.ReportLemmas.{piece_more}

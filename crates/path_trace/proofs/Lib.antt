@@ -2,5 +2,4 @@ pub mod FaultLemmas
 pub mod TraceLemmas
 pub mod FailLemmas
 pub mod OwnLemmas
-pub mod ReportLemmas
 pub mod CallerLemmas

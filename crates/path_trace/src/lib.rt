@@ -6,5 +6,5 @@ mod report;
 mod trace;
 
 pub use own::{own_devices, read_own};
-pub use report::push_report;
+pub use report::write_report;
 pub use trace::{ROOM, trace_bytes, trace_to};

@@ -12,7 +12,7 @@ ghost use Rattle.path_trace.specs.Traces.{GrowsBehind, IsAnswered, IsToldBy, IsT
 ghost use Rattle.path_trace.specs.Traces.{IsBadAttempts, IsBadText, IsBadTextUnder, IsRefused, LacksRoomUnder, LacksSystem};
 
 use crate::own::read_own;
-use crate::report::push_report;
+use crate::report::write_report;
 use path_decl::Decl;
 use path_fields::after_line;
 use path_lines::{LIMIT, TextFault, fault_at, first_entry, push_told, read_attempts};
@@ -94,7 +94,7 @@ fn answers<D: Device, A: Allocator + Copy>(
     while !rest.is_empty() {
         let first = match first_entry(system.decl(), rest) {
             Ok(first) => first,
-            Err(fault) => return Err(Fault::Text(fault_at(number, fault))),
+            Err(stop) => return Err(Fault::Text(fault_at(number, stop.fault))),
         };
         let line = &rest[..first.length];
         answer(system, first.worker, first.attempt, line, &mut trace, made)?;
@@ -116,7 +116,8 @@ fn push_report_if<D: Device, A: Allocator + Copy>(
 {
     if report {
         let present = system.report(alloc)?;
-        push_report(trace, system.decl(), &present)?;
+        let text = write_report(alloc, system.decl(), &present)?;
+        trace.extend_from_slice(text.as_bytes())?;
     }
     Ok(())
 }
@@ -216,7 +217,7 @@ fn hint_at_room<E: Write>(err: &mut E, made: Made) {
 }
 
 /// Reads attempts, steps a system over the devices through them, and writes each with its reply, one line each; then, if `report` is
-/// set, the report of the system as it is then ([`push_report`]). Writes nothing before the whole text has been read. The journal has
+/// set, the report of the system as it is then ([`write_report`]). Writes nothing before the whole text has been read. The journal has
 /// room for `room` lines; an attempt without room gets the reply `no room`. The cost is that of the text, of opening the system, of a
 /// step for each attempt, and of the report.
 ///

@@ -67,7 +67,7 @@ fn reads_attempts(rt: HostRuntime) {
 
 // The attempt in the first line of a text.
 fn first_line(decl: &Decl, text: &str) -> Result<FirstLine, LineFault> {
-    first_entry(decl, text.as_bytes())
+    first_entry(decl, text.as_bytes()).map_err(|stop| stop.fault)
 }
 
 // Checks the first line of each text: the worker, the attempt, and its length.

@@ -2,7 +2,7 @@
 
 use crate::tests::declaration::declared;
 use path_decl::Decl;
-use path_journal::{read_journal, write_head};
+use path_journal::{read_journal, write_head, write_journal};
 use path_lines::{TextFault, write_line};
 use path_model::{ActId, Attempt, Line, MOST_LINES, OpId, OutOfMemory, PathId, Reply, Verb};
 use std::alloc::{Allocator, Global};
@@ -367,5 +367,50 @@ fn each_request_of_a_journal_is_refused(rt: HostRuntime) {
     refuse_while_reading(&rt, rt.alloc(), &decl, first, None);
     let second = "journal 2 room 2\n1 start deposit: started 0\n1 finish 0: finished";
     refuse_while_reading(&rt, rt.alloc(), &decl, second, Some(2));
+    drop(decl);
+}
+
+/// A line that was admitted, and one that wasn't.
+const WRITTEN: [Line; 2] = [
+    Line {
+        worker: 1,
+        attempt: Attempt::Start(OpId(0)),
+        reply: Reply::Started(ActId(0)),
+    },
+    Line {
+        worker: 2,
+        attempt: Attempt::Start(OpId(7)),
+        reply: Reply::UnknownOperation,
+    },
+];
+
+// Whether the journal of these lines has this text.
+fn is_written_so<A: Allocator + Copy>(
+    alloc: A,
+    decl: &Decl,
+    room: Option<u32>,
+    want: &str,
+) -> Result<bool, OutOfMemory> {
+    if room == Some(0) || room > Some(MOST_LINES) {
+        return Ok(false);
+    }
+    let text = write_journal(alloc, decl, room, &WRITTEN)?;
+    let is_so = text.as_str() == want;
+    drop(text);
+    Ok(is_so)
+}
+
+#[test]
+fn writes_journals_of_both_versions(rt: HostRuntime) {
+    let decl = declared(&rt, rt.alloc(), DECLARATION);
+    let (old, new) = (
+        "1 start deposit: started 0\n2 start #7: unknown operation\n",
+        "journal 2 room 9\n1 start deposit: started 0\n2 start #7: unknown operation\n",
+    );
+    assert_eq!(rt; is_written_so(rt.alloc(), &decl, None, old), Ok(true));
+    let refused = refuse_in_turn(rt.alloc(), OutOfMemory, |heap: &Refusing<Global>| {
+        is_written_so(heap, &decl, Some(9), new)
+    });
+    assert_eq!(rt; refused, Ok(()));
     drop(decl);
 }

@@ -20,6 +20,6 @@ returns-in-Err-clause-refused g c = (
   refl,
   (
     is_other _ _ _ _ c.as_slice.ensures c.if-eq.false c.eq.ensures,
-    refused_line c.decl.result.now.declaration c.args.system.now.declaration c.args.line.now c.in-Err.fault c.decl.ensures c.requires.one c.in-Err.ensures.err,
+    refused_line c.decl.result.now.declaration c.args.system.now.declaration c.args.line.now c.in-Err.stop.fault c.decl.ensures c.requires.one c.in-Err.ensures.err,
   ),
 )

@@ -12,7 +12,7 @@ loop-rest-init g c = answers_none _ c.args.system.now c.args.attempts.now _ c.in
 
 pub returns-in-Err-clause-err : goal.returns-in-Err-clause-err
 returns-in-Err-clause-err g c =
-    rw c.fault_at.ensures (refuses_line c.args.system.now.declaration c.args.attempts.now c.loop-rest.number c.in-Err.fault
+    rw c.fault_at.ensures (refuses_line c.args.system.now.declaration c.args.attempts.now c.loop-rest.number c.in-Err.stop.fault
     (answers_refuted _ c.args.system.now c.loop-rest.system c.decl.result.now.declaration c.args.attempts.now c.loop-rest.rest.now _ c.loop-rest.number c.decl.ensures (grind (arith, common_steps)) c.in-Err.ensures.none c.loop-rest.invariant))
 
 pub slice_bounds-line-end : goal.slice_bounds-line-end

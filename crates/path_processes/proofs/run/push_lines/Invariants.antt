@@ -1,8 +1,0 @@
--- The lines so far.
-use Rattle.std.proofs.Common.{◌≡◌, ◌++◌, take}
-use Rattle.std.specs.String.{string_bytes}
-use Rattle.path_journal.specs.JournalTexts.{lines_text}
-use Rattle.path_processes.proofs.run.push_lines.Given as goal
-
-abbrev pub invariant-loop-line : goal.invariant-loop-line
-invariant-loop-line g l = string_bytes l.text ≡ string_bytes l.fn.text ++ lines_text l.decl.declaration (take l.line-index l.lines)
