@@ -2,9 +2,7 @@
 
 ghost use Rattle.std.specs.Prelude.{◌≡◌, ◌≢◌, ℕ, ◌<◌, ◌^◌, ◌++◌, decimal, drop, length, slice_index, IfSome, IfNone, List};
 ghost use Rattle.std.specs.Bool.{OnTrue, OnFalse};
-ghost use Rattle.path_fields.specs.Splits.{EndsAt, IsDigit, HasNoDigitNext};
-
-use crate::split::at_end;
+ghost use Rattle.path_fields.specs.Splits.{IsDigit, HasNoDigitNext};
 
 /// Whether there is a digit at this index of the text.
 fn has_digit(text: &[u8], at: usize) -> bool
@@ -38,15 +36,4 @@ pub fn number(text: &[u8]) -> Option<(u64, &[u8])>
         return None;
     }
     Some((value, &text[at..]))
-}
-
-/// The number that is the whole first line of the text, and the text from the end of that line on, which is empty or begins
-/// with a line feed; `None` if that line isn't a number. Numbers are as those of [`number`]. One pass over the digits.
-pub fn last_number(text: &[u8]) -> Option<(u64, &[u8])>
-    ensures some { IfSome result (λ p. (text.now ≡ decimal p.0 ++ p.1.now) × (p.0 < 2 ^ 64) × EndsAt 10 p.1.now) }
-    ensures none { IfNone result ((n : ℕ) (rest : List ℕ) → n < 2 ^ 64 → EndsAt 10 rest → text.now ≢ decimal n ++ rest) }
-{
-    let (value, rest) = number(text)?;
-    let rest = at_end(rest)?;
-    Some((value, rest))
 }

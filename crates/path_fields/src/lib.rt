@@ -4,5 +4,5 @@
 mod digits;
 mod split;
 
-pub use digits::{last_number, number};
+pub use digits::number;
 pub use split::{after_line, at_end, cut, strip, until};

@@ -1,6 +1,7 @@
 //! Fields of texts.
 
-use path_fields::{after_line, at_end, cut, last_number, number, strip, until};
+use path_fields::{after_line, at_end, cut, number, strip, until};
+use path_lines::{Wanted, last};
 use std::process::Abort;
 
 // Whether a text begins with this number, and goes on with this rest.
@@ -108,7 +109,7 @@ fn ends_of_lines(rt: HostRuntime) {
 
 // The number that is a whole line, and the rest of the text.
 fn ending(text: &[u8]) -> Option<(u64, &[u8])> {
-    last_number(text)
+    last(text, u64::MAX, Wanted::Value).ok()
 }
 
 #[test]
