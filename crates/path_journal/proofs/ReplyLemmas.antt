@@ -54,17 +54,8 @@ no_feed d = let low = d.0 in omega (arith, low)
 pub reply_is_line : (r : Reply) → ReplyFits r → HasNone 10 (reply_text r)
 reply_is_line (Started n) h = none_joined 10 (codes "started ") (decimal n.0) (search rules) (none_in_number 10 n.0 no_feed h)
 reply_is_line (Blocked p) h = none_joined 10 (codes "blocked ") (decimal p.0) (search rules) (none_in_number 10 p.0 no_feed (omega (arith, h)))
-reply_is_line UnknownOperation h = search rules
 reply_is_line (Used x) h = none_joined 10 (codes "used ") (decimal x) (search rules) (none_in_number 10 x no_feed h)
-reply_is_line NotOffered h = search rules
-reply_is_line Empty h = search rules
-reply_is_line Full h = search rules
-reply_is_line Overflow h = search rules
-reply_is_line DeviceFailed h = search rules
-reply_is_line Finished h = search rules
-reply_is_line Stale h = search rules
-reply_is_line NotYours h = search rules
-reply_is_line NoRoom h = search rules
+reply_is_line r h = search rules
 
 -- each reply is of a kind in the table
 pub each_kind : (text : List ℕ) → All (λ k. IsNone k text) REPLIES.now → (r : Reply) (rest : List ℕ) → ReplyFits r → EndsAt 10 rest → text ≢ reply_text r ++ rest

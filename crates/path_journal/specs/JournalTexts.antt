@@ -2,8 +2,7 @@
 use Rattle.std.specs.Prelude.{◌≡◌, ℕ, ◌<◌, ◌^◌, List, [], ◌∷◌, ◌++◌, codes, decimal, All, ◌⊎◌, Option, Some, None}
 use Rattle.std.specs.List.{flat_map}
 use Rattle.path_model.specs.declared.journal.Reply.{Reply}
-use Rattle.path_model.specs.declared.journal.Reply.TheVariants.{Started, Blocked, UnknownOperation, Used, NotOffered, Empty, Full}
-use Rattle.path_model.specs.declared.journal.Reply.TheVariants.{Overflow, DeviceFailed, Finished, Stale, NotYours, NoRoom}
+use Rattle.path_model.specs.declared.journal.Reply.TheVariants.{Started, Blocked, Used}
 use Rattle.path_model.specs.declared.journal.Line.{Line}
 use Rattle.path_model.specs.Declarations.{Declaration}
 use Rattle.path_model.specs.Rooms.{IsRoom}
@@ -13,17 +12,8 @@ use Rattle.path_lines.specs.LineTexts.{AttemptFits, journal_line_text}
 abbrev pub ReplyFits : Reply → Type 0
 ReplyFits (Started n) = n.0 < 2 ^ 64
 ReplyFits (Blocked p) = p.0 < 2 ^ 32
-ReplyFits UnknownOperation = Unit {0}
 ReplyFits (Used x) = x < 2 ^ 64
-ReplyFits NotOffered = Unit {0}
-ReplyFits Empty = Unit {0}
-ReplyFits Full = Unit {0}
-ReplyFits Overflow = Unit {0}
-ReplyFits DeviceFailed = Unit {0}
-ReplyFits Finished = Unit {0}
-ReplyFits Stale = Unit {0}
-ReplyFits NotYours = Unit {0}
-ReplyFits NoRoom = Unit {0}
+ReplyFits r = Unit {0}
 
 -- a worker's number has at most 32 bits
 pub record LineFits (l : Line) : Type 0 where

@@ -33,21 +33,10 @@ tail_four e = cc
 
 pub verb_once : (u v : Verb) → VerbFits u → VerbFits v → verb_text u ≡ verb_text v → u ≡ v
 verb_once (Put x) (Put y) h k e = ap Put (decimal_injective x y h k (tail_four e))
-verb_once (Put x) Take h k e = let i = same_head e in absurd (omega arith)
-verb_once (Put x) Look h k e = let i = same_head e in absurd (omega arith)
-verb_once (Put x) (Add y) h k e = let i = same_head e in absurd (omega arith)
-verb_once Take (Put y) h k e = let i = same_head e in absurd (omega arith)
 verb_once Take Take h k e = refl
-verb_once Take Look h k e = let i = same_head e in absurd (omega arith)
-verb_once Take (Add y) h k e = let i = same_head e in absurd (omega arith)
-verb_once Look (Put y) h k e = let i = same_head e in absurd (omega arith)
-verb_once Look Take h k e = let i = same_head e in absurd (omega arith)
 verb_once Look Look h k e = refl
-verb_once Look (Add y) h k e = let i = same_head e in absurd (omega arith)
-verb_once (Add x) (Put y) h k e = let i = same_head e in absurd (omega arith)
-verb_once (Add x) Take h k e = let i = same_head e in absurd (omega arith)
-verb_once (Add x) Look h k e = let i = same_head e in absurd (omega arith)
 verb_once (Add x) (Add y) h k e = ap Add (decimal_injective x y h k (tail_four e))
+verb_once u v h k e = let i = same_head e in absurd (omega (arith, i))
 
 tail_one : {x y : ℕ} {xs ys : List ℕ} → x ∷ xs ≡ y ∷ ys → xs ≡ ys
 tail_one e = cc
@@ -92,17 +81,12 @@ act_once m n e = ap (λ (k : ℕ). let o : ActId = record { 0 = k } in o) e
 
 attempt_once : (d : Declaration) (a b : Attempt) → AreDistinctNames (operation_names d) → AttemptFits a → AttemptFits b → attempt_text d a ≡ attempt_text d b → a ≡ b
 attempt_once d (Start a) (Start b) names h k e = ap Start (operation_once d a b names h k (tail_three (tail_three e)))
-attempt_once d (Start a) (Apply n v) names h k e = let i = same_head e in absurd (omega arith)
-attempt_once d (Start a) (Finish n) names h k e = let i = same_head e in absurd (omega arith)
-attempt_once d (Apply m u) (Start b) names h k e = let i = same_head e in absurd (omega arith)
 attempt_once d (Apply m u) (Apply n v) names h k e =
     let p = use_once m.0 n.0 u v h.0 k.0 h.1 k.1 (tail_four e) in
     let same : m ≡ n = act_once m n p.0 in
     ap (λ (x : ActId). Apply x u) same ∙ ap (λ (x : Verb). Apply n x) p.1
-attempt_once d (Apply m u) (Finish n) names h k e = let i = same_head e in absurd (omega arith)
-attempt_once d (Finish m) (Start b) names h k e = let i = same_head e in absurd (omega arith)
-attempt_once d (Finish m) (Apply n v) names h k e = let i = same_head e in absurd (omega arith)
 attempt_once d (Finish m) (Finish n) names h k e = ap Finish (act_once m n (decimal_injective m.0 n.0 h k (tail_three (tail_four e))))
+attempt_once d a b names h k e = let i = same_head e in absurd (omega (arith, i))
 
 pub entry_once : (d : Declaration) (e f : Entry) → AreDistinctNames (operation_names d) → EntryFits e → EntryFits f → line_text d e.0 e.1 ≡ line_text d f.0 f.1 → e ≡ f
 entry_once d e f names h k same =

@@ -29,11 +29,8 @@ no_short e = let i = same_third e in omega arith
 
 -- what begins as a use and has no verb behind it is no line
 pub no_use : (line r : List ℕ) → line ≡ codes "use " ++ r → ((v : Verb) (rest : List ℕ) → VerbFits v → EndsAt 10 rest → r ≢ verb_text v ++ rest) → (l : ScriptLine) → LineFits l → line ≢ line_text l
-no_use line r e none (begins name) fit i = let h = same_head (sym e ∙ i) in omega arith
-no_use line r e none (enters name) fit i = let h = same_head (sym e ∙ i) in omega arith
 no_use line r e none (uses v) fit i = none v [] fit tt (use_tail (sym e ∙ i) ∙ sym (append-nil (verb_text v)))
-no_use line r e none leaves fit i = let h = same_head (sym e ∙ i) in omega arith
-no_use line r e none ends fit i = let h = same_head (sym e ∙ i) in omega arith
+no_use line r e none l fit i = let h = same_head (sym e ∙ i) in omega (arith, h)
 
 -- what begins with none of the words is no line
 pub no_word : (line : List ℕ) → ((rest : List ℕ) → line ≢ codes "use" ++ 32 ∷ rest) → ((rest : List ℕ) → line ≢ codes "enter" ++ 32 ∷ rest) → ((rest : List ℕ) → line ≢ codes "process" ++ 32 ∷ rest)
@@ -71,36 +68,16 @@ line_clean ends fit = search rules
 
 -- no line is empty
 pub line_some : (l : ScriptLine) → line_text l ≢ []
-line_some (begins name) e = cc
-line_some (enters name) e = cc
 line_some (uses v) e = cc
-line_some leaves e = cc
-line_some ends e = cc
+line_some l e = cc
 
 -- a text is that of one line
 pub line_once : (l m : ScriptLine) → LineFits l → LineFits m → line_text l ≡ line_text m → l ≡ m
 line_once (begins x) (begins y) h k e = ap begins (process_tail e)
-line_once (begins x) (enters y) h k e = let i = same_head e in absurd (omega arith)
-line_once (begins x) (uses v) h k e = let i = same_head e in absurd (omega arith)
-line_once (begins x) leaves h k e = let i = same_head e in absurd (omega arith)
-line_once (begins x) ends h k e = let i = same_head e in absurd (omega arith)
-line_once (enters x) (begins y) h k e = let i = same_head e in absurd (omega arith)
 line_once (enters x) (enters y) h k e = ap enters (enter_tail e)
-line_once (enters x) (uses v) h k e = let i = same_head e in absurd (omega arith)
-line_once (enters x) leaves h k e = let i = same_head e in absurd (omega arith)
 line_once (enters x) ends h k e = absurd (no_short (sym e))
-line_once (uses v) (begins y) h k e = let i = same_head e in absurd (omega arith)
-line_once (uses v) (enters y) h k e = let i = same_head e in absurd (omega arith)
 line_once (uses v) (uses w) h k e = ap uses (verb_once v w h k (use_tail e))
-line_once (uses v) leaves h k e = let i = same_head e in absurd (omega arith)
-line_once (uses v) ends h k e = let i = same_head e in absurd (omega arith)
-line_once leaves (begins y) h k e = let i = same_head e in absurd (omega arith)
-line_once leaves (enters y) h k e = let i = same_head e in absurd (omega arith)
-line_once leaves (uses w) h k e = let i = same_head e in absurd (omega arith)
 line_once leaves leaves h k e = refl
-line_once leaves ends h k e = let i = same_head e in absurd (omega arith)
-line_once ends (begins y) h k e = let i = same_head e in absurd (omega arith)
 line_once ends (enters y) h k e = absurd (no_short e)
-line_once ends (uses w) h k e = let i = same_head e in absurd (omega arith)
-line_once ends leaves h k e = let i = same_head e in absurd (omega arith)
 line_once ends ends h k e = refl
+line_once l m h k e = let i = same_head e in absurd (omega (arith, i))
