@@ -6,7 +6,7 @@ ghost use Rattle.path_fields.specs.Splits.{EndsAt};
 ghost use Rattle.path_model.specs.Rooms.{IsRoom};
 ghost use Rattle.path_journal.specs.JournalTexts.{head_text};
 
-use path_lines::{Stop, Wanted, after, bad, last};
+use path_lines::{Stop, Wanted, after, last, stop_at};
 use path_model::{MOST_LINES, OutOfMemory};
 use std::alloc::Allocator;
 
@@ -18,7 +18,7 @@ pub fn read_head(text: &[u8]) -> Result<(u32, &[u8]), Stop>
     let named = after(text, b"journal 2 room ", Wanted::Head)?;
     let (room, rest) = last(named, u64::from(MOST_LINES), Wanted::Head)?;
     if room == 0 {
-        return Err(bad(named, Wanted::Head));
+        return Err(stop_at(named, Wanted::Head));
     }
     Ok((room as u32, rest))
 }

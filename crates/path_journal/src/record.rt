@@ -11,7 +11,7 @@ ghost use Rattle.path_journal.specs.JournalFaults.{IsFirstRecordFault};
 use crate::reply::read_told;
 use path_decl::Decl;
 use path_fields::{cut, until};
-use path_lines::{LineFault, Stop, Wanted, bad, first_entry};
+use path_lines::{LineFault, Stop, Wanted, first_entry, stop_at};
 use path_model::{Attempt, Line};
 use std::alloc::Allocator;
 
@@ -43,14 +43,20 @@ fn whole_entry<A: Allocator + Copy>(
     match first_entry(decl, text) {
         Ok(line) => {
             if line.length < text.len() {
-                return Err(in_attempt(bad(&text[line.length..], Wanted::End), behind));
+                return Err(in_attempt(stop_at(&text[line.length..], Wanted::End), behind));
             }
             Ok((line.worker, line.attempt))
         }
-        Err(stop) => match cut(text, b'\n') {
-            Some(_) => Err(bad(text, Wanted::Worker)),
-            None => Err(in_attempt(stop, behind)),
-        },
+        Err(stop) => {
+            let stop = in_attempt(stop, behind);
+            match cut(text, b'\n') {
+                Some(_) => Err(Stop {
+                    fault: LineFault::Bad,
+                    ..stop
+                }),
+                None => Err(stop),
+            }
+        }
     }
 }
 

@@ -7,7 +7,7 @@ ghost use Rattle.path_lines.specs.LineTexts.{reply_text};
 ghost use Rattle.path_journal.specs.JournalTexts.{ReplyFits};
 ghost use Rattle.path_journal.specs.Replies as replies;
 
-use path_lines::{REPLIES, Stop, Wanted, after, bad, end, keyword, last, spelled};
+use path_lines::{REPLIES, Stop, Wanted, after, end, keyword, last, spelled, stop_at};
 use path_model::{ActId, PathId, Reply};
 
 /// The greatest number that a path can have.
@@ -50,7 +50,7 @@ fn read_as(kind: Reply, text: &[u8]) -> Result<(Reply, &[u8]), Stop>
         return Ok((kind, rest));
     }
     let Some(rest) = keyword(text, words) else {
-        return Err(bad(text, Wanted::Reply));
+        return Err(stop_at(text, Wanted::Reply));
     };
     let rest = after(rest, b" ", Wanted::Space)?;
     let (number, rest) = last(rest, most(kind), Wanted::ReplyNumber)?;
@@ -63,7 +63,7 @@ fn read_reply(text: &[u8]) -> Result<(Reply, &[u8]), Stop>
     ensures ok { IfOk result (λ p. (text.now ≡ reply_text p.0 ++ p.1.now) × ReplyFits p.0 × EndsAt 10 p.1.now) }
     ensures err { OnErr result ((r : Reply) (rest : List ℕ) → ReplyFits r → EndsAt 10 rest → text.now ≢ reply_text r ++ rest) }
 {
-    let mut furthest = bad(text, Wanted::Reply);
+    let mut furthest = stop_at(text, Wanted::Reply);
     for kind in REPLIES {
         match read_as(*kind, text) {
             Ok(read) => return Ok(read),

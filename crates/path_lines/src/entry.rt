@@ -13,7 +13,7 @@ ghost use Rattle.path_lines.specs.LineTexts.{operation_names, operation_text, ve
 ghost use Rattle.path_lines.specs.LineTexts.{VerbFits, AttemptFits};
 ghost use Rattle.path_lines.specs.AttemptTexts.{EntryFits, IsAttemptFault, IsFirstLine, IsFirstFault, IsNoRest};
 
-use crate::stop::{Stop, Wanted, after, bad, end, keyword, last, number_to, word};
+use crate::stop::{Stop, Wanted, after, end, keyword, last, number_to, stop_at, word};
 use path_decl::{Decl, counts, operation};
 use path_fields::{number, strip, until};
 use path_lex::is_name;
@@ -64,7 +64,7 @@ pub fn read_verb(text: &[u8]) -> Result<(Verb, &[u8]), Stop>
         return Ok((Verb::Take, rest));
     }
     let Some(rest) = keyword(text, b"add") else {
-        return Err(bad(text, Wanted::Verb));
+        return Err(stop_at(text, Wanted::Verb));
     };
     let rest = after(rest, b" ", Wanted::Space)?;
     let (value, rest) = last(rest, u64::MAX, Wanted::Value)?;
@@ -144,8 +144,8 @@ fn no_operation<A: Allocator + Copy>(decl: &Decl<A>, text: &[u8], fault: LineFau
 {
     let (name, rest) = word(text);
     let stop = match read_operation(decl, name) {
-        Ok(_) => bad(rest, Wanted::End),
-        Err(_) => bad(text, Wanted::Operation),
+        Ok(_) => stop_at(rest, Wanted::End),
+        Err(_) => stop_at(text, Wanted::Operation),
     };
     Stop { fault, ..stop }
 }
@@ -171,7 +171,7 @@ fn read_attempt<'a, A: Allocator + Copy>(
         return Ok((Attempt::Finish(ActId(act)), rest));
     }
     let Some(rest) = keyword(text, b"start") else {
-        return Err(bad(text, Wanted::Attempt));
+        return Err(stop_at(text, Wanted::Attempt));
     };
     let named = after(rest, b" ", Wanted::Space)?;
     let (name, rest) = until(named, b'\n');

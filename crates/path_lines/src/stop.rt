@@ -62,7 +62,7 @@ pub struct Stop {
 }
 
 /// A stop at the beginning of what is left, in a line of none of the forms.
-pub fn bad(left: &[u8], wanted: Wanted) -> Stop
+pub fn stop_at(left: &[u8], wanted: Wanted) -> Stop
     ensures { result.fault ≡ LineFault.Bad }
 {
     Stop {
@@ -119,7 +119,7 @@ pub fn after<'a>(text: &'a [u8], front: &[u8], wanted: Wanted) -> Result<&'a [u8
 {
     match strip(text, front) {
         Some(rest) => Ok(rest),
-        None => Err(bad(text, wanted)),
+        None => Err(stop_at(text, wanted)),
     }
 }
 
@@ -131,7 +131,7 @@ pub fn end(text: &[u8]) -> Result<(), Stop>
 {
     match at_end(text) {
         Some(_) => Ok(()),
-        None => Err(bad(text, Wanted::End)),
+        None => Err(stop_at(text, Wanted::End)),
     }
 }
 
@@ -143,10 +143,10 @@ pub fn number_to(text: &[u8], most: u64, wanted: Wanted) -> Result<(u64, &[u8]),
     ensures bad { IfErr result (λ stop. stop.fault ≡ LineFault.Bad) }
 {
     let Some((value, rest)) = number(text) else {
-        return Err(bad(text, wanted));
+        return Err(stop_at(text, wanted));
     };
     if value > most {
-        return Err(bad(text, wanted));
+        return Err(stop_at(text, wanted));
     }
     Ok((value, rest))
 }

@@ -10,7 +10,7 @@ use crate::lines::{found, line_of, too_long};
 use crate::places::behind;
 use crate::wording::Wrong;
 use path_decl::Decl;
-use path_lines::{Stop, Wanted, bad};
+use path_lines::{Stop, Wanted, stop_at};
 use path_model::OutOfMemory;
 use path_script::{Form, LIMIT, ScriptFault, read_form};
 use std::alloc::Allocator;
@@ -25,7 +25,7 @@ fn stop_of(line: &[u8], fault: ScriptFault) -> Stop
         Err(stop) => return stop,
     };
     let wanted = match (fault, form) {
-        (ScriptFault::Undeclared(_), Form::Enter(name)) => return bad(name, Wanted::Operation),
+        (ScriptFault::Undeclared(_), Form::Enter(name)) => return stop_at(name, Wanted::Operation),
         (ScriptFault::BadLine(_), Form::Process(_)) => Wanted::Step,
         (ScriptFault::BadLine(_), _) => Wanted::Process,
         (ScriptFault::Unbalanced(_), Form::End) => Wanted::ProcessEnd,
@@ -33,7 +33,7 @@ fn stop_of(line: &[u8], fault: ScriptFault) -> Stop
         (_, Form::Process(_)) => Wanted::ScriptEnd,
         _ => Wanted::ProcessEnd,
     };
-    bad(line, wanted)
+    stop_at(line, wanted)
 }
 
 /// Whether a text has no more than so many lines.
@@ -57,7 +57,7 @@ fn line_finding<'a, A: Allocator + Copy>(
 {
     let wrong = Wrong::Script(fault);
     if ends_before(text, number) {
-        let stop = bad(b"", Wanted::ProcessEnd);
+        let stop = stop_at(b"", Wanted::ProcessEnd);
         let mut finding = found(alloc, decl, text, number, stop, wrong)?;
         finding.likely = None;
         return Ok(finding);

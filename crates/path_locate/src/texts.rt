@@ -9,7 +9,7 @@ use crate::lines::{found, line_of, too_long};
 use crate::wording::Wrong;
 use path_decl::Decl;
 use path_journal::stop_in;
-use path_lines::{LIMIT, Stop, TextFault, Wanted, bad, first_entry};
+use path_lines::{LIMIT, Stop, TextFault, Wanted, first_entry, stop_at};
 use path_model::OutOfMemory;
 use std::alloc::Allocator;
 
@@ -28,7 +28,7 @@ fn stop_of<A: Allocator + Copy>(decl: &Decl<A>, kind: TextKind, number: u32, lin
         TextKind::Attempts => first_entry(decl, line).err(),
         TextKind::Journal => stop_in(decl, number, line),
     };
-    stop.unwrap_or(bad(b"", Wanted::End))
+    stop.unwrap_or(stop_at(b"", Wanted::End))
 }
 
 /// Where a text of this kind has this fault, which [`read_attempts`](path_lines::read_attempts) or

@@ -6,7 +6,7 @@ ghost use Rattle.path_fields.specs.Splits.{HasNone};
 ghost use Rattle.path_script.specs.ScriptLines.{ScriptLine, line_of, line_text, LineFits};
 
 use path_lex::is_name;
-use path_lines::{Stop, Wanted, after, bad, end, keyword, read_verb, word};
+use path_lines::{Stop, Wanted, after, end, keyword, read_verb, stop_at, word};
 use path_model::Verb;
 
 /// A line of a script.
@@ -35,9 +35,9 @@ fn named(rest: &[u8], wanted: Wanted) -> Result<&[u8], Stop>
     }
     let (first, behind) = word(name);
     if is_name(first) {
-        Err(bad(behind, Wanted::End))
+        Err(stop_at(behind, Wanted::End))
     } else {
-        Err(bad(name, wanted))
+        Err(stop_at(name, wanted))
     }
 }
 
@@ -66,7 +66,7 @@ pub fn read_form(line: &[u8]) -> Result<Form<'_>, Stop>
         return Ok(Form::Leave);
     }
     let Some(rest) = keyword(line, b"end") else {
-        return Err(bad(line, Wanted::Step));
+        return Err(stop_at(line, Wanted::Step));
     };
     end(rest)?;
     Ok(Form::End)

@@ -4,8 +4,8 @@ use crate::tests::declaration::declared;
 use path_decl::Decl;
 use path_journal::stop_in;
 use path_lines::{
-    LineFault, REPLIES, Stop, Wanted, after, bad, end, first_entry, keyword, last, number_to,
-    spelled, word,
+    LineFault, REPLIES, Stop, Wanted, after, end, first_entry, keyword, last, number_to, spelled,
+    stop_at, word,
 };
 use std::process::Abort;
 
@@ -110,13 +110,13 @@ fn are_read(text: &[u8]) -> bool {
         && keyword(text, b"take").is_none()
         && keyword(text, b"take_2#") == Some(b" 18".as_slice())
         && after(b" 18", b" ", Wanted::Space) == Ok(b"18".as_slice())
-        && after(b"18", b" ", Wanted::Space) == Err(bad(b"18", Wanted::Space))
+        && after(b"18", b" ", Wanted::Space) == Err(stop_at(b"18", Wanted::Space))
         && number_to(b"18 x", 18, Wanted::Value) == Ok((18, b" x".as_slice()))
-        && number_to(b"18 x", 17, Wanted::Value) == Err(bad(b"18 x", Wanted::Value))
+        && number_to(b"18 x", 17, Wanted::Value) == Err(stop_at(b"18 x", Wanted::Value))
         && last(b"18\nx", 18, Wanted::Value) == Ok((18, b"\nx".as_slice()))
-        && last(b"18 x", 18, Wanted::Value) == Err(bad(b" x", Wanted::End))
+        && last(b"18 x", 18, Wanted::Value) == Err(stop_at(b" x", Wanted::End))
         && end(b"\n") == Ok(())
-        && end(b" ") == Err(bad(b" ", Wanted::End))
+        && end(b" ") == Err(stop_at(b" ", Wanted::End))
 }
 
 #[test]
