@@ -14,33 +14,30 @@ const DECLARATION: &[u8] = b"resource slot cell operation deposit, remove end";
 /// What is told of a line: its fault, how many of its bytes are left, and what could stand there.
 type Row<'a> = (&'a str, LineFault, usize, Wanted);
 
-// Checks where each line stops being an attempt.
-fn check_attempts(rt: &impl Abort, decl: &Decl, rows: &[Row<'_>]) {
-    for (line, fault, left, wanted) in rows {
-        let want = Stop {
-            fault: *fault,
-            left: *left,
-            wanted: *wanted,
-        };
-        assert!(rt;
-            first_entry(decl, line.as_bytes()).err() == Some(want),
-            "at {line}"
-        );
+/// What a line is.
+#[derive(Clone, Copy, Debug, PartialEq, Eq)]
+enum Kind {
+    Attempt,
+    Record,
+}
+
+// Where a line stops being one of this kind, the first of its text.
+fn stop_of(decl: &Decl, kind: Kind, line: &str) -> Option<Stop> {
+    match kind {
+        Kind::Attempt => first_entry(decl, line.as_bytes()).err(),
+        Kind::Record => stop_in(decl, 0, line.as_bytes()),
     }
 }
 
-// Checks where each line stops being the first of a journal.
-fn check_records(rt: &impl Abort, decl: &Decl, rows: &[Row<'_>]) {
+// Checks where each line stops being one of this kind.
+fn check(rt: &impl Abort, decl: &Decl, kind: Kind, rows: &[Row<'_>]) {
     for (line, fault, left, wanted) in rows {
         let want = Stop {
             fault: *fault,
             left: *left,
             wanted: *wanted,
         };
-        assert!(rt;
-            stop_in(decl, 0, line.as_bytes()) == Some(want),
-            "at {line}"
-        );
+        assert!(rt; stop_of(decl, kind, line) == Some(want), "at {line}");
     }
 }
 
@@ -61,7 +58,7 @@ const ATTEMPTS: [Row<'static>; 11] = [
 #[test]
 fn attempts(rt: HostRuntime) {
     let decl = declared(&rt, rt.alloc(), DECLARATION);
-    check_attempts(&rt, &decl, &ATTEMPTS);
+    check(&rt, &decl, Kind::Attempt, &ATTEMPTS);
     drop(decl);
 }
 
@@ -96,7 +93,7 @@ const RECORDS: [Row<'static>; 10] = [
 #[test]
 fn records(rt: HostRuntime) {
     let decl = declared(&rt, rt.alloc(), DECLARATION);
-    check_records(&rt, &decl, &RECORDS);
+    check(&rt, &decl, Kind::Record, &RECORDS);
     let is_right = stop_in(&decl, 0, b"journal 2 room 9").is_none()
         && stop_in(&decl, 1, b"journal 2 room 9").is_some()
         && stop_in(&decl, 1, b"1 start remove: blocked 4294967295").is_none();
