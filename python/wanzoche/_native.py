@@ -29,10 +29,10 @@ class Answer(ctypes.Structure):
 class Record(ctypes.Structure):
     """An operation that is begun and ended: a `wanzoche_record`."""
 
-    _fields_ = [("number", c_uint64), ("worker", c_uint32), ("live", c_bool)]
-    number: int
-    worker: int
-    live: bool
+    _fields_ = [("_number", c_uint64), ("_worker", c_uint32), ("_live", c_bool)]
+    _number: int
+    _worker: int
+    _live: bool
 
 
 CLOSED = 0
@@ -108,6 +108,11 @@ def _declared(library: Any, name: str, result: Any, *arguments: Any) -> Any:
             return function(*given)
 
     return one_at_a_time
+
+
+def address(name: str) -> int:
+    """Where a function of the library is."""
+    return ctypes.cast(getattr(_aside, "wanzoche_" + name), c_void_p).value or 0
 
 
 begin = _declared(_in_turn, "begin", c_uint32, c_void_p, c_uint32, c_uint32, c_void_p)

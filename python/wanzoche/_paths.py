@@ -9,12 +9,13 @@ import inspect
 import itertools
 import os
 import threading
+import warnings
 import weakref
 from types import TracebackType
 from typing import Any, Awaitable, Callable, Dict, List, Optional, Tuple, Type, TypeVar, Union, cast
 
 from . import _native as native
-from ._entries import AsyncEntry, Entry
+from ._entries import AsyncEntry, Calls, Entry, System
 from ._errors import Blocked, Closed, DeclarationError, Forked, JournalError, UnknownOperation
 from ._texts import TASKS, Path, Report, Verdict, read_declaration, read_report
 from ._waiting import Queues
@@ -23,7 +24,7 @@ Call = TypeVar("Call", bound=Callable[..., Any])
 Log = Union[Callable[[str], Any], List[str], Any]
 
 
-class Paths:
+class Paths(System):
     """A system of path expressions that threads and tasks wait on.
 
     >>> paths = Paths("resource slot cell operation deposit, remove path deposit ; remove end end")
@@ -50,13 +51,10 @@ class Paths:
             raise MemoryError("no memory for a system with room for {} lines".format(room))
         if answer.code != native.OPENED:
             raise _declaration_error(answer, source)
-        self._handle = handle
-        self._at = ctypes.addressof(handle)
         self._source = source
         self._room = room
         self._log = _log_call(log)
         self._forked = False
-        self._queues = Queues(self._at)
         self._local = threading.local()
         self._threads = itertools.count(1)
         self._tasks = itertools.count(TASKS + 1)
@@ -64,9 +62,10 @@ class Paths:
         self._rotation = threading.RLock()
         self._rotations = ctypes.c_uint64()
         self._logged = (0, 0)  # how often the journal had been rotated, and how much of its text since then the log has
+        self._aim(handle, {})
         names, paths = read_declaration(self._text_of(native.declaration))
         self._operations, self._paths_of_text = tuple(names), tuple(paths)
-        self._numbers = names
+        self._aim(handle, names)
         self._finalizer = weakref.finalize(self, _close, handle)
         self._finalizer.atexit = False  # threads may still run then, and the process gives all back
         _all.add(self)
@@ -83,20 +82,16 @@ class Paths:
         """The declared paths, in the order of their numbers."""
         return self._paths_of_text
 
-    def __call__(self, operation: str, timeout: Optional[float] = None) -> Entry:
-        """An entry for a `with` statement, which waits until the operation is admitted, or at most so many seconds."""
-        return Entry(self, operation, timeout)
-
     def enter(self, operation: str, timeout: Optional[float] = None) -> Entry:
         """Starts an operation, and waits until it is admitted. Leave it by `entry.leave()`.
 
         Raises `Timeout` if it isn't admitted within so many seconds, `UnknownOperation`, and `Closed` if the paths are closed.
         """
-        return Entry(self, operation, timeout).__enter__()
+        return self(operation, timeout).__enter__()
 
     def try_enter(self, operation: str) -> Optional[Entry]:
         """Starts an operation if it is admitted now; None if a path forbids it (`why` says which)."""
-        entry = Entry(self, operation, None)
+        entry = self(operation)
         return entry if entry._try(self._thread_worker()) else None
 
     def aio(self, operation: str, timeout: Optional[float] = None) -> AsyncEntry:
@@ -121,7 +116,7 @@ class Paths:
 
             @functools.wraps(function)
             def calls(*args: Any, **named: Any) -> Any:
-                with Entry(self, operation, timeout):
+                with self(operation, timeout):
                     return function(*args, **named)
 
             return cast(Call, calls)
@@ -208,6 +203,20 @@ class Paths:
         return "<Paths: {}>".format("; ".join("path " + path.text for path in self._paths_of_text) or "no path")
 
     # For entries
+
+    def _aim(self, handle: native.Handle, numbers: Dict[str, int]) -> None:
+        """From now on these are the paths of this handle, with these operations, and nobody waits."""
+        self._handle = handle
+        self._at = ctypes.addressof(handle)
+        self._numbers = numbers
+        self._calls = Calls(handle)
+        self._queues = Queues(self._calls)
+        self._set_up(self._calls, numbers, self._queues, self._queues.due, Entry)
+
+    def _dropped(self, operation: str) -> None:
+        """Called after an entry in progress that nobody holds was finished: others have their turn, and a warning says so."""
+        self._queues.wake_all(again=True)
+        warnings.warn("an entry of {} was dropped in progress, and is finished now".format(operation), ResourceWarning)
 
     def _number(self, operation: str) -> int:
         try:
@@ -305,11 +314,8 @@ class Paths:
         """In the child of a fork: the system is the parent's, whose threads aren't here."""
         self._forked = True
         self._finalizer.detach()
-        self._handle = native.Handle()
-        self._at = ctypes.addressof(self._handle)
-        self._queues = Queues(self._at)
         self._rotation = threading.RLock()
-        self._numbers = {}
+        self._aim(native.Handle(), {})
 
 
 def audit(declaration: Union[str, bytes], journal: str, room: int = native.MOST_LINES) -> Verdict:

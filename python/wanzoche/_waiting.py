@@ -15,9 +15,14 @@ import asyncio
 import threading
 import time
 from collections import OrderedDict
-from typing import Dict, Optional, Set, Tuple
+from typing import Dict, Optional, Protocol, Set, Tuple
 
-from . import _native as native
+
+class Calls(Protocol):
+    """What is called of a handle."""
+
+    def is_blocked(self, op: int) -> bool:
+        """Whether a path forbids the operation of this number now."""
 
 
 class Waiter:
@@ -125,10 +130,10 @@ class Queues:
     woken already: that one asks again, or quits, and puts the queue back.
     """
 
-    __slots__ = ("_at", "_queues", "due")
+    __slots__ = ("_is_blocked", "_queues", "due")
 
-    def __init__(self, at: int) -> None:
-        self._at = at
+    def __init__(self, calls: Calls) -> None:
+        self._is_blocked = calls.is_blocked
         self._queues: Dict[Tuple[int, _Loop], Queue] = {}
         self.due: Set[Queue] = set()
 
@@ -176,7 +181,7 @@ class Queues:
 
     def _wake_first(self, queue: Queue) -> None:
         if queue.waiters:
-            if native.can_start(self._at, queue.op).code != native.BLOCKED:
+            if not self._is_blocked(queue.op):
                 self.due.discard(queue)
                 first = queue.first()
                 if first is not None:

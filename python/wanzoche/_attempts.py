@@ -1,0 +1,112 @@
+"""From an attempt to begin an operation to its turn: what both forms of entries share."""
+
+from __future__ import annotations
+
+from typing import TYPE_CHECKING, Generator, Optional, Protocol, Type
+
+from . import _native as native
+from ._errors import OutOfRoom, Timeout
+from ._waiting import Waiter
+
+if TYPE_CHECKING:
+    from ._paths import Paths
+
+
+class InUse(RuntimeError):
+    """The entry is in progress already."""
+
+
+class Operation(Protocol):
+    """An operation that is to begin, in progress or over: the record that the library writes, and what else its turn has to know."""
+
+    @property
+    def _paths(self) -> "Paths": ...
+
+    @property
+    def _op(self) -> int: ...
+
+    @property
+    def _name(self) -> str: ...
+
+    @property
+    def _timeout(self) -> Optional[float]: ...
+
+    @property
+    def _live(self) -> bool: ...
+
+    @property
+    def _number(self) -> int: ...
+
+    @property
+    def _worker(self) -> int: ...
+
+    def _begin(self, worker: int) -> int: ...
+
+    def _end(self) -> int: ...
+
+
+def in_use(operation: Operation) -> InUse:
+    """What a second that enters it gets."""
+    return InUse("this entry of {} is in progress already".format(operation._name))
+
+
+def admitted(operation: Operation, code: int, worker: int) -> bool:
+    """Of what a begin has answered: whether the operation is in progress now. Rotates for room, and raises what else is in the way."""
+    paths = operation._paths
+    before: Optional[int] = None
+    while code == native.NO_ROOM and paths._made_room(before):
+        before = paths._rotations.value
+        code = operation._begin(worker)
+    if code == native.NOT_YOURS:
+        raise in_use(operation)
+    if code == native.NO_ROOM:
+        running = native.live(paths._at)
+        raise OutOfRoom("no room for {}: {} in progress, in a room of {} lines".format(operation._name, running, paths._room))
+    if code == native.CLOSED:
+        raise paths._closed()
+    return code == native.STARTED
+
+
+def _admitted_by_now(operation: Operation, worker: int, waiter: Waiter) -> bool:
+    """Tries once more, where no path forbids it. Raises `Timeout` if the time is over."""
+    paths = operation._paths
+    if not paths._calls.is_blocked(operation._op):
+        if admitted(operation, operation._begin(worker), worker):
+            return True
+    left = waiter.left()
+    why = paths.why(operation._name) if left is not None and left <= 0 else None
+    if why is not None:
+        raise Timeout(why.operation, why.path, why.resource, why.text, why.in_progress, operation._timeout)
+    return False
+
+
+def undo(operation: Operation, error: BaseException, worker: int, waiter: Optional[Waiter]) -> None:
+    """After an exception: what was begun isn't in progress, nobody waits for it, and others have their turn. To do so twice does no
+    harm."""
+    paths = operation._paths
+    if waiter is not None:
+        paths._queues.quit(waiter)
+    if operation._worker == worker and not isinstance(error, InUse):  # else another turn has begun the same entry
+        operation._end()
+    paths._queues.wake_all(again=True)
+
+
+def waiting(operation: Operation, code: int, worker: int, waiter_of: Type[Waiter]) -> Generator[Waiter, None, None]:
+    """From what the first attempt has answered until the operation is in progress: yields a waiter each time it has to wait. What it raises,
+    it leaves nothing behind."""
+    waiter: Optional[Waiter] = None
+    try:
+        try:
+            if not admitted(operation, code, worker):
+                waiter = waiter_of(operation._op, operation._timeout)
+                operation._paths._queues.join(waiter)
+                while not _admitted_by_now(operation, worker, waiter):
+                    yield waiter
+                    operation._paths._queues.asks(waiter)
+                operation._paths._queues.quit(waiter)
+        except BaseException as error:
+            undo(operation, error, worker, waiter)
+            raise
+    except BaseException as error:
+        undo(operation, error, worker, waiter)  # again, for an interrupt may have cut it off
+        raise

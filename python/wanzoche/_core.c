@@ -1,0 +1,545 @@
+/*
+** What is quick of entries: to make one, begin it, and finish it, without ctypes and without a Python object but the entry.
+**
+** Everything that takes longer is Python, and called by its name: to wait, to make room, to wake those that wait, to say what is wrong.
+**
+** A call of the library keeps the interpreter's lock and calls nothing back. So two of them are never in one system at once, and no signal
+** handler, finalizer or fork comes in between. The library writes the record of an entry before it returns, and no Python runs between
+** that and the return of __enter__: so what was begun is known to the entry, which finishes it when nobody holds it any more.
+**
+** Only the stable part of Python's interface is used, that of 3.8: one file serves each version from there on. It serves no Python without
+** the interpreter's lock, whose interface has no such part; the package does without this file there.
+**
+** Neither type has a tp_clear: an entry never changes what it refers to, and a system refers only to what can be cleared itself, so each
+** circle has another member that breaks it.
+*/
+#define PY_SSIZE_T_CLEAN
+#include <Python.h>
+#include <structmember.h>
+
+#include "wanzoche.h"
+
+#ifdef Py_GIL_DISABLED
+#error "a Python without the interpreter's lock is served by the form without this file"
+#endif
+
+typedef uint32_t begin_call(wanzoche *, uint32_t worker, uint32_t operation, wanzoche_record *);
+typedef uint32_t end_call(wanzoche *, wanzoche_record *);
+typedef wanzoche_answer can_start_call(wanzoche *, uint32_t operation);
+
+/* A handle, and what is called on it. */
+typedef struct Calls {
+    PyObject_HEAD
+    PyObject *holder; /* has the handle in its memory */
+    wanzoche *handle;
+    begin_call *begin;
+    end_call *end;
+    can_start_call *can_start;
+} Calls;
+
+/* The base of Paths. */
+typedef struct System {
+    PyObject_HEAD
+    uint64_t serial;   /* no other system of this process has it */
+    Calls *calls;      /* null until it is set up, as are those below */
+    PyObject *numbers; /* of the operations, by their names: a dict */
+    PyObject *queues;  /* those that wait */
+    PyObject *due;     /* the queues of which one may have to be woken: a set */
+    PyTypeObject *entry_class;
+} System;
+
+/* The base of entries. */
+typedef struct Entry {
+    PyObject_HEAD
+    System *system;
+    PyObject *name;
+    PyObject *timeout;
+    uint32_t operation;
+    wanzoche_record record;
+} Entry;
+
+static PyTypeObject *calls_type, *system_type, *entry_type;
+
+/* In 3.8 the type of an instance is visited for it; later its own traverse has to. */
+static bool visits_type;
+
+/* The number of an operation or of a worker that a Python object is. False with an exception. */
+static bool number_in(PyObject *object, uint32_t *number) {
+    unsigned long value = PyLong_AsUnsignedLong(object);
+    if (value == (unsigned long)-1 && PyErr_Occurred()) return false;
+    if (value > UINT32_MAX) {
+        PyErr_SetString(PyExc_OverflowError, "a number of the library has 32 bits");
+        return false;
+    }
+    *number = (uint32_t)value;
+    return true;
+}
+
+/* Calls. */
+
+static PyObject *calls_new(PyTypeObject *type, PyObject *args, PyObject *named) {
+    PyObject *at[4], *holder;
+    void *addresses[4];
+    Calls *calls;
+    (void)named;
+    if (!PyArg_ParseTuple(args, "OOOOO:Calls", &at[0], &at[1], &at[2], &at[3], &holder)) return NULL;
+    for (int i = 0; i < 4; i++) {
+        addresses[i] = PyLong_AsVoidPtr(at[i]);
+        if (addresses[i] != NULL) continue;
+        if (!PyErr_Occurred()) PyErr_SetString(PyExc_ValueError, "nothing lies at the address 0");
+        return NULL;
+    }
+    calls = (Calls *)PyType_GenericAlloc(type, 0);
+    if (calls == NULL) return NULL;
+    calls->begin = (begin_call *)addresses[0];
+    calls->end = (end_call *)addresses[1];
+    calls->can_start = (can_start_call *)addresses[2];
+    calls->handle = addresses[3];
+    Py_INCREF(holder);
+    calls->holder = holder;
+    return (PyObject *)calls;
+}
+
+static void calls_dealloc(PyObject *self) {
+    PyTypeObject *type = Py_TYPE(self);
+    PyObject_GC_UnTrack(self);
+    Py_XDECREF(((Calls *)self)->holder);
+    PyObject_GC_Del(self);
+    Py_DECREF(type);
+}
+
+static int calls_traverse(PyObject *self, visitproc visit, void *arg) {
+    if (visits_type) Py_VISIT(Py_TYPE(self));
+    Py_VISIT(((Calls *)self)->holder);
+    return 0;
+}
+
+static PyObject *calls_is_blocked(PyObject *self, PyObject *operation) {
+    Calls *calls = (Calls *)self;
+    uint32_t number;
+    if (!number_in(operation, &number)) return NULL;
+    return PyBool_FromLong(calls->can_start(calls->handle, number).code == WANZOCHE_BLOCKED);
+}
+
+static PyMethodDef calls_methods[] = {
+    {"is_blocked", calls_is_blocked, METH_O, "Whether a path forbids the operation of this number now."},
+    {NULL, NULL, 0, NULL},
+};
+
+static PyType_Slot calls_slots[] = {
+    {Py_tp_doc, "A handle at an address, what holds it, and the addresses of begin, end and can_start."},
+    {Py_tp_new, calls_new},
+    {Py_tp_dealloc, calls_dealloc},
+    {Py_tp_traverse, calls_traverse},
+    {Py_tp_methods, calls_methods},
+    {0, NULL},
+};
+
+static PyType_Spec calls_spec = {
+    "wanzoche._core.Calls", sizeof(Calls), 0, Py_TPFLAGS_DEFAULT | Py_TPFLAGS_HAVE_GC, calls_slots,
+};
+
+/* Who a thread is. */
+
+/*
+** The worker's numbers of a thread, of the systems that it met last. Paths._thread_worker gives them, and always gives a thread the same
+** one, so a number that was pushed out by another system's is only asked for again.
+*/
+#define KNOWN 16
+static _Thread_local struct {
+    uint64_t serial; /* 0: nothing here */
+    uint32_t worker;
+} known[KNOWN];
+
+/* The number of this thread, or false with an exception. */
+static bool number_of_thread(System *system, uint32_t *worker) {
+    size_t place = system->serial % KNOWN;
+    if (known[place].serial != system->serial) {
+        PyObject *number = PyObject_CallMethod((PyObject *)system, "_thread_worker", NULL);
+        bool is_number = number != NULL && number_in(number, worker);
+        Py_XDECREF(number);
+        if (!is_number) return false;
+        known[place].serial = system->serial;
+        known[place].worker = *worker;
+    }
+    *worker = known[place].worker;
+    return true;
+}
+
+/* Those that wait. */
+
+/* Calls a method that gives nothing. False with an exception. */
+static bool call_to_wake(System *system, PyObject *again) {
+    PyObject *nothing = PyObject_CallMethod(system->queues, "wake_all", "O", again);
+    Py_XDECREF(nothing);
+    return nothing != NULL;
+}
+
+/* The same after an exception, which stays: it may have cut a wake off. One that comes meanwhile is the one that stays. */
+static void wake_after_exception(System *system) {
+    PyObject *kind, *error, *trace;
+    PyErr_Fetch(&kind, &error, &trace);
+    if (call_to_wake(system, Py_True) || call_to_wake(system, Py_True)) {
+        PyErr_Restore(kind, error, trace);
+    } else {
+        Py_XDECREF(kind);
+        Py_XDECREF(error);
+        Py_XDECREF(trace);
+    }
+}
+
+/* Wakes those whose turn has come. False with an exception, after which they are woken, too. */
+static bool wake(System *system) {
+    if (PySet_Size(system->due) == 0) return true;
+    if (call_to_wake(system, Py_False)) return true;
+    wake_after_exception(system);
+    return false;
+}
+
+/* Entries. */
+
+static uint32_t begin(Entry *entry, uint32_t worker) {
+    Calls *calls = entry->system->calls;
+    return calls->begin(calls->handle, worker, entry->operation, &entry->record);
+}
+
+static uint32_t end(Entry *entry) {
+    Calls *calls = entry->system->calls;
+    return calls->end(calls->handle, &entry->record);
+}
+
+/* The number of an operation. False with an exception. */
+static bool number_of_operation(System *system, PyObject *name, uint32_t *operation) {
+    PyObject *number = PyDict_GetItemWithError(system->numbers, name);
+    bool is_number;
+    if (number != NULL) return number_in(number, operation);
+    if (PyErr_Occurred()) return false;
+    number = PyObject_CallMethod((PyObject *)system, "_number", "O", name); /* which says what is wrong */
+    is_number = number != NULL && number_in(number, operation);
+    Py_XDECREF(number);
+    return is_number;
+}
+
+/* A new entry that isn't begun. Null with an exception. */
+static PyObject *new_entry(System *system, PyTypeObject *type, PyObject *name, PyObject *timeout) {
+    Entry *entry;
+    uint32_t operation;
+    if (system->calls == NULL) {
+        PyErr_SetString(PyExc_RuntimeError, "these paths were never opened");
+        return NULL;
+    }
+    if (!number_of_operation(system, name, &operation)) return NULL;
+    entry = (Entry *)PyType_GenericAlloc(type, 0);
+    if (entry == NULL) return NULL;
+    Py_INCREF(system);
+    entry->system = system;
+    Py_INCREF(name);
+    entry->name = name;
+    Py_INCREF(timeout);
+    entry->timeout = timeout;
+    entry->operation = operation;
+    return (PyObject *)entry;
+}
+
+static PyObject *entry_new(PyTypeObject *type, PyObject *args, PyObject *named) {
+    static char *names[] = {"paths", "operation", "timeout", NULL};
+    PyObject *system, *name, *timeout;
+    if (!PyArg_ParseTupleAndKeywords(args, named, "O!OO:Entry", names, system_type, &system, &name, &timeout)) return NULL;
+    return new_entry((System *)system, type, name, timeout);
+}
+
+/* Of one in progress that nobody holds: finishes it, and says so. */
+static void drop(Entry *entry) {
+    PyObject *kind, *error, *trace, *said;
+    System *system = entry->system;
+    PyErr_Fetch(&kind, &error, &trace);
+    end(entry);
+    said = PyObject_CallMethod((PyObject *)system, "_dropped", "O", entry->name);
+    if (said == NULL) {
+        wake_after_exception(system);
+        PyErr_WriteUnraisable((PyObject *)system);
+    }
+    Py_XDECREF(said);
+    PyErr_Restore(kind, error, trace);
+}
+
+static void entry_finalize(PyObject *self) {
+    Entry *entry = (Entry *)self;
+    if (entry->record.live) drop(entry);
+}
+
+static void entry_dealloc(PyObject *self) {
+    Entry *entry = (Entry *)self;
+    PyTypeObject *type = Py_TYPE(self);
+    PyObject_GC_UnTrack(self);
+    if (entry->record.live) drop(entry);
+    Py_XDECREF(entry->timeout);
+    Py_XDECREF(entry->name);
+    Py_XDECREF(entry->system);
+    PyObject_GC_Del(self);
+    Py_DECREF(type);
+}
+
+static int entry_traverse(PyObject *self, visitproc visit, void *arg) {
+    Entry *entry = (Entry *)self;
+    if (visits_type) Py_VISIT(Py_TYPE(self));
+    Py_VISIT(entry->system);
+    Py_VISIT(entry->name);
+    Py_VISIT(entry->timeout);
+    return 0;
+}
+
+/*
+** Waits in Python until it is admitted. False with an exception: then this turn has begun nothing, or it is over. A RuntimeError says that
+** another turn has begun the entry, which is none of this one's business.
+*/
+static bool wait(Entry *entry, uint32_t worker, uint32_t code) {
+    PyObject *nothing = PyObject_CallMethod((PyObject *)entry, "_wait", "II", worker, code);
+    if (nothing != NULL) {
+        Py_DECREF(nothing);
+        return true;
+    }
+    if (entry->record.live && entry->record.worker == worker && !PyErr_ExceptionMatches(PyExc_RuntimeError)) {
+        end(entry);
+        wake_after_exception(entry->system);
+    }
+    return false;
+}
+
+static PyObject *entry_enter(PyObject *self, PyObject *nothing) {
+    Entry *entry = (Entry *)self;
+    uint32_t worker, code;
+    (void)nothing;
+    if (!number_of_thread(entry->system, &worker)) return NULL;
+    code = begin(entry, worker);
+    if (code != WANZOCHE_STARTED && !wait(entry, worker, code)) return NULL;
+    Py_INCREF(self);
+    return self;
+}
+
+static PyObject *entry_exit(PyObject *self, PyObject *args) {
+    Entry *entry = (Entry *)self;
+    if (PyTuple_Size(args) != 3) {
+        PyErr_SetString(PyExc_TypeError, "__exit__ takes the kind of an exception, the exception and its traceback, or None for each");
+        return NULL;
+    }
+    if (end(entry) != WANZOCHE_STALE && !wake(entry->system)) return NULL;
+    Py_RETURN_NONE;
+}
+
+/* Raises what a method of Python's returns. */
+static PyObject *raise_from(PyObject *object, const char *method) {
+    PyObject *error = PyObject_CallMethod(object, method, NULL);
+    if (error == NULL) return NULL;
+    PyErr_SetObject((PyObject *)Py_TYPE(error), error);
+    Py_DECREF(error);
+    return NULL;
+}
+
+static PyObject *entry_leave(PyObject *self, PyObject *nothing) {
+    Entry *entry = (Entry *)self;
+    uint32_t code = end(entry);
+    (void)nothing;
+    if (code != WANZOCHE_STALE && !wake(entry->system)) return NULL;
+    if (code == WANZOCHE_CLOSED) return raise_from((PyObject *)entry->system, "_closed");
+    if (code != WANZOCHE_FINISHED) return raise_from(self, "_not_in_progress");
+    Py_RETURN_NONE;
+}
+
+/* For what is Python of an entry. */
+
+static PyObject *entry_begin(PyObject *self, PyObject *worker) {
+    uint32_t number;
+    if (!number_in(worker, &number)) return NULL;
+    return PyLong_FromUnsignedLong(begin((Entry *)self, number));
+}
+
+static PyObject *entry_end(PyObject *self, PyObject *nothing) {
+    (void)nothing;
+    return PyLong_FromUnsignedLong(end((Entry *)self));
+}
+
+static PyObject *entry_operation(PyObject *self, void *nothing) {
+    (void)nothing;
+    Py_INCREF(self);
+    return self;
+}
+
+static PyObject *entry_live(PyObject *self, void *nothing) {
+    (void)nothing;
+    return PyBool_FromLong(((Entry *)self)->record.live);
+}
+
+static PyObject *entry_number(PyObject *self, void *nothing) {
+    (void)nothing;
+    return PyLong_FromUnsignedLongLong(((Entry *)self)->record.number);
+}
+
+static PyObject *entry_worker(PyObject *self, void *nothing) {
+    (void)nothing;
+    return PyLong_FromUnsignedLong(((Entry *)self)->record.worker);
+}
+
+static PyMethodDef entry_methods[] = {
+    {"__enter__", entry_enter, METH_NOARGS, "Begins the operation, and waits until it is admitted."},
+    {"__exit__", entry_exit, METH_VARARGS, "Finishes the operation if it is in progress."},
+    {"leave", entry_leave, METH_NOARGS,
+     "leave($self, /)\n--\n\n"
+     "Finishes the operation. Raises `NotInProgress` if it isn't in progress, and `Closed` if the paths were closed meanwhile."},
+    {"_begin", entry_begin, METH_O, "What the library answers to a start by this worker."},
+    {"_end", entry_end, METH_NOARGS, "What the library answers to a finish."},
+    {NULL, NULL, 0, NULL},
+};
+
+static PyGetSetDef entry_attributes[] = {
+    {"_operation", entry_operation, NULL, "The entry itself.", NULL},
+    {"_live", entry_live, NULL, "Whether it is in progress.", NULL},
+    {"_number", entry_number, NULL, "The number of its activation.", NULL},
+    {"_worker", entry_worker, NULL, "The number of who began it.", NULL},
+    {NULL, NULL, NULL, NULL, NULL},
+};
+
+static PyMemberDef entry_members[] = {
+    {"_paths", T_OBJECT, offsetof(Entry, system), READONLY, "Whose entry it is."},
+    {"_name", T_OBJECT, offsetof(Entry, name), READONLY, "The operation's name."},
+    {"_timeout", T_OBJECT, offsetof(Entry, timeout), READONLY, "For how many seconds it waits; None: for ever."},
+    {"_op", T_UINT, offsetof(Entry, operation), READONLY, "The operation's number."},
+    {NULL, 0, 0, 0, NULL},
+};
+
+static PyType_Slot entry_slots[] = {
+    {Py_tp_doc, "What is quick of an entry."},
+    {Py_tp_new, entry_new},
+    {Py_tp_finalize, entry_finalize},
+    {Py_tp_dealloc, entry_dealloc},
+    {Py_tp_traverse, entry_traverse},
+    {Py_tp_methods, entry_methods},
+    {Py_tp_members, entry_members},
+    {Py_tp_getset, entry_attributes},
+    {0, NULL},
+};
+
+static PyType_Spec entry_spec = {
+    "wanzoche._core.Entry", sizeof(Entry), 0, Py_TPFLAGS_DEFAULT | Py_TPFLAGS_BASETYPE | Py_TPFLAGS_HAVE_GC, entry_slots,
+};
+
+/* Systems. */
+
+static PyObject *system_new(PyTypeObject *type, PyObject *args, PyObject *named) {
+    static uint64_t serials;
+    System *system = (System *)PyType_GenericAlloc(type, 0);
+    (void)args, (void)named;
+    if (system == NULL) return NULL;
+    system->serial = ++serials;
+    return (PyObject *)system;
+}
+
+static void system_dealloc(PyObject *self) {
+    System *system = (System *)self;
+    PyTypeObject *type = Py_TYPE(self);
+    PyObject_GC_UnTrack(self);
+    Py_XDECREF(system->entry_class);
+    Py_XDECREF(system->due);
+    Py_XDECREF(system->queues);
+    Py_XDECREF(system->numbers);
+    Py_XDECREF(system->calls);
+    PyObject_GC_Del(self);
+    Py_DECREF(type);
+}
+
+static int system_traverse(PyObject *self, visitproc visit, void *arg) {
+    System *system = (System *)self;
+    if (visits_type) Py_VISIT(Py_TYPE(self));
+    Py_VISIT(system->entry_class);
+    Py_VISIT(system->due);
+    Py_VISIT(system->queues);
+    Py_VISIT(system->numbers);
+    Py_VISIT(system->calls);
+    return 0;
+}
+
+/* Puts a new reference where there may be one, and gives that up afterwards, when nothing leads to it any more. */
+static void put(PyObject **place, PyObject *object) {
+    PyObject *before = *place;
+    Py_INCREF(object);
+    *place = object;
+    Py_XDECREF(before);
+}
+
+static PyObject *system_set_up(PyObject *self, PyObject *args) {
+    System *system = (System *)self;
+    PyObject *calls, *numbers, *queues, *due, *entry_class;
+    if (!PyArg_ParseTuple(args, "O!O!OO!O!:_set_up", calls_type, &calls, &PyDict_Type, &numbers, &queues, &PySet_Type, &due, &PyType_Type,
+                          &entry_class))
+        return NULL;
+    if (!PyType_IsSubtype((PyTypeObject *)entry_class, entry_type)) {
+        PyErr_SetString(PyExc_TypeError, "the class of entries isn't one of _core.Entry");
+        return NULL;
+    }
+    put(&system->numbers, numbers);
+    put(&system->queues, queues);
+    put(&system->due, due);
+    put((PyObject **)&system->entry_class, entry_class);
+    put((PyObject **)&system->calls, calls);
+    Py_RETURN_NONE;
+}
+
+static PyObject *system_call(PyObject *self, PyObject *args, PyObject *named) {
+    static char *names[] = {"operation", "timeout", NULL};
+    System *system = (System *)self;
+    PyObject *name, *timeout = Py_None;
+    if (named == NULL && PyTuple_Size(args) == 1) {
+        name = PyTuple_GetItem(args, 0);
+    } else if (!PyArg_ParseTupleAndKeywords(args, named, "O|O:__call__", names, &name, &timeout)) {
+        return NULL;
+    }
+    return new_entry(system, system->entry_class, name, timeout);
+}
+
+static PyMethodDef system_methods[] = {
+    {"_set_up", system_set_up, METH_VARARGS,
+     "What belongs to it: its calls, the numbers of its operations, its queues, those that are due, and the class of its entries."},
+    {NULL, NULL, 0, NULL},
+};
+
+static PyType_Slot system_slots[] = {
+    {Py_tp_doc, "What is quick of paths."},
+    {Py_tp_new, system_new},
+    {Py_tp_dealloc, system_dealloc},
+    {Py_tp_traverse, system_traverse},
+    {Py_tp_call, system_call},
+    {Py_tp_methods, system_methods},
+    {0, NULL},
+};
+
+static PyType_Spec system_spec = {
+    "wanzoche._core.System", sizeof(System), 0, Py_TPFLAGS_DEFAULT | Py_TPFLAGS_BASETYPE | Py_TPFLAGS_HAVE_GC, system_slots,
+};
+
+static struct PyModuleDef module = {
+    PyModuleDef_HEAD_INIT, "wanzoche._core", "What is quick of paths and entries.", -1, NULL, NULL, NULL, NULL, NULL,
+};
+
+static bool add(PyObject *made, const char *name, PyTypeObject *type) {
+    Py_INCREF(type);
+    if (PyModule_AddObject(made, name, (PyObject *)type) == 0) return true;
+    Py_DECREF(type);
+    return false;
+}
+
+/* A type, made when the module is first loaded. Null with an exception. */
+static PyTypeObject *made_of(PyTypeObject **type, PyType_Spec *spec) {
+    if (*type == NULL) *type = (PyTypeObject *)PyType_FromSpec(spec);
+    return *type;
+}
+
+PyMODINIT_FUNC PyInit__core(void) {
+    PyObject *made;
+    visits_type = strncmp(Py_GetVersion(), "3.8.", 4) != 0;
+    if (!made_of(&calls_type, &calls_spec) || !made_of(&system_type, &system_spec) || !made_of(&entry_type, &entry_spec)) return NULL;
+    made = PyModule_Create(&module);
+    if (made == NULL) return NULL;
+    if (add(made, "Calls", calls_type) && add(made, "System", system_type) && add(made, "Entry", entry_type)) return made;
+    Py_DECREF(made);
+    return NULL;
+}

@@ -1,0 +1,49 @@
+"""What is quick of paths and entries, in C: this is what the module `_core` calls, and what takes longer."""
+
+from __future__ import annotations
+
+from ctypes import addressof
+from typing import TYPE_CHECKING, cast
+
+from . import _native as native
+from ._attempts import admitted, waiting
+from ._form import core
+from ._waiting import TaskWaiter, ThreadWaiter
+
+if TYPE_CHECKING:
+    from ._core import Calls as CoreCalls
+    from ._core import Entry as CoreEntry
+    from ._core import System as System
+else:
+    CoreCalls, CoreEntry, System = core.Calls, core.Entry, core.System
+
+_STARTED = native.STARTED
+_ADDRESSES = [native.address(name) for name in ("begin", "end", "can_start")]
+
+
+def Calls(handle: native.Handle) -> CoreCalls:
+    """What is called of a handle."""
+    return CoreCalls(*_ADDRESSES, addressof(handle), handle)
+
+
+class Entry(CoreEntry):
+    """The base of entries."""
+
+    __slots__ = ()
+
+    def _wait(self, worker: int, code: int) -> None:
+        """Called where the first attempt of a thread wasn't admitted: waits until one is."""
+        for waiter in waiting(self, code, worker, ThreadWaiter):
+            cast(ThreadWaiter, waiter).wait()
+
+    async def _enter_as_task(self) -> None:
+        worker = self._paths._task_worker()
+        code = self._begin(worker)
+        if code != _STARTED:
+            for waiter in waiting(self, code, worker, TaskWaiter):
+                await cast(TaskWaiter, waiter).wait()
+
+    def _try(self, worker: int) -> bool:
+        """Begins it, if it is admitted now."""
+        code = self._begin(worker)
+        return code == _STARTED or admitted(self, code, worker)
