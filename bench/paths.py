@@ -3,6 +3,7 @@
     make library && WANZOCHE_LIBRARY=out/lib/libwanzoche.so PYTHONPATH=python python3 bench/paths.py
 """
 
+import asyncio
 import ctypes
 import statistics
 import threading
@@ -48,6 +49,24 @@ def library_alone() -> None:
             _native.rotate_at(at, _native.lines(at), None)
             _native.begin(at, 1, 1, record_at)
         _native.end(at, record_at)
+
+
+async def tasks_by_condition() -> None:
+    condition, busy = asyncio.Condition(), False
+    for _ in range(EACH):
+        async with condition:
+            while busy:
+                await condition.wait()
+            busy = True
+        async with condition:
+            busy = False
+            condition.notify()
+
+
+async def tasks_by_paths() -> None:
+    for _ in range(EACH):
+        async with paths.aio("write"):
+            pass
 
 
 items, not_full, not_empty = [], threading.Condition(lock), threading.Condition(lock)
@@ -104,6 +123,11 @@ def compared(works, each: int) -> None:
 
 compared(
     [("with lock", locked), ("a condition by hand", by_condition), ("with paths", by_paths), ("the library alone", library_alone)], EACH
+)
+compared(
+    [("asyncio's condition by hand", lambda: asyncio.run(tasks_by_condition())),
+     ("async with paths.aio", lambda: asyncio.run(tasks_by_paths()))],
+    EACH,
 )
 compared(
     [("a buffer by hand, an operation", lambda: in_threads(put_by_hand, get_by_hand)),

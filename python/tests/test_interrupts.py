@@ -13,12 +13,14 @@ import warnings
 from unittest import mock
 
 from wanzoche import Paths, Timeout
+from wanzoche._form import core
 from wanzoche._waiting import ThreadWaiter
 
 from .declarations import BOOK, SLOT
 from .interrupts import Interrupt, at_instruction, each_instruction, interrupt, no_longer_than
 
 SIGNALS = 10000
+FEWER = 1 if core is None else 11  # of the package's instructions: what is in C has none
 
 
 class Interrupts(unittest.TestCase):
@@ -127,7 +129,7 @@ class BeforeEachInstruction(Interrupts):
         times = 0
         for times in each_instruction(interrupt, call):
             check()
-        self.assertGreater(times, least)
+        self.assertGreaterEqual(times, least // FEWER)
 
     def test_with(self):
         paths = Paths(BOOK)
@@ -213,7 +215,7 @@ class BeforeEachInstruction(Interrupts):
             self.nothing_is_left(paths)
             if not more:
                 break
-        self.assertGreater(times, least)
+        self.assertGreaterEqual(times, least // FEWER)
 
     def test_tasks(self):
         paths = Paths(SLOT)
@@ -298,7 +300,7 @@ class CallsFromWithin(Interrupts):
             while held:
                 held.pop().leave()
             self.nothing_is_left(paths)
-        self.assertGreater(times, least)
+        self.assertGreaterEqual(times, least // FEWER)
         self.assertTrue(paths.audit())
 
     def test_a_report(self):
@@ -337,7 +339,7 @@ class CallsFromWithin(Interrupts):
 
         for times in each_instruction(rotate, both):
             self.nothing_is_left(paths)
-        self.assertGreater(times, 100)
+        self.assertGreaterEqual(times, 100 // FEWER)
 
     def test_a_finalizer_that_leaves(self):
         paths = Paths(BOOK)
@@ -356,7 +358,7 @@ class CallsFromWithin(Interrupts):
 
         for times in each_instruction(collect, lambda: paths.enter("read").leave()):
             self.nothing_is_left(paths)
-        self.assertGreater(times, 30)
+        self.assertGreaterEqual(times, 30 // FEWER)
 
 
 if __name__ == "__main__":

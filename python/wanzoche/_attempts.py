@@ -6,14 +6,20 @@ from typing import TYPE_CHECKING, Generator, Optional, Protocol, Type
 
 from . import _native as native
 from ._errors import OutOfRoom, Timeout
+from ._form import core
 from ._waiting import Waiter
 
 if TYPE_CHECKING:
     from ._paths import Paths
 
 
-class InUse(RuntimeError):
-    """The entry is in progress already."""
+if TYPE_CHECKING or core is None:
+
+    class InUse(RuntimeError):
+        """The entry is in progress already."""
+
+else:
+    InUse = core.InUse
 
 
 class Operation(Protocol):

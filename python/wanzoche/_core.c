@@ -60,6 +60,9 @@ typedef struct Entry {
 
 static PyTypeObject *calls_type, *system_type, *entry_type;
 
+/* What a second gets that enters an entry in progress. It is made here, so that no interrupt can come in its place. */
+static PyObject *in_use;
+
 /* In 3.8 the type of an instance is visited for it; later its own traverse has to. */
 static bool visits_type;
 
@@ -198,9 +201,13 @@ static bool wake(System *system) {
 
 /* Entries. */
 
-static uint32_t begin(Entry *entry, uint32_t worker) {
+/* Tries to begin it, and has the code of the answer. False with an exception if it is in progress already. */
+static bool begin(Entry *entry, uint32_t worker, uint32_t *code) {
     Calls *calls = entry->system->calls;
-    return calls->begin(calls->handle, worker, entry->operation, &entry->record);
+    *code = calls->begin(calls->handle, worker, entry->operation, &entry->record);
+    if (*code != WANZOCHE_NOT_YOURS) return true;
+    PyErr_Format(in_use, "this entry of %S is in progress already", entry->name);
+    return false;
 }
 
 static uint32_t end(Entry *entry) {
@@ -290,8 +297,8 @@ static int entry_traverse(PyObject *self, visitproc visit, void *arg) {
 }
 
 /*
-** Waits in Python until it is admitted. False with an exception: then this turn has begun nothing, or it is over. A RuntimeError says that
-** another turn has begun the entry, which is none of this one's business.
+** Waits in Python until it is admitted. False with an exception: then this turn has begun nothing, or it is over. If the entry is in use,
+** another turn has begun it.
 */
 static bool wait(Entry *entry, uint32_t worker, uint32_t code) {
     PyObject *nothing = PyObject_CallMethod((PyObject *)entry, "_wait", "II", worker, code);
@@ -299,7 +306,7 @@ static bool wait(Entry *entry, uint32_t worker, uint32_t code) {
         Py_DECREF(nothing);
         return true;
     }
-    if (entry->record.live && entry->record.worker == worker && !PyErr_ExceptionMatches(PyExc_RuntimeError)) {
+    if (entry->record.live && entry->record.worker == worker && !PyErr_ExceptionMatches(in_use)) {
         end(entry);
         wake_after_exception(entry->system);
     }
@@ -311,7 +318,7 @@ static PyObject *entry_enter(PyObject *self, PyObject *nothing) {
     uint32_t worker, code;
     (void)nothing;
     if (!number_of_thread(entry->system, &worker)) return NULL;
-    code = begin(entry, worker);
+    if (!begin(entry, worker, &code)) return NULL;
     if (code != WANZOCHE_STARTED && !wait(entry, worker, code)) return NULL;
     Py_INCREF(self);
     return self;
@@ -349,9 +356,9 @@ static PyObject *entry_leave(PyObject *self, PyObject *nothing) {
 /* For what is Python of an entry. */
 
 static PyObject *entry_begin(PyObject *self, PyObject *worker) {
-    uint32_t number;
-    if (!number_in(worker, &number)) return NULL;
-    return PyLong_FromUnsignedLong(begin((Entry *)self, number));
+    uint32_t number, code;
+    if (!number_in(worker, &number) || !begin((Entry *)self, number, &code)) return NULL;
+    return PyLong_FromUnsignedLong(code);
 }
 
 static PyObject *entry_end(PyObject *self, PyObject *nothing) {
@@ -520,10 +527,10 @@ static struct PyModuleDef module = {
     PyModuleDef_HEAD_INIT, "wanzoche._core", "What is quick of paths and entries.", -1, NULL, NULL, NULL, NULL, NULL,
 };
 
-static bool add(PyObject *made, const char *name, PyTypeObject *type) {
-    Py_INCREF(type);
-    if (PyModule_AddObject(made, name, (PyObject *)type) == 0) return true;
-    Py_DECREF(type);
+static bool add(PyObject *made, const char *name, void *object) {
+    Py_INCREF((PyObject *)object);
+    if (PyModule_AddObject(made, name, object) == 0) return true;
+    Py_DECREF((PyObject *)object);
     return false;
 }
 
@@ -537,9 +544,12 @@ PyMODINIT_FUNC PyInit__core(void) {
     PyObject *made;
     visits_type = strncmp(Py_GetVersion(), "3.8.", 4) != 0;
     if (!made_of(&calls_type, &calls_spec) || !made_of(&system_type, &system_spec) || !made_of(&entry_type, &entry_spec)) return NULL;
+    if (in_use == NULL) in_use = PyErr_NewException("wanzoche._attempts.InUse", PyExc_RuntimeError, NULL);
+    if (in_use == NULL) return NULL;
     made = PyModule_Create(&module);
     if (made == NULL) return NULL;
-    if (add(made, "Calls", calls_type) && add(made, "System", system_type) && add(made, "Entry", entry_type)) return made;
+    if (add(made, "Calls", calls_type) && add(made, "System", system_type) && add(made, "Entry", entry_type) && add(made, "InUse", in_use))
+        return made;
     Py_DECREF(made);
     return NULL;
 }
