@@ -5,7 +5,8 @@
 #   make test         the examples and the tests of the program, the C library, the Python package and the web page
 #   make test_rust    the tests of the Rust crate, which want cargo
 #   make install      to PREFIX (/usr/local), below DESTDIR if that is set; make uninstall takes the same files away
-#   make wheel        the Python package with its library, for pip
+#   make core         what is quick of the Python package, in C: out/python/_core.abi3.so, by the headers of PYTHON, for each later one
+#   make wheel        the Python package with its library, for pip, and with the core where PYTHON has its headers here
 #   make deb          a package for Debian and its like
 #   make release      all that is published, with checksums; packaging/release says what it needs
 #   make prove        the merge gate: proves every function again; needs the toolchain that docs/proofs.md speaks of
@@ -36,11 +37,13 @@ static_library := $(lib)/libwanzoche.a
 shared_library := $(lib)/libwanzoche.so.0
 headers := $(OUT)/include/wanzoche.h $(OUT)/include/wanzoche_monitor.h
 pc := $(lib)/pkgconfig/wanzoche.pc
+core := $(OUT)/python/_core.abi3.so
 library := $(static_library) $(lib)/libwanzoche.so $(headers) $(pc)
 
 c_flags := -std=c11 -fPIC -ffunction-sections -Wall -Wextra -Iinclude $(CFLAGS)
 static := $(if $(STATIC),-static)
 comma := ,
+python_headers = $(shell $(PYTHON) -c 'import sysconfig; print(sysconfig.get_path("include"))')
 # Only glibc hands the words of the command line to what runs before main (dist/system.c).
 wrap := $(if $(findstring musl,$(machine) $(CC)),-Wl$(comma)--wrap=main)
 
@@ -88,6 +91,13 @@ $(shared_library): $(work)/wanzoche.o
 	@mkdir -p $(@D)
 	echo '{ global: wanzoche_*; local: *; };' > $(work)/shown
 	$(CC) $(CFLAGS) $(LDFLAGS) -shared -Wl,-z,defs -Wl,--gc-sections -Wl,-soname,$(@F) -Wl,--version-script=$(work)/shown $< -o $@
+
+# Only the part of Python's interface that is stable from 3.8 on.
+$(core): python/wanzoche/_core.c include/wanzoche.h
+	@mkdir -p $(@D)
+	$(CC) $(c_flags) -DPy_LIMITED_API=0x03080000 -isystem $(python_headers) $(LDFLAGS) -shared $< -o $@
+
+core: $(core)
 
 $(lib)/libwanzoche.so: $(shared_library)
 	ln -sf $(<F) $@
@@ -172,8 +182,10 @@ uninstall:
 	rm -f $(addprefix $(to)/,$(installed))
 	rm -rf $(to)/share/doc/wanzoche
 
+# The headers are those of this machine's processor.
 wheel: library
-	$(PYTHON) python/packing.py $(shared_library) $(OUT)
+	@if [ "$(CPU)" = "$$(uname -m)" ] && [ -e "$(python_headers)/Python.h" ]; then $(MAKE) core && set -- $(core); fi; \
+	$(PYTHON) python/packing.py $(shared_library) $(OUT) "$$@"
 
 deb: all
 	packaging/deb $(OUT) $(CPU)
@@ -184,5 +196,5 @@ release:
 clean:
 	rm -rf $(OUT)
 
-.PHONY: all library example test test_program test_library test_package test_page test_rust prove install uninstall wheel deb release clean
+.PHONY: all library core example test test_program test_library test_package test_page test_rust prove install uninstall wheel deb release clean
 .DELETE_ON_ERROR:

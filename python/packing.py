@@ -1,8 +1,9 @@
-"""Packs the package for pip: its modules, and the C library, which `make` builds from the sources of the repository.
+"""Packs the package for pip: its modules, and what `make` builds from the sources of the repository: the C library, and the core, which is
+what is quick of the package. The core is left out where Python's headers aren't installed, and where the variable WANZOCHE_CORE is `none`.
 
 It needs Python, make and a C compiler, and nothing from the network. pip calls `build_wheel` and `build_sdist`. By hand:
 
-    python3 packing.py LIBRARY FOLDER     writes the wheel with this library into that folder
+    python3 packing.py LIBRARY FOLDER [CORE]     writes the wheel with this library, and this core, into that folder
 
 The same files make the same bytes: a wheel's dates are that of SOURCE_DATE_EPOCH, or 1980.
 """
@@ -18,17 +19,20 @@ import re
 import struct
 import subprocess
 import sys
+import sysconfig
 import tarfile
 import tempfile
 import time
 import zipfile
-from typing import Any, Dict, List, Optional
+from typing import Any, Dict, List, Optional, Tuple
 
 HERE = os.path.dirname(os.path.abspath(__file__))
 PACKAGE = "wanzoche"
 LIBRARY = "libwanzoche.so"
-# What `make library` reads, in the repository and in a package of sources.
+CORE = "_core.abi3.so"
+# What `make library core` reads, in the repository and in a package of sources.
 SOURCES = ["Makefile", "VERSION", "c/wanzoche.c", "include/wanzoche.h", "include/wanzoche_monitor.h", "dist/system.c", "dist/NOTICE"]
+SOURCES += ["python/wanzoche/_core.c"]
 SOURCES += ["dist/{}/path_c.s".format(processor) for processor in ("x86_64", "aarch64")]
 # By the number of a processor in an ELF file.
 PROCESSORS = {62: "x86_64", 183: "aarch64"}
@@ -64,28 +68,42 @@ def _sources() -> str:
     )
 
 
-def _built() -> bytes:
-    """The library, as `make` builds it now."""
+def _may_have_core() -> bool:
+    """Whether the core can be built for this Python, and is wanted: CPython with its lock, whose headers are installed."""
+    if os.environ.get("WANZOCHE_CORE") == "none" or sys.implementation.name != "cpython" or "t" in sys.abiflags:
+        return False
+    return os.path.exists(os.path.join(sysconfig.get_path("include"), "Python.h"))
+
+
+def _built() -> Tuple[bytes, Optional[bytes]]:
+    """The library and the core, as `make` builds them now. None in place of a core that can't be built or isn't wanted."""
+    with_core = _may_have_core()
     with tempfile.TemporaryDirectory() as out:
-        made = subprocess.run(["make", "-C", _sources(), "OUT=" + out, "library"], stdout=subprocess.PIPE, stderr=subprocess.STDOUT)
+        command = ["make", "-C", _sources(), "OUT=" + out, "PYTHON=" + sys.executable, "library"] + ["core"] * with_core
+        made = subprocess.run(command, stdout=subprocess.PIPE, stderr=subprocess.STDOUT)
         if made.returncode:
-            raise RuntimeError("libwanzoche isn't built:\n" + made.stdout.decode(errors="replace"))
+            raise RuntimeError("`make` doesn't build {}:\n{}".format(" ".join(command[5:]), made.stdout.decode(errors="replace")))
         with open(os.path.join(out, "lib", LIBRARY), "rb") as file:
-            return file.read()
+            library = file.read()
+        if not with_core:
+            return library, None
+        with open(os.path.join(out, "python", CORE), "rb") as file:
+            return library, file.read()
 
 
-def tag_of(library: bytes) -> str:
-    """The tag of a wheel with this library: its processor, and the oldest glibc that has what it needs.
+def tag_of(library: bytes, core: Optional[bytes]) -> str:
+    """The tag of a wheel with these: which Python the core is for, the processor, and the oldest glibc that has what they need.
 
-    A library for another C library, or for a glibc that none of the names tells, is tagged for Linux of its processor, as built here.
+    What is for another C library, or for a glibc that none of the names tells, is tagged for Linux of its processor, as built here.
     """
+    python = "py3-none-" if core is None else "cp38-abi3-"
     processor = PROCESSORS[struct.unpack_from("<H", library, 18)[0]]
     if b"libc.so.6\0" not in library:
-        return "py3-none-linux_" + processor
-    needed = [(int(major), int(minor)) for major, minor in re.findall(rb"\0GLIBC_(\d+)\.(\d+)", library)]
+        return python + "linux_" + processor
+    needed = [(int(major), int(minor)) for major, minor in re.findall(rb"\0GLIBC_(\d+)\.(\d+)", library + (core or b""))]
     if max(needed, default=OLDEST_GLIBC) > OLDEST_GLIBC:
-        return "py3-none-manylinux_{}_{}_{}".format(*max(needed), processor)
-    return "py3-none-manylinux_2_17_{0}.manylinux2014_{0}".format(processor)
+        return python + "manylinux_{}_{}_{}".format(*max(needed), processor)
+    return python + "manylinux_2_17_{0}.manylinux2014_{0}".format(processor)
 
 
 def _record(files: Dict[str, bytes], name: str) -> bytes:
@@ -106,13 +124,15 @@ def _date() -> int:
     return max(int(os.environ.get("SOURCE_DATE_EPOCH", 0)), 315532800)
 
 
-def write_wheel(library: bytes, folder: str) -> str:
-    """Writes the wheel with this library into a folder, and returns its name."""
-    project, tag = _project(), tag_of(library)
+def write_wheel(library: bytes, core: Optional[bytes], folder: str) -> str:
+    """Writes the wheel with this library, and with the core if there is one, into a folder, and returns its name."""
+    project, tag = _project(), tag_of(library, core)
     own = "{}-{}".format(PACKAGE, project["version"])
     info = own + ".dist-info/"
     files = {"{}/{}".format(PACKAGE, name): _read(PACKAGE, name) for name in _modules()}
     files["{}/{}".format(PACKAGE, LIBRARY)] = library
+    if core is not None:
+        files["{}/{}".format(PACKAGE, CORE)] = core
     files[info + "METADATA"] = _metadata(project)
     python, abi, platforms = tag.split("-")
     tags = "".join("Tag: {}-{}-{}\n".format(python, abi, platform) for platform in platforms.split("."))
@@ -129,12 +149,12 @@ def write_wheel(library: bytes, folder: str) -> str:
 
 
 def build_wheel(wheel_directory: str, config_settings: Any = None, metadata_directory: Optional[str] = None) -> str:
-    """Builds the library, writes the wheel into this folder, and returns its name. Called by pip."""
-    return write_wheel(_built(), wheel_directory)
+    """Builds the library and the core, writes the wheel into this folder, and returns its name. Called by pip."""
+    return write_wheel(*_built(), wheel_directory)
 
 
 def build_sdist(sdist_directory: str, config_settings: Any = None) -> str:
-    """Writes a package of sources, from which pip builds the library, into this folder, and returns its name. Called by `build`."""
+    """Writes a package of sources, from which pip builds the library and the core, into this folder, and returns its name. Called by `build`."""
     project, sources = _project(), _sources()
     own = "{}-{}".format(PACKAGE, project["version"])
     files = {"PKG-INFO": _metadata(project), **{name: _read(name) for name in ("pyproject.toml", "packing.py", project["readme"])}}
@@ -154,9 +174,12 @@ def build_sdist(sdist_directory: str, config_settings: Any = None) -> str:
     return made
 
 
-def main(library: str, folder: str) -> None:
-    with open(library, "rb") as file:
-        print(os.path.join(folder, write_wheel(file.read(), folder)))
+def main(library: str, folder: str, *cores: str) -> None:
+    files = []
+    for path in (library, *cores):
+        with open(path, "rb") as file:
+            files.append(file.read())
+    print(os.path.join(folder, write_wheel(files[0], files[1] if cores else None, folder)))
 
 
 if __name__ == "__main__":
