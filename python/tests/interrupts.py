@@ -36,10 +36,13 @@ class _Countdown:
                 self.action()
 
 
-def at_instruction(number, action, call):
-    """Calls, and lets the action happen before the instruction of this number that the package runs, from 0. Whether there was one."""
+def at_instruction(number, action, call, also=()):
+    """Calls, and lets the action happen before the instruction of this number that the package runs, from 0. Whether there was one.
+
+    The instructions of the functions in `also` count, too.
+    """
     countdown = _Countdown(number, action)
-    with _quiet_finalizers(), _stepping(countdown.step):
+    with _quiet_finalizers(), _stepping(countdown.step, frozenset(function.__code__ for function in also)):
         try:
             call()
         except Interrupt:
@@ -47,10 +50,10 @@ def at_instruction(number, action, call):
     return countdown.left < 0
 
 
-def each_instruction(action, call):
+def each_instruction(action, call, also=()):
     """Does that for each instruction in turn, and yields after each."""
     number = 0
-    while at_instruction(number, action, call):
+    while at_instruction(number, action, call, also):
         number += 1
         yield number
 
@@ -69,9 +72,12 @@ if sys.version_info >= (3, 12):
             if isinstance(function, types.FunctionType) and os.path.dirname(function.__code__.co_filename) == _PACKAGE:
                 yield from _codes_of(function.__code__)
 
+    _OF_PACKAGE = frozenset(_all_codes())
+
     @contextlib.contextmanager
-    def _stepping(step, codes=frozenset(_all_codes())):
-        """Calls before each instruction of the package."""
+    def _stepping(step, also):
+        """Calls before each instruction of the package, and of these codes."""
+        codes = _OF_PACKAGE | also
         monitoring = sys.monitoring
         tool, event = monitoring.DEBUGGER_ID, monitoring.events.INSTRUCTION
         monitoring.use_tool_id(tool, "interrupts")
@@ -89,8 +95,8 @@ if sys.version_info >= (3, 12):
 else:
 
     @contextlib.contextmanager
-    def _stepping(step):
-        """Calls before each instruction of the package that this thread runs."""
+    def _stepping(step, also):
+        """Calls before each instruction of the package, and of these codes, that this thread runs."""
 
         def trace(frame, event, _):
             if event == "opcode":
@@ -98,7 +104,7 @@ else:
             return trace
 
         def begin(frame, event, _):
-            if os.path.dirname(frame.f_code.co_filename) != _PACKAGE:
+            if os.path.dirname(frame.f_code.co_filename) != _PACKAGE and frame.f_code not in also:
                 return None
             frame.f_trace_opcodes = True
             return trace

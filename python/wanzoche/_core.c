@@ -178,17 +178,15 @@ static bool call_to_wake(System *system, PyObject *again) {
     return nothing != NULL;
 }
 
-/* The same after an exception, which stays: it may have cut a wake off. One that comes meanwhile is the one that stays. */
+/*
+** The same after an exception, which stays: it may have cut a wake off. If another cuts this one off, it is tried again, and the first
+** exception is the one that goes on.
+*/
 static void wake_after_exception(System *system) {
     PyObject *kind, *error, *trace;
     PyErr_Fetch(&kind, &error, &trace);
-    if (call_to_wake(system, Py_True) || call_to_wake(system, Py_True)) {
-        PyErr_Restore(kind, error, trace);
-    } else {
-        Py_XDECREF(kind);
-        Py_XDECREF(error);
-        Py_XDECREF(trace);
-    }
+    for (int tries = 0; tries < 3 && !call_to_wake(system, Py_True); tries++) PyErr_Clear();
+    PyErr_Restore(kind, error, trace);
 }
 
 /* Wakes those whose turn has come. False with an exception, after which they are woken, too. */

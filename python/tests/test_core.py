@@ -1,0 +1,532 @@
+"""What the core in C could get wrong: memory that lacks, circles, threads that die, callers that are cut off, and bad input."""
+
+import contextlib
+import ctypes
+import gc
+import os
+import subprocess
+import sys
+import threading
+import time
+import unittest
+import warnings
+from unittest import mock
+
+import wanzoche
+from wanzoche import Closed, Entry, NotInProgress, Paths, Timeout, UnknownOperation
+from wanzoche._form import core
+
+from .declarations import BOOK, SLOT
+from .interrupts import Interrupt, at_instruction, each_instruction, interrupt, no_longer_than
+
+try:
+    import _testcapi
+except ImportError:
+    _testcapi = None
+
+
+@contextlib.contextmanager
+def lacking_memory(first, last):
+    """Python gets no memory for its allocations of these numbers, from 0; 0 as the last is all from the first on."""
+    _testcapi.set_nomemory(first, last)
+    try:
+        yield
+    finally:
+        _testcapi.remove_mem_hooks()
+
+
+class Cores(unittest.TestCase):
+    def setUp(self):
+        guard = no_longer_than(300)
+        guard.__enter__()
+        self.addCleanup(guard.__exit__, None, None, None)
+
+    def nothing_is_left(self, paths):
+        self.assertEqual((paths.report().live, paths.waiting()), ((), {}))
+
+
+class Callers(Cores):
+    """An exception before each instruction of who calls the package: between a call and what is done with its answer."""
+
+    def check(self, call, least):
+        paths = Paths(BOOK)
+        times = 0
+        with warnings.catch_warnings():
+            warnings.simplefilter("ignore", ResourceWarning)
+            for times in each_instruction(interrupt, lambda: call(paths), (call,)):
+                self.nothing_is_left(paths)
+        self.assertGreater(times, least)
+
+    def test_with(self):
+        def write(paths):
+            with paths("write"):
+                pass
+
+        self.check(write, 8)
+
+    def test_with_a_name(self):
+        def write(paths):
+            with paths("write") as entry:
+                entry.put(1)
+
+        self.check(write, 10)
+
+    def test_enter_and_leave(self):
+        def write(paths):
+            entry = paths.enter("write")
+            entry.leave()
+
+        self.check(write, 8)
+
+    def test_two_of_them(self):
+        def read(paths):
+            with paths("read"), paths("read", timeout=1):
+                paths.enter("read").leave()
+
+        self.check(read, 20)
+
+    def test_a_leave_that_is_cut_off_wakes_others_all_the_same(self):
+        number = 0
+        while True:
+            paths = Paths(BOOK)
+            entry = paths.enter("write")
+            readers = [threading.Thread(target=lambda: paths.enter("read").leave()) for _ in range(2)]
+            for reader in readers:
+                reader.start()
+            while paths.waiting() != {"read": 2}:
+                time.sleep(0.0001)
+            more = at_instruction(number, interrupt, entry.leave)
+            if paths.report().live and "write" in [each.operation for each in paths.report().live]:
+                entry.leave()  # it was cut off before its finish, as the form in Python can be
+            for reader in readers:
+                reader.join(20)
+                self.assertFalse(reader.is_alive(), "a turn was lost before instruction {}".format(number))
+            self.nothing_is_left(paths)
+            if not more:
+                break
+            number += 1
+        self.assertGreater(number, 10)
+
+
+@unittest.skipUnless(core, "there is no core")
+class Waits(Cores):
+    def test_what_an_interrupt_leaves_behind_a_wait_is_undone_while_its_traceback_lives(self):
+        wait = Entry._wait
+
+        def cut_off(entry, worker, code):
+            wait(entry, worker, code)
+            raise Interrupt
+
+        paths = Paths(SLOT)
+        threading.Timer(0.05, lambda: paths.enter("deposit").leave()).start()
+        with mock.patch.object(Entry, "_wait", cut_off):
+            try:
+                paths.enter("remove", timeout=20)
+            except Interrupt as error:
+                self.assertIsNotNone(error.__traceback__)
+                self.nothing_is_left(paths)
+                self.assertEqual(paths.journal().count("finished"), 2)
+
+    def test_an_entry_in_use_stays_so(self):
+        paths = Paths(BOOK)
+        entry = paths.enter("write")
+        for enter in (entry.__enter__, lambda: entry._try(1)):
+            with self.assertRaisesRegex(RuntimeError, "^this entry of write is in progress already$"):
+                enter()
+        self.assertEqual(entry.activation, 0)
+        entry.leave()
+
+    def test_the_first_interrupt_goes_on_if_a_wake_is_cut_off_again(self):
+        paths = Paths(BOOK)
+        entry = paths.enter("write")
+        reader = threading.Thread(target=lambda: paths.enter("read").leave())
+        reader.start()
+        while paths.waiting() != {"read": 1}:
+            time.sleep(0.0001)
+        wake_all, cut_off = type(paths._queues).wake_all, [Interrupt(1), Interrupt(2)]
+
+        def raises(queues, again=False):
+            if cut_off:
+                raise cut_off.pop(0)
+            wake_all(queues, again)
+
+        with mock.patch.object(type(paths._queues), "wake_all", raises):
+            with self.assertRaises(Interrupt) as caught:
+                entry.leave()
+            self.assertEqual(caught.exception.args, (1,))
+            reader.join(20)
+        self.assertFalse(reader.is_alive())
+        self.nothing_is_left(paths)
+
+
+class Workers(Cores):
+    def number_in(self, paths):
+        with paths("read") as entry:
+            return entry.worker
+
+    def test_a_thread_keeps_its_number_in_each_of_many_paths(self):
+        many = [Paths(BOOK, room=100) for _ in range(40)]
+        told = []
+
+        def reads():
+            told.extend(self.number_in(paths) for paths in many + many[::-1] + many)
+
+        for paths in many[::2]:
+            self.number_in(paths)
+        thread = threading.Thread(target=reads)
+        thread.start()
+        thread.join()
+        once = ["thread {}".format(2 - number % 2) for number in range(40)]
+        self.assertEqual(told, once + once[::-1] + once)
+
+    def test_a_new_thread_has_a_new_number(self):
+        paths, told = Paths(BOOK), []
+        for _ in range(50):
+            thread = threading.Thread(target=lambda: told.append(self.number_in(paths)))
+            thread.start()
+            thread.join()  # so the next may be at its place, under its identifier
+        self.assertEqual(told, ["thread {}".format(number) for number in range(1, 51)])
+
+    def test_new_paths_at_the_place_of_old_ones_count_anew(self):
+        def reads():
+            for _ in range(100):
+                self.assertEqual(self.number_in(Paths(BOOK, room=100)), "thread 1")
+
+        reads()
+        thread = threading.Thread(target=reads)
+        thread.start()
+        thread.join()
+
+    def test_what_a_dead_thread_began_can_be_left(self):
+        paths, entries = Paths(BOOK), []
+        thread = threading.Thread(target=lambda: entries.append(paths.enter("write")))
+        thread.start()
+        thread.join()
+        self.assertEqual(entries[0].worker, "thread 1")
+        entries[0].leave()
+        self.nothing_is_left(paths)
+
+
+class Circles(Cores):
+    """Entries in progress in circles, which only the collector ends."""
+
+    def collects(self, paths):
+        with self.assertWarnsRegex(ResourceWarning, "^an entry of write was dropped in progress, and is finished now$"):
+            gc.collect()
+        self.nothing_is_left(paths)
+
+    def test_a_circle_without_its_paths(self):
+        paths = Paths(BOOK)
+        circle = [paths.enter("write")]
+        circle.append(circle)
+        del circle
+        self.collects(paths)
+
+    def test_a_circle_with_its_paths(self):
+        paths = Paths(BOOK)
+        paths.own = paths.enter("write")
+        handle = paths._handle
+        with warnings.catch_warnings(record=True):
+            warnings.simplefilter("always")
+            del paths
+            gc.collect()
+        self.assertFalse(handle.live)
+
+    def test_an_entry_that_comes_back(self):
+        paths, back = Paths(BOOK), []
+
+        class Owner:
+            def __init__(self):
+                self.entry = paths.enter("write")
+                self.circle = self
+
+            def __del__(self):
+                back.append(self.entry)
+
+        Owner()
+        with warnings.catch_warnings(record=True) as told:
+            warnings.simplefilter("always")
+            gc.collect()
+            entry = back.pop()
+            self.assertEqual(len(told), 0 if paths.report().live else 1)
+            if not paths.report().live:  # the collector had finished it before
+                entry.__enter__()
+            circle = [entry]
+            circle.append(circle)
+            del entry, circle
+            gc.collect()
+        self.nothing_is_left(paths)
+
+    def test_kinds_of_entries(self):
+        class Kind(Entry):
+            pass
+
+        paths = Paths(BOOK)
+        entry = Kind(paths, "write", None)
+        entry.circle = entry
+        entry.__enter__()
+        del entry
+        self.collects(paths)
+
+    def test_a_warning_that_is_an_error_is_told_and_others_are_woken(self):
+        paths, told = Paths(BOOK), []
+        entries = [paths.enter("write")]
+        reader = threading.Thread(target=lambda: paths.enter("read").leave())
+        reader.start()
+        while paths.waiting() != {"read": 1}:
+            time.sleep(0.0001)
+        with mock.patch.object(sys, "unraisablehook", lambda what: told.append(what.exc_type)), warnings.catch_warnings():
+            warnings.simplefilter("error")
+            try:
+                raise ValueError("not lost")
+            except ValueError:
+                entries.pop()
+                self.assertEqual(str(sys.exc_info()[1]), "not lost")
+        self.assertEqual(told, [ResourceWarning])
+        reader.join(20)
+        self.assertFalse(reader.is_alive())
+
+    def test_finalizers_that_enter_while_an_entry_is_made(self):
+        paths, count = Paths(BOOK), [0]
+
+        class Circle:
+            def __init__(self):
+                self.circle = self
+
+            def __del__(self):
+                with paths("read"):
+                    count[0] += 1
+
+        before = gc.get_threshold()
+        self.addCleanup(gc.set_threshold, *before)
+        gc.set_threshold(1)
+        for _ in range(300):
+            Circle()
+            with paths("read"), paths("read"):
+                pass
+        gc.set_threshold(*before)
+        gc.collect()
+        self.assertEqual(count, [300])
+        self.nothing_is_left(paths)
+        self.assertTrue(paths.audit())
+
+
+class References(Cores):
+    """Nothing is counted once too often or too rarely."""
+
+    def test_each_way_through(self):
+        paths, closed = Paths(BOOK, room=1048576), Paths(SLOT)
+        closed.close()
+        name, timeout = "".join(["wri", "te"]), 12345.5
+        unknown = "".join(["ste", "al"])
+        calls = [
+            lambda: paths(name, timeout).__enter__().leave(),
+            lambda: paths(name, timeout=timeout),
+            lambda: paths(name).__enter__(),  # dropped
+            lambda: paths(unknown),
+            lambda: paths(name).leave(),
+            lambda: paths([]),
+            lambda: paths(),
+            lambda: closed.enter("deposit"),
+            lambda: paths.enter("read").__enter__(),
+            lambda: paths.try_enter(name).leave(),
+            lambda: repr(paths.enter(name)),
+        ]
+
+        def counts():
+            return [sys.getrefcount(each) for each in (paths, closed, name, timeout, unknown, Entry, None if core is None else core.Entry)]
+
+        def all_ways(times):
+            for _ in range(times):
+                for call in calls:
+                    with contextlib.suppress(UnknownOperation, NotInProgress, TypeError, Closed, RuntimeError):
+                        call()
+
+        with warnings.catch_warnings():
+            warnings.simplefilter("ignore", ResourceWarning)
+            all_ways(20)
+            gc.collect()
+            before, objects = counts()[:-1], len(gc.get_objects())
+            all_ways(100)
+            gc.collect()
+            self.assertEqual(counts()[:-1], before)
+            self.assertLess(len(gc.get_objects()) - objects, 50)
+        self.nothing_is_left(paths)
+
+    def test_paths_go_when_nobody_holds_them(self):
+        paths = Paths(BOOK)
+        handle, entry = paths._handle, paths("read")
+        with entry:
+            pass
+        gc.disable()
+        self.addCleanup(gc.enable)
+        del paths
+        self.assertTrue(handle.live)
+        del entry
+        self.assertFalse(handle.live)  # without the collector
+
+
+@unittest.skipUnless(_testcapi and hasattr(_testcapi, "set_nomemory"), "this Python can't be made to lack memory")
+class Memory(Cores):
+    """Each allocation that fails is a MemoryError, and nothing is left."""
+
+    @unittest.skipUnless(core, "there is no core")
+    def test_a_start_and_a_finish_take_none(self):
+        paths = Paths(BOOK)
+        entry = paths("write")
+        with entry:
+            pass
+        enter, leave, leaves = entry.__enter__, entry.leave, entry.__exit__
+        with lacking_memory(0, 0):
+            enter()
+            leave()
+            enter()
+            leaves(None, None, None)
+        self.assertEqual(paths.journal().count("finished"), 3)
+
+    def refused_in_turn(self, call, paths):
+        """Refuses each allocation of the call in turn, until it has all it wants."""
+        number, refused = 0, 0
+        while refused < number + 1 and number < 2000:
+            try:
+                with lacking_memory(number, number + 1):
+                    call()
+                break
+            except (MemoryError, ctypes.ArgumentError, RuntimeError):  # the last two as ctypes and locks say it
+                refused += 1
+            self.nothing_is_left(paths)
+            number += 1
+        return refused
+
+    def test_with(self):
+        paths = Paths(BOOK)
+
+        def write():
+            with paths("write"):
+                pass
+
+        write()
+        self.assertGreater(self.refused_in_turn(write, paths), 0)
+        self.nothing_is_left(paths)
+        with paths("write", timeout=0):
+            pass
+
+    @unittest.skipIf(sys.version_info >= (3, 11), "Python itself crashes where it has no memory for a frame or an attribute")
+    def test_one_whose_time_is_over(self):
+        paths = Paths(SLOT)
+
+        def late():
+            with contextlib.suppress(Timeout):
+                paths.enter("remove", timeout=0)
+
+        late()
+        self.assertGreater(self.refused_in_turn(late, paths), 20)
+        self.nothing_is_left(paths)
+        with paths("deposit", timeout=0), self.assertRaises(Timeout):
+            paths.enter("remove", timeout=0)
+
+
+class BadInput(Cores):
+    def refuses(self, error, *calls):
+        for number, call in enumerate(calls):
+            with self.subTest(number), self.assertRaises(error):
+                call()
+
+    def test_names_and_times(self):
+        paths = Paths(BOOK)
+        self.refuses(
+            TypeError,
+            lambda: paths(),
+            lambda: paths([]),
+            lambda: paths("write", 1, 2),
+            lambda: paths("write", nothing=1),
+            lambda: paths.aio(),
+            lambda: Entry(),
+            lambda: Entry(paths),
+            lambda: paths("write").__exit__(),
+            lambda: paths("write").leave(1),
+        )
+        self.refuses(UnknownOperation, lambda: paths(1), lambda: paths(""), lambda: paths(None), lambda: paths(b"write"))
+        with paths(operation="write", timeout=2) as entry:
+            self.refuses(TypeError, lambda: paths("read", timeout="soon").__enter__())
+        self.assertEqual(repr(entry), "<Entry of write: not in progress>")
+        self.nothing_is_left(paths)
+
+    @unittest.skipUnless(core, "there is no core")
+    def test_what_only_the_package_calls(self):
+        paths, bare = Paths(BOOK), core.System()
+        entry, queues, handle = paths("write"), paths._queues, object()
+        self.refuses(
+            TypeError,
+            lambda: core.Entry(1, "write", None),
+            lambda: core.Entry(bare),
+            lambda: core.Calls(1),
+            lambda: core.Calls("", 1, 1, 1, handle),
+            lambda: bare._set_up(),
+            lambda: bare._set_up(paths._calls, [], queues, queues.due, Entry),
+            lambda: bare._set_up(paths._calls, {}, queues, [], Entry),
+            lambda: bare._set_up(paths._calls, {}, queues, queues.due, int),
+            lambda: bare._set_up(handle, {}, queues, queues.due, Entry),
+            lambda: entry._begin("one"),
+            lambda: paths._calls.is_blocked(None),
+        )
+        self.refuses(RuntimeError, lambda: bare("write"), lambda: core.Entry(bare, "write", None), lambda: Paths.__new__(Paths)("write"))
+        self.refuses(ValueError, lambda: core.Calls(1, 1, 1, 0, handle), lambda: core.Calls(0, 1, 1, 1, handle))
+        self.refuses(OverflowError, lambda: entry._begin(-1), lambda: entry._begin(1 << 32), lambda: entry._begin(1 << 64))
+        self.refuses(AttributeError, lambda: setattr(entry, "_op", 7), lambda: setattr(entry, "_paths", None))
+        self.assertFalse(paths._calls.is_blocked(4000000000))
+        with entry:
+            self.assertTrue(entry._live)
+
+    def test_paths_that_are_opened_again(self):
+        paths = Paths(BOOK)
+        entry = paths.enter("write")
+        paths.__init__(SLOT)
+        with contextlib.suppress(NotInProgress):
+            entry.leave()
+        with paths("deposit"):
+            pass
+        self.nothing_is_left(paths)
+
+    def test_a_number_that_is_none(self):
+        paths = Paths(BOOK)
+        for wrong, error in (("x", TypeError), (-1, OverflowError), (1 << 40, OverflowError)):
+            with mock.patch.object(Paths, "_thread_worker", lambda _: wrong):
+                if core is not None:
+                    self.refuses(error, lambda: paths("read").__enter__())
+        self.nothing_is_left(paths)
+
+
+class Forms(unittest.TestCase):
+    """The variable that chooses the form."""
+
+    def told(self, choice, program):
+        environment = dict(os.environ, WANZOCHE_CORE=choice, PYTHONPATH=os.path.dirname(os.path.dirname(wanzoche.__file__)))
+        ended = subprocess.run([sys.executable, "-c", program], stdout=subprocess.PIPE, stderr=subprocess.STDOUT, env=environment, timeout=60)
+        return ended.stdout.decode()
+
+    def test_none(self):
+        self.assertEqual(self.told("none", "from wanzoche._form import core; print(core)"), "None\n")
+
+    def test_a_path(self):
+        self.assertIn("ImportError: WANZOCHE_CORE names /nowhere/core, which isn't there\n", self.told("/nowhere/core", "import wanzoche"))
+        self.assertIn("ImportError: {}".format(os.path.abspath(__file__)), self.told(os.path.abspath(__file__), "import wanzoche"))
+
+    @unittest.skipUnless(core, "there is no core")
+    def test_the_module(self):
+        path = os.environ.get("WANZOCHE_CORE", "")
+        self.assertIn("wanzoche._core", self.told(path, "from wanzoche._form import core; print(core)"))
+
+    @unittest.skipUnless(hasattr(_testcapi, "run_in_subinterp"), "this Python has no other interpreters")
+    def test_another_interpreter(self):
+        program = (
+            "import _testcapi; own = '''{0}'''; exec(own); print(_testcapi.run_in_subinterp(own)); exec(own)".format(
+                "from wanzoche import Paths\npaths = Paths(\"resource r cell operation a path a end end\")\n"
+                "with paths(\"a\") as entry: pass\nprint(entry, flush=True)\n"
+            )
+        )
+        self.assertEqual(self.told(os.environ.get("WANZOCHE_CORE", ""), program), "<Entry of a: not in progress>\n" * 2 + "0\n" + "<Entry of a: not in progress>\n")
+
+
+if __name__ == "__main__":
+    unittest.main()
