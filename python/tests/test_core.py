@@ -10,11 +10,13 @@ import threading
 import time
 import unittest
 import warnings
+import weakref
 from unittest import mock
 
 import wanzoche
 from wanzoche import Closed, Entry, NotInProgress, Paths, Timeout, UnknownOperation
 from wanzoche._form import core
+from wanzoche._waiting import ThreadWaiter
 
 from .declarations import BOOK, SLOT
 from .interrupts import Interrupt, at_instruction, each_instruction, interrupt, no_longer_than
@@ -37,7 +39,7 @@ def lacking_memory(first, last):
 
 class Cores(unittest.TestCase):
     def setUp(self):
-        guard = no_longer_than(300)
+        guard = no_longer_than(30)
         guard.__enter__()
         self.addCleanup(guard.__exit__, None, None, None)
 
@@ -110,22 +112,58 @@ class Callers(Cores):
 
 @unittest.skipUnless(core, "there is no core")
 class Waits(Cores):
-    def test_what_an_interrupt_leaves_behind_a_wait_is_undone_while_its_traceback_lives(self):
-        wait = Entry._wait
+    def test_one_that_is_cut_off_behind_its_turn_is_undone_while_the_traceback_lives(self):
+        """Two wait; the first is admitted, and an interrupt comes as it wakes the second."""
+        paths, others = Paths(BOOK), []
+        entry = paths.enter("write")
+        wake_all, cut_off = type(paths._queues).wake_all, []
 
-        def cut_off(entry, worker, code):
-            wait(entry, worker, code)
-            raise Interrupt
+        def raises(queues, again=False):
+            if cut_off and threading.current_thread() is threading.main_thread():
+                raise cut_off.pop()
+            wake_all(queues, again)
 
-        paths = Paths(SLOT)
-        threading.Timer(0.05, lambda: paths.enter("deposit").leave()).start()
-        with mock.patch.object(Entry, "_wait", cut_off):
+        def lets_both_in():
+            while paths.waiting() != {"read": 1}:
+                time.sleep(0.0001)
+            others.append(threading.Thread(target=lambda: paths.enter("read").leave()))
+            others[0].start()
+            while paths.waiting() != {"read": 2}:
+                time.sleep(0.0001)
+            cut_off.append(Interrupt())
+            entry.leave()
+
+        writer = threading.Thread(target=lets_both_in)
+        writer.start()
+        with mock.patch.object(type(paths._queues), "wake_all", raises):
             try:
-                paths.enter("remove", timeout=20)
+                with paths("read"):
+                    self.fail("it was cut off before")
             except Interrupt as error:
                 self.assertIsNotNone(error.__traceback__)
+                for thread in (writer, *others):
+                    thread.join(20)
+                    self.assertFalse(thread.is_alive(), "a turn was lost")
                 self.nothing_is_left(paths)
-                self.assertEqual(paths.journal().count("finished"), 2)
+                self.assertEqual((paths.journal().count("finished"), cut_off), (3, []))
+
+    def test_one_that_is_in_use_when_its_turn_comes_leaves_the_other_alone(self):
+        """A handler enters the entry that its own thread waits for."""
+        paths = Paths(BOOK)
+        entry, write = paths("read"), paths.enter("write")
+        wait = ThreadWaiter.wait
+
+        def entered_meanwhile(waiter):
+            wait(waiter)
+            with mock.patch.object(ThreadWaiter, "wait", wait):
+                entry.__enter__()
+
+        threading.Timer(0.05, write.leave).start()
+        with mock.patch.object(ThreadWaiter, "wait", entered_meanwhile):
+            with self.assertRaisesRegex(RuntimeError, "^this entry of read is in progress already$"):
+                entry.__enter__()
+        self.assertEqual((entry.activation, paths.waiting()), (1, {}))
+        entry.leave()
 
     def test_an_entry_in_use_stays_so(self):
         paths = Paths(BOOK)
@@ -223,14 +261,72 @@ class Circles(Cores):
         self.collects(paths)
 
     def test_a_circle_with_its_paths(self):
-        paths = Paths(BOOK)
+        paths, told = Paths(BOOK), []
         paths.own = paths.enter("write")
         handle = paths._handle
-        with warnings.catch_warnings(record=True):
-            warnings.simplefilter("always")
-            del paths
+        with mock.patch.object(sys, "unraisablehook", told.append):
+            with self.assertWarnsRegex(ResourceWarning, "^an entry of write was dropped in progress, and is finished now$"):
+                del paths
+                gc.collect()
+        self.assertEqual((handle.live, told), (False, []))
+
+    def test_circles_through_what_the_paths_hold(self):
+        class Leads:
+            pass
+
+        def through_numbers(paths, leads):
+            paths._numbers["more"] = leads
+
+        def through_queues(paths, leads):
+            paths._queues._queues[9, None] = leads
+
+        def through_due(paths, leads):
+            paths._queues.due.add(leads)
+
+        def through_name(paths, leads):
+            name = type("Name", (str,), {})("read")
+            name.leads, leads.entry = leads, paths(name)
+
+        def through_timeout(paths, leads):
+            leads.entry = paths("read", timeout=[leads])
+
+        def through_entry(paths, leads):
+            leads.entry = paths("read")
+
+        for through in (through_numbers, through_queues, through_due, through_name, through_timeout, through_entry):
+            paths, leads = Paths(BOOK, room=100), Leads()
+            leads.paths, handle = paths, paths._handle
+            through(paths, leads)
+            self.assertTrue(handle.live)
+            del paths, leads
             gc.collect()
-        self.assertFalse(handle.live)
+            self.assertFalse(handle.live, through.__name__)
+
+    def test_kinds_that_nobody_holds(self):
+        class Own(Paths):
+            pass
+
+        class Kind(Entry):
+            pass
+
+        paths = Own(BOOK, room=100)
+        Kind.entry, Own.paths = Kind(paths, "read", None), paths
+        kinds = [weakref.ref(Kind), weakref.ref(Own)]
+        del Kind, Own, paths
+        gc.collect()
+        self.assertEqual([kind() for kind in kinds], [None, None])
+
+    @unittest.skipUnless(core, "there is no core")
+    def test_calls_keep_their_handle(self):
+        paths = Paths(BOOK, room=100)
+        calls, handle = paths._calls, weakref.ref(paths._handle)
+        paths.close()
+        del paths
+        gc.collect()
+        self.assertIsNotNone(handle())
+        self.assertFalse(calls.is_blocked(0))
+        del calls
+        self.assertIsNone(handle())
 
     def test_an_entry_that_comes_back(self):
         paths, back = Paths(BOOK), []
@@ -285,6 +381,28 @@ class Circles(Cores):
         self.assertEqual(told, [ResourceWarning])
         reader.join(20)
         self.assertFalse(reader.is_alive())
+
+    def test_a_drop_that_is_cut_off_wakes_others_all_the_same(self):
+        paths, told = Paths(BOOK), []
+        entries = [paths.enter("write")]
+        reader = threading.Thread(target=lambda: paths.enter("read").leave())
+        reader.start()
+        while paths.waiting() != {"read": 1}:
+            time.sleep(0.0001)
+        wake_all, cut_off = type(paths._queues).wake_all, [Interrupt()]
+
+        def raises(queues, again=False):
+            if cut_off:
+                raise cut_off.pop()
+            wake_all(queues, again)
+
+        with mock.patch.object(type(paths._queues), "wake_all", raises):
+            with mock.patch.object(sys, "unraisablehook", lambda what: told.append(what.exc_type)), warnings.catch_warnings():
+                warnings.simplefilter("ignore")
+                entries.pop()
+            reader.join(20)
+        self.assertFalse(reader.is_alive())
+        self.assertIn(told, ([], [Interrupt]))
 
     def test_finalizers_that_enter_while_an_entry_is_made(self):
         paths, count = Paths(BOOK), [0]

@@ -73,16 +73,20 @@ def admitted(operation: Operation, code: int, worker: int) -> bool:
     return code == native.STARTED
 
 
-def _admitted_by_now(operation: Operation, worker: int, waiter: Waiter) -> bool:
-    """Tries once more, where no path forbids it. Raises `Timeout` if the time is over."""
-    paths = operation._paths
-    if not paths._calls.is_blocked(operation._op):
-        if admitted(operation, operation._begin(worker), worker):
-            return True
+def raise_if_late(operation: Operation, waiter: Waiter) -> None:
+    """Raises `Timeout` if the time is over, and a path still forbids the start."""
     left = waiter.left()
-    why = paths.why(operation._name) if left is not None and left <= 0 else None
+    why = operation._paths.why(operation._name) if left is not None and left <= 0 else None
     if why is not None:
         raise Timeout(why.operation, why.path, why.resource, why.text, why.in_progress, operation._timeout)
+
+
+def _admitted_by_now(operation: Operation, worker: int, waiter: Waiter) -> bool:
+    """Tries once more, where no path forbids it. Raises `Timeout` if the time is over."""
+    if not operation._paths._calls.is_blocked(operation._op):
+        if admitted(operation, operation._begin(worker), worker):
+            return True
+    raise_if_late(operation, waiter)
     return False
 
 

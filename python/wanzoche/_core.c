@@ -171,29 +171,29 @@ static bool number_of_thread(System *system, uint32_t *worker) {
 
 /* Those that wait. */
 
-/* Calls a method that gives nothing. False with an exception. */
-static bool call_to_wake(System *system, PyObject *again) {
-    PyObject *nothing = PyObject_CallMethod(system->queues, "wake_all", "O", again);
+/* Calls a method with one argument, and needs no answer. False with an exception. */
+static bool call(PyObject *object, const char *method, PyObject *argument) {
+    PyObject *nothing = PyObject_CallMethod(object, method, "O", argument);
     Py_XDECREF(nothing);
     return nothing != NULL;
 }
 
 /*
-** The same after an exception, which stays: it may have cut a wake off. If another cuts this one off, it is tried again, and the first
-** exception is the one that goes on.
+** The same after an exception, which stays. An interrupt may have cut such a call off, and if another cuts this one off, it is tried again;
+** the first exception is the one that goes on.
 */
-static void wake_after_exception(System *system) {
+static void call_surely(PyObject *object, const char *method, PyObject *argument) {
     PyObject *kind, *error, *trace;
     PyErr_Fetch(&kind, &error, &trace);
-    for (int tries = 0; tries < 3 && !call_to_wake(system, Py_True); tries++) PyErr_Clear();
+    for (int tries = 0; tries < 3 && !call(object, method, argument); tries++) PyErr_Clear();
     PyErr_Restore(kind, error, trace);
 }
 
 /* Wakes those whose turn has come. False with an exception, after which they are woken, too. */
 static bool wake(System *system) {
     if (PySet_Size(system->due) == 0) return true;
-    if (call_to_wake(system, Py_False)) return true;
-    wake_after_exception(system);
+    if (call(system->queues, "wake_all", Py_False)) return true;
+    call_surely(system->queues, "wake_all", Py_True);
     return false;
 }
 
@@ -261,7 +261,7 @@ static void drop(Entry *entry) {
     end(entry);
     said = PyObject_CallMethod((PyObject *)system, "_dropped", "O", entry->name);
     if (said == NULL) {
-        wake_after_exception(system);
+        call_surely(system->queues, "wake_all", Py_True);
         PyErr_WriteUnraisable((PyObject *)system);
     }
     Py_XDECREF(said);
@@ -294,21 +294,90 @@ static int entry_traverse(PyObject *self, visitproc visit, void *arg) {
     return 0;
 }
 
+/* How a thread waits for its turn. */
+typedef struct Wait {
+    Entry *entry;
+    uint32_t worker;
+    uint32_t code;    /* of the last answer to an attempt */
+    PyObject *waiter; /* null until it is made */
+    PyObject *queue;   /* where the waiter waits; null before */
+    PyObject *waiters; /* all that wait there: a dict in their order */
+} Wait;
+
+/* Makes a waiter, and lets it join its queue. False with an exception. */
+static bool join(Wait *wait) {
+    Entry *entry = wait->entry;
+    wait->waiter = PyObject_CallMethod((PyObject *)entry, "_new_waiter", "IO", entry->operation, entry->timeout);
+    if (wait->waiter == NULL) return false;
+    wait->queue = PyObject_CallMethod(entry->system->queues, "join", "O", wait->waiter);
+    if (wait->queue == NULL) return false;
+    wait->waiters = PyObject_GetAttrString(wait->queue, "waiters");
+    return wait->waiters != NULL;
+}
+
+/* Of one that was admitted: it waits no more, and the next is woken. False with an exception. */
+static bool quit(Wait *wait) {
+    System *system = wait->entry->system;
+    Calls *calls = system->calls;
+    if (PyObject_DelItem(wait->waiters, wait->waiter) < 0 || PySet_Add(system->due, wait->queue) < 0) return false;
+    if (PyObject_Size(wait->waiters) == 0) return true;
+    if (calls->can_start(calls->handle, wait->entry->operation).code == WANZOCHE_BLOCKED) return true;
+    return call(system->queues, "wake_all", Py_False);
+}
+
+/* Sleeps until it is woken or the time is over, and is going to ask again. False with an exception, also if the time was over before. */
+static bool sleep_once(Wait *wait) {
+    Entry *entry = wait->entry;
+    PyObject *nothing;
+    if (entry->timeout != Py_None && !call((PyObject *)entry, "_is_late", wait->waiter)) return false;
+    nothing = PyObject_CallMethod(wait->waiter, "wait", NULL);
+    Py_XDECREF(nothing);
+    return nothing != NULL && PySet_Add(entry->system->due, wait->queue) == 0;
+}
+
+/* Lets Python do what an answer asks for that is neither started nor blocked, and has the answer after that. False with an exception. */
+static bool answer_otherwise(Wait *wait) {
+    PyObject *is_admitted = PyObject_CallMethod((PyObject *)wait->entry, "_admitted", "II", wait->code, wait->worker);
+    if (is_admitted == NULL) return false;
+    wait->code = is_admitted == Py_True ? WANZOCHE_STARTED : WANZOCHE_BLOCKED;
+    Py_DECREF(is_admitted);
+    return true;
+}
+
 /*
-** Waits in Python until it is admitted. False with an exception: then this turn has begun nothing, or it is over. If the entry is in use,
-** another turn has begun it.
+** From an answer to an attempt to the next. Who waits joins its queue before it asks once more, so that a finish comes before that question or
+** finds it in the queue. Only what isn't blocked is attempted again. False with an exception.
 */
-static bool wait(Entry *entry, uint32_t worker, uint32_t code) {
-    PyObject *nothing = PyObject_CallMethod((PyObject *)entry, "_wait", "II", worker, code);
-    if (nothing != NULL) {
-        Py_DECREF(nothing);
-        return true;
-    }
-    if (entry->record.live && entry->record.worker == worker && !PyErr_ExceptionMatches(in_use)) {
-        end(entry);
-        wake_after_exception(entry->system);
-    }
-    return false;
+static bool try_again(Wait *wait) {
+    Entry *entry = wait->entry;
+    Calls *calls;
+    if (wait->code != WANZOCHE_BLOCKED) return answer_otherwise(wait);
+    if (!(wait->waiter == NULL ? join(wait) : sleep_once(wait))) return false;
+    calls = entry->system->calls;
+    if (calls->can_start(calls->handle, entry->operation).code == WANZOCHE_BLOCKED) return true;
+    return begin(entry, wait->worker, &wait->code);
+}
+
+/* After an exception, which stays: this turn has begun nothing, nobody waits for it, and others have their turn. */
+static void undo(Wait *wait) {
+    Entry *entry = wait->entry;
+    bool is_of_this_turn = entry->record.worker == wait->worker && !PyErr_ExceptionMatches(in_use);
+    if (wait->waiter != NULL) call_surely(entry->system->queues, "quit", wait->waiter);
+    if (is_of_this_turn) end(entry);
+    call_surely(entry->system->queues, "wake_all", Py_True);
+}
+
+/* Waits until it is admitted, from the answer to the first attempt on. False with an exception, and then nothing is left of it. */
+static bool wait_for_turn(Entry *entry, uint32_t worker, uint32_t code) {
+    Wait wait = {entry, worker, code, NULL, NULL, NULL};
+    bool is_well = true;
+    while (is_well && wait.code != WANZOCHE_STARTED) is_well = try_again(&wait);
+    if (is_well && wait.waiter != NULL) is_well = quit(&wait);
+    if (!is_well) undo(&wait);
+    Py_XDECREF(wait.waiters);
+    Py_XDECREF(wait.queue);
+    Py_XDECREF(wait.waiter);
+    return is_well;
 }
 
 static PyObject *entry_enter(PyObject *self, PyObject *nothing) {
@@ -317,7 +386,7 @@ static PyObject *entry_enter(PyObject *self, PyObject *nothing) {
     (void)nothing;
     if (!number_of_thread(entry->system, &worker)) return NULL;
     if (!begin(entry, worker, &code)) return NULL;
-    if (code != WANZOCHE_STARTED && !wait(entry, worker, code)) return NULL;
+    if (code != WANZOCHE_STARTED && !wait_for_turn(entry, worker, code)) return NULL;
     Py_INCREF(self);
     return self;
 }

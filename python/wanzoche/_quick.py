@@ -6,7 +6,7 @@ from ctypes import addressof
 from typing import TYPE_CHECKING, cast
 
 from . import _native as native
-from ._attempts import admitted, waiting
+from ._attempts import admitted, raise_if_late, waiting
 from ._form import core
 from ._waiting import TaskWaiter, ThreadWaiter
 
@@ -31,10 +31,16 @@ class Entry(CoreEntry):
 
     __slots__ = ()
 
-    def _wait(self, worker: int, code: int) -> None:
-        """Called where the first attempt of a thread wasn't admitted: waits until one is."""
-        for waiter in waiting(self, code, worker, ThreadWaiter):
-            cast(ThreadWaiter, waiter).wait()
+    _new_waiter = ThreadWaiter
+    """Called with an operation and a time limit, where a thread has to wait."""
+
+    def _admitted(self, code: int, worker: int) -> bool:
+        """Called where an attempt of a thread was neither admitted nor blocked: makes room, or raises what is in the way."""
+        return admitted(self, code, worker)
+
+    def _is_late(self, waiter: ThreadWaiter) -> None:
+        """Called before a thread with a time limit waits: raises `Timeout` if the time is over."""
+        raise_if_late(self, waiter)
 
     async def _enter_as_task(self) -> None:
         worker = self._paths._task_worker()

@@ -25,6 +25,9 @@ class Calls(Protocol):
         """Whether a path forbids the operation of this number now."""
 
 
+_new_lock = threading.Lock
+
+
 class Waiter:
     """Who waits for one operation, and until when."""
 
@@ -50,9 +53,10 @@ class ThreadWaiter(Waiter):
     __slots__ = ("_asleep",)
 
     def __init__(self, op: int, seconds: Optional[float]) -> None:
-        super().__init__(op, seconds)
-        self._asleep = threading.Lock()
-        self._asleep.acquire()
+        self.op, self.loop = op, None
+        self._until = None if seconds is None else time.monotonic() + seconds
+        self._asleep = asleep = _new_lock()
+        asleep.acquire()
 
     def wake(self) -> None:
         try:
@@ -62,11 +66,10 @@ class ThreadWaiter(Waiter):
 
     def wait(self) -> None:
         """Waits until it is woken, or the time is over."""
-        left = self.left()
-        if left is None:
+        if self._until is None:
             self._asleep.acquire()
         else:
-            self._asleep.acquire(True, min(max(left, 0.0), threading.TIMEOUT_MAX))
+            self._asleep.acquire(True, min(max(self._until - time.monotonic(), 0.0), threading.TIMEOUT_MAX))
 
 
 class TaskWaiter(Waiter):
@@ -137,11 +140,12 @@ class Queues:
         self._queues: Dict[Tuple[int, _Loop], Queue] = {}
         self.due: Set[Queue] = set()
 
-    def join(self, waiter: Waiter) -> None:
-        """The waiter waits for its operation, behind those that wait for it already."""
+    def join(self, waiter: Waiter) -> Queue:
+        """The waiter waits for its operation, behind those that wait for it already, in this queue."""
         queue = self._queues.get((waiter.op, waiter.loop)) or self._new_queue(waiter)
         queue.waiters[waiter] = None
         self.due.add(queue)
+        return queue
 
     def asks(self, waiter: Waiter) -> None:
         """The waiter was woken, and is going to ask whether it may start."""
@@ -165,7 +169,8 @@ class Queues:
         """Wakes the first of each queue whose operation may start, if it is due; of all queues after an interrupt, which may have come just
         before a wake."""
         for queue in list(self._queues.values() if again else self.due):
-            self._wake_first(queue)
+            if not (queue.waiters and self._is_blocked(queue.op)):
+                self._wake_first(queue)
 
     def end_all(self) -> None:
         """Wakes all that wait."""
@@ -180,16 +185,20 @@ class Queues:
         return self._queues.setdefault((waiter.op, waiter.loop), Queue(waiter.op, waiter.loop))
 
     def _wake_first(self, queue: Queue) -> None:
-        if queue.waiters:
-            if not self._is_blocked(queue.op):
-                self.due.discard(queue)
-                first = queue.first()
-                if first is not None:
-                    self._wake(queue, first)
-        else:
+        if not queue.waiters:
             self.due.discard(queue)
             if queue.waiters:  # one that came meanwhile
                 self.due.add(queue)
+        elif not self._is_blocked(queue.op):
+            self.due.discard(queue)
+            try:
+                for first in queue.waiters:
+                    first.wake()
+                    break
+            except RuntimeError:  # another thread changed the queue meanwhile, or the loop is closed
+                first_now = queue.first()
+                if first_now is not None:
+                    self._wake(queue, first_now)
 
     def _wake(self, queue: Queue, waiter: Waiter) -> None:
         try:
