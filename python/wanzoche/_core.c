@@ -63,6 +63,40 @@ static PyTypeObject *calls_type, *system_type, *entry_type;
 /* What a second gets that enters an entry in progress. It is made here, so that no interrupt can come in its place. */
 static PyObject *in_use;
 
+/* The methods of Python that are called. */
+enum Method { ADMITTED, CLOSED, DROPPED, IS_LATE, JOIN, NEW_WAITER, NOT_IN_PROGRESS, NUMBER, QUIT, THREAD_WORKER, WAIT, WAITERS, WAKE_ALL, METHODS };
+
+static const char *const spelled[METHODS] = {
+    [ADMITTED] = "_admitted",
+    [CLOSED] = "_closed",
+    [DROPPED] = "_dropped",
+    [IS_LATE] = "_is_late",
+    [JOIN] = "join",
+    [NEW_WAITER] = "_new_waiter",
+    [NOT_IN_PROGRESS] = "_not_in_progress",
+    [NUMBER] = "_number",
+    [QUIT] = "quit",
+    [THREAD_WORKER] = "_thread_worker",
+    [WAIT] = "wait",
+    [WAITERS] = "waiters",
+    [WAKE_ALL] = "wake_all",
+};
+
+/* Their names as Python has them, made once: a name that is made anew isn't in the interpreter's cache of methods. */
+static PyObject *names[METHODS];
+
+/* What a method returns, called with these arguments, of which the second or both may be null. Null with an exception. */
+static PyObject *answer_of(void *object, enum Method method, void *first, void *second) {
+    return PyObject_CallMethodObjArgs(object, names[method], first, second, NULL);
+}
+
+/* The same for a method that returns nothing of use. False with an exception. */
+static bool call(void *object, enum Method method, void *argument) {
+    PyObject *nothing = answer_of(object, method, argument, NULL);
+    Py_XDECREF(nothing);
+    return nothing != NULL;
+}
+
 /* In 3.8 the type of an instance is visited for it; later its own traverse has to. */
 static bool visits_type;
 
@@ -158,7 +192,7 @@ static _Thread_local struct {
 static bool number_of_thread(System *system, uint32_t *worker) {
     size_t place = system->serial % KNOWN;
     if (known[place].serial != system->serial) {
-        PyObject *number = PyObject_CallMethod((PyObject *)system, "_thread_worker", NULL);
+        PyObject *number = answer_of(system, THREAD_WORKER, NULL, NULL);
         bool is_number = number != NULL && number_in(number, worker);
         Py_XDECREF(number);
         if (!is_number) return false;
@@ -171,18 +205,11 @@ static bool number_of_thread(System *system, uint32_t *worker) {
 
 /* Those that wait. */
 
-/* Calls a method with one argument, and needs no answer. False with an exception. */
-static bool call(PyObject *object, const char *method, PyObject *argument) {
-    PyObject *nothing = PyObject_CallMethod(object, method, "O", argument);
-    Py_XDECREF(nothing);
-    return nothing != NULL;
-}
-
 /*
-** The same after an exception, which stays. An interrupt may have cut such a call off, and if another cuts this one off, it is tried again;
+** Calls a method after an exception, which stays. An interrupt may have cut such a call off, and if another cuts this one off, it is tried again;
 ** the first exception is the one that goes on.
 */
-static void call_surely(PyObject *object, const char *method, PyObject *argument) {
+static void call_surely(void *object, enum Method method, void *argument) {
     PyObject *kind, *error, *trace;
     PyErr_Fetch(&kind, &error, &trace);
     for (int tries = 0; tries < 3 && !call(object, method, argument); tries++) PyErr_Clear();
@@ -192,8 +219,8 @@ static void call_surely(PyObject *object, const char *method, PyObject *argument
 /* Wakes those whose turn has come. False with an exception, after which they are woken, too. */
 static bool wake(System *system) {
     if (PySet_Size(system->due) == 0) return true;
-    if (call(system->queues, "wake_all", Py_False)) return true;
-    call_surely(system->queues, "wake_all", Py_True);
+    if (call(system->queues, WAKE_ALL, Py_False)) return true;
+    call_surely(system->queues, WAKE_ALL, Py_True);
     return false;
 }
 
@@ -219,7 +246,7 @@ static bool number_of_operation(System *system, PyObject *name, uint32_t *operat
     bool is_number;
     if (number != NULL) return number_in(number, operation);
     if (PyErr_Occurred()) return false;
-    number = PyObject_CallMethod((PyObject *)system, "_number", "O", name); /* which says what is wrong */
+    number = answer_of(system, NUMBER, name, NULL); /* which says what is wrong */
     is_number = number != NULL && number_in(number, operation);
     Py_XDECREF(number);
     return is_number;
@@ -247,24 +274,22 @@ static PyObject *new_entry(System *system, PyTypeObject *type, PyObject *name, P
 }
 
 static PyObject *entry_new(PyTypeObject *type, PyObject *args, PyObject *named) {
-    static char *names[] = {"paths", "operation", "timeout", NULL};
+    static char *keywords[] = {"paths", "operation", "timeout", NULL};
     PyObject *system, *name, *timeout;
-    if (!PyArg_ParseTupleAndKeywords(args, named, "O!OO:Entry", names, system_type, &system, &name, &timeout)) return NULL;
+    if (!PyArg_ParseTupleAndKeywords(args, named, "O!OO:Entry", keywords, system_type, &system, &name, &timeout)) return NULL;
     return new_entry((System *)system, type, name, timeout);
 }
 
 /* Of one in progress that nobody holds: finishes it, and says so. */
 static void drop(Entry *entry) {
-    PyObject *kind, *error, *trace, *said;
+    PyObject *kind, *error, *trace;
     System *system = entry->system;
     PyErr_Fetch(&kind, &error, &trace);
     end(entry);
-    said = PyObject_CallMethod((PyObject *)system, "_dropped", "O", entry->name);
-    if (said == NULL) {
-        call_surely(system->queues, "wake_all", Py_True);
+    if (!call(system, DROPPED, entry->name)) {
+        call_surely(system->queues, WAKE_ALL, Py_True);
         PyErr_WriteUnraisable((PyObject *)system);
     }
-    Py_XDECREF(said);
     PyErr_Restore(kind, error, trace);
 }
 
@@ -307,11 +332,14 @@ typedef struct Wait {
 /* Makes a waiter, and lets it join its queue. False with an exception. */
 static bool join(Wait *wait) {
     Entry *entry = wait->entry;
-    wait->waiter = PyObject_CallMethod((PyObject *)entry, "_new_waiter", "IO", entry->operation, entry->timeout);
+    PyObject *operation = PyLong_FromUnsignedLong(entry->operation);
+    if (operation == NULL) return false;
+    wait->waiter = answer_of(entry, NEW_WAITER, operation, entry->timeout);
+    Py_DECREF(operation);
     if (wait->waiter == NULL) return false;
-    wait->queue = PyObject_CallMethod(entry->system->queues, "join", "O", wait->waiter);
+    wait->queue = answer_of(entry->system->queues, JOIN, wait->waiter, NULL);
     if (wait->queue == NULL) return false;
-    wait->waiters = PyObject_GetAttrString(wait->queue, "waiters");
+    wait->waiters = PyObject_GetAttr(wait->queue, names[WAITERS]);
     return wait->waiters != NULL;
 }
 
@@ -322,22 +350,23 @@ static bool quit(Wait *wait) {
     if (PyObject_DelItem(wait->waiters, wait->waiter) < 0 || PySet_Add(system->due, wait->queue) < 0) return false;
     if (PyObject_Size(wait->waiters) == 0) return true;
     if (calls->can_start(calls->handle, wait->entry->operation).code == WANZOCHE_BLOCKED) return true;
-    return call(system->queues, "wake_all", Py_False);
+    return call(system->queues, WAKE_ALL, Py_False);
 }
 
 /* Sleeps until it is woken or the time is over, and is going to ask again. False with an exception, also if the time was over before. */
 static bool sleep_once(Wait *wait) {
     Entry *entry = wait->entry;
-    PyObject *nothing;
-    if (entry->timeout != Py_None && !call((PyObject *)entry, "_is_late", wait->waiter)) return false;
-    nothing = PyObject_CallMethod(wait->waiter, "wait", NULL);
-    Py_XDECREF(nothing);
-    return nothing != NULL && PySet_Add(entry->system->due, wait->queue) == 0;
+    if (entry->timeout != Py_None && !call(entry, IS_LATE, wait->waiter)) return false;
+    return call(wait->waiter, WAIT, NULL) && PySet_Add(entry->system->due, wait->queue) == 0;
 }
 
 /* Lets Python do what an answer asks for that is neither started nor blocked, and has the answer after that. False with an exception. */
 static bool answer_otherwise(Wait *wait) {
-    PyObject *is_admitted = PyObject_CallMethod((PyObject *)wait->entry, "_admitted", "II", wait->code, wait->worker);
+    PyObject *code = PyLong_FromUnsignedLong(wait->code);
+    PyObject *worker = code == NULL ? NULL : PyLong_FromUnsignedLong(wait->worker);
+    PyObject *is_admitted = worker == NULL ? NULL : answer_of(wait->entry, ADMITTED, code, worker);
+    Py_XDECREF(worker);
+    Py_XDECREF(code);
     if (is_admitted == NULL) return false;
     wait->code = is_admitted == Py_True ? WANZOCHE_STARTED : WANZOCHE_BLOCKED;
     Py_DECREF(is_admitted);
@@ -362,9 +391,9 @@ static bool try_again(Wait *wait) {
 static void undo(Wait *wait) {
     Entry *entry = wait->entry;
     bool is_of_this_turn = entry->record.worker == wait->worker && !PyErr_ExceptionMatches(in_use);
-    if (wait->waiter != NULL) call_surely(entry->system->queues, "quit", wait->waiter);
+    if (wait->waiter != NULL) call_surely(entry->system->queues, QUIT, wait->waiter);
     if (is_of_this_turn) end(entry);
-    call_surely(entry->system->queues, "wake_all", Py_True);
+    call_surely(entry->system->queues, WAKE_ALL, Py_True);
 }
 
 /* Waits until it is admitted, from the answer to the first attempt on. False with an exception, and then nothing is left of it. */
@@ -402,8 +431,8 @@ static PyObject *entry_exit(PyObject *self, PyObject *args) {
 }
 
 /* Raises what a method of Python's returns. */
-static PyObject *raise_from(PyObject *object, const char *method) {
-    PyObject *error = PyObject_CallMethod(object, method, NULL);
+static PyObject *raise_from(void *object, enum Method method) {
+    PyObject *error = answer_of(object, method, NULL, NULL);
     if (error == NULL) return NULL;
     PyErr_SetObject((PyObject *)Py_TYPE(error), error);
     Py_DECREF(error);
@@ -415,8 +444,8 @@ static PyObject *entry_leave(PyObject *self, PyObject *nothing) {
     uint32_t code = end(entry);
     (void)nothing;
     if (code != WANZOCHE_STALE && !wake(entry->system)) return NULL;
-    if (code == WANZOCHE_CLOSED) return raise_from((PyObject *)entry->system, "_closed");
-    if (code != WANZOCHE_FINISHED) return raise_from(self, "_not_in_progress");
+    if (code == WANZOCHE_CLOSED) return raise_from(entry->system, CLOSED);
+    if (code != WANZOCHE_FINISHED) return raise_from(entry, NOT_IN_PROGRESS);
     Py_RETURN_NONE;
 }
 
@@ -559,12 +588,12 @@ static PyObject *system_set_up(PyObject *self, PyObject *args) {
 }
 
 static PyObject *system_call(PyObject *self, PyObject *args, PyObject *named) {
-    static char *names[] = {"operation", "timeout", NULL};
+    static char *keywords[] = {"operation", "timeout", NULL};
     System *system = (System *)self;
     PyObject *name, *timeout = Py_None;
     if (named == NULL && PyTuple_Size(args) == 1) {
         name = PyTuple_GetItem(args, 0);
-    } else if (!PyArg_ParseTupleAndKeywords(args, named, "O|O:__call__", names, &name, &timeout)) {
+    } else if (!PyArg_ParseTupleAndKeywords(args, named, "O|O:__call__", keywords, &name, &timeout)) {
         return NULL;
     }
     return new_entry(system, system->entry_class, name, timeout);
@@ -607,8 +636,17 @@ static PyTypeObject *made_of(PyTypeObject **type, PyType_Spec *spec) {
     return *type;
 }
 
+static bool make_names(void) {
+    for (int method = 0; method < METHODS; method++) {
+        if (names[method] == NULL) names[method] = PyUnicode_InternFromString(spelled[method]);
+        if (names[method] == NULL) return false;
+    }
+    return true;
+}
+
 PyMODINIT_FUNC PyInit__core(void) {
     PyObject *made;
+    if (!make_names()) return NULL;
     visits_type = strncmp(Py_GetVersion(), "3.8.", 4) != 0;
     if (!made_of(&calls_type, &calls_spec) || !made_of(&system_type, &system_spec) || !made_of(&entry_type, &entry_spec)) return NULL;
     if (in_use == NULL) in_use = PyErr_NewException("wanzoche._attempts.InUse", PyExc_RuntimeError, NULL);
