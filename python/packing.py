@@ -154,7 +154,7 @@ def build_wheel(wheel_directory: str, config_settings: Any = None, metadata_dire
 
 
 def build_sdist(sdist_directory: str, config_settings: Any = None) -> str:
-    """Writes a package of sources, from which pip builds the library and the core, into this folder, and returns its name. Called by `build`."""
+    """Writes a package of sources, from which pip builds the library and the core, into this folder. Returns its name. Called by `build`."""
     project, sources = _project(), _sources()
     own = "{}-{}".format(PACKAGE, project["version"])
     files = {"PKG-INFO": _metadata(project), **{name: _read(name) for name in ("pyproject.toml", "packing.py", project["readme"])}}

@@ -464,9 +464,10 @@ class References(Cores):
             warnings.simplefilter("ignore", ResourceWarning)
             all_ways(20)
             gc.collect()
-            before, objects = counts()[:-1], len(gc.get_objects())
+            before, objects, nothings = counts()[:-1], len(gc.get_objects()), sys.getrefcount(None)
             all_ways(100)
             gc.collect()
+            self.assertAlmostEqual(sys.getrefcount(None), nothings, delta=99)
             self.assertEqual(counts()[:-1], before)
             self.assertLess(len(gc.get_objects()) - objects, 50)
         self.nothing_is_left(paths)
@@ -620,8 +621,8 @@ class Forms(unittest.TestCase):
 
     def told(self, choice, program):
         environment = dict(os.environ, WANZOCHE_CORE=choice, PYTHONPATH=os.path.dirname(os.path.dirname(wanzoche.__file__)))
-        ended = subprocess.run([sys.executable, "-c", program], stdout=subprocess.PIPE, stderr=subprocess.STDOUT, env=environment, timeout=60)
-        return ended.stdout.decode()
+        words, piped = [sys.executable, "-c", program], subprocess.PIPE
+        return subprocess.run(words, stdout=piped, stderr=subprocess.STDOUT, env=environment, timeout=60).stdout.decode()
 
     def test_none(self):
         self.assertEqual(self.told("none", "from wanzoche._form import core; print(core)"), "None\n")
@@ -643,7 +644,8 @@ class Forms(unittest.TestCase):
                 "with paths(\"a\") as entry: pass\nprint(entry, flush=True)\n"
             )
         )
-        self.assertEqual(self.told(os.environ.get("WANZOCHE_CORE", ""), program), "<Entry of a: not in progress>\n" * 2 + "0\n" + "<Entry of a: not in progress>\n")
+        entry = "<Entry of a: not in progress>\n"
+        self.assertEqual(self.told(os.environ.get("WANZOCHE_CORE", ""), program), entry + entry + "0\n" + entry)
 
 
 if __name__ == "__main__":

@@ -102,8 +102,8 @@ def undo(operation: Operation, error: BaseException, worker: int, waiter: Option
 
 
 def waiting(operation: Operation, code: int, worker: int, waiter_of: Type[Waiter]) -> Generator[Waiter, None, None]:
-    """From what the first attempt has answered until the operation is in progress: yields a waiter each time it has to wait. What it raises,
-    it leaves nothing behind."""
+    """From the answer to the first attempt until the operation is in progress: yields a waiter each time it has to wait. If it raises, it
+    leaves nothing behind."""
     waiter: Optional[Waiter] = None
     try:
         try:

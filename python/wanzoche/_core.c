@@ -63,10 +63,25 @@ static PyTypeObject *calls_type, *system_type, *entry_type;
 /* What a second gets that enters an entry in progress. It is made here, so that no interrupt can come in its place. */
 static PyObject *in_use;
 
-/* The methods of Python that are called. */
-enum Method { ADMITTED, CLOSED, DROPPED, IS_LATE, JOIN, NEW_WAITER, NOT_IN_PROGRESS, NUMBER, QUIT, THREAD_WORKER, WAIT, WAITERS, WAKE_ALL, METHODS };
+/* The methods of Python that are called, and an attribute that is read; last, how many these are. */
+enum Name {
+    ADMITTED,
+    CLOSED,
+    DROPPED,
+    IS_LATE,
+    JOIN,
+    NEW_WAITER,
+    NOT_IN_PROGRESS,
+    NUMBER,
+    QUIT,
+    THREAD_WORKER,
+    WAIT,
+    WAITERS,
+    WAKE_ALL,
+    NAMES
+};
 
-static const char *const spelled[METHODS] = {
+static const char *const spelled[NAMES] = {
     [ADMITTED] = "_admitted",
     [CLOSED] = "_closed",
     [DROPPED] = "_dropped",
@@ -83,15 +98,15 @@ static const char *const spelled[METHODS] = {
 };
 
 /* Their names as Python has them, made once: a name that is made anew isn't in the interpreter's cache of methods. */
-static PyObject *names[METHODS];
+static PyObject *names[NAMES];
 
 /* What a method returns, called with these arguments, of which the second or both may be null. Null with an exception. */
-static PyObject *answer_of(void *object, enum Method method, void *first, void *second) {
+static PyObject *answer_of(void *object, enum Name method, void *first, void *second) {
     return PyObject_CallMethodObjArgs(object, names[method], first, second, NULL);
 }
 
 /* The same for a method that returns nothing of use. False with an exception. */
-static bool call(void *object, enum Method method, void *argument) {
+static bool call(void *object, enum Name method, void *argument) {
     PyObject *nothing = answer_of(object, method, argument, NULL);
     Py_XDECREF(nothing);
     return nothing != NULL;
@@ -99,6 +114,12 @@ static bool call(void *object, enum Method method, void *argument) {
 
 /* In 3.8 the type of an instance is visited for it; later its own traverse has to. */
 static bool visits_type;
+
+/* A new reference to None. The macro for it of 3.12 and 3.13.0 makes none, since None needs no count from 3.12 on; before, it does. */
+static PyObject *none(void) {
+    Py_INCREF(Py_None);
+    return Py_None;
+}
 
 /* The number of an operation or of a worker that a Python object is. False with an exception. */
 static bool number_in(PyObject *object, uint32_t *number) {
@@ -206,10 +227,10 @@ static bool number_of_thread(System *system, uint32_t *worker) {
 /* Those that wait. */
 
 /*
-** Calls a method after an exception, which stays. An interrupt may have cut such a call off, and if another cuts this one off, it is tried again;
-** the first exception is the one that goes on.
+** Calls a method after an exception, which stays. An interrupt may have cut such a call off. If another cuts this one off, it is tried
+** again, and the first exception is the one that goes on.
 */
-static void call_surely(void *object, enum Method method, void *argument) {
+static void call_surely(void *object, enum Name method, void *argument) {
     PyObject *kind, *error, *trace;
     PyErr_Fetch(&kind, &error, &trace);
     for (int tries = 0; tries < 3 && !call(object, method, argument); tries++) PyErr_Clear();
@@ -374,8 +395,8 @@ static bool answer_otherwise(Wait *wait) {
 }
 
 /*
-** From an answer to an attempt to the next. Who waits joins its queue before it asks once more, so that a finish comes before that question or
-** finds it in the queue. Only what isn't blocked is attempted again. False with an exception.
+** From an answer to an attempt to the next. Who waits joins its queue before it asks once more, so that a finish comes before that question
+** or finds it in the queue. Only what isn't blocked is attempted again. False with an exception.
 */
 static bool try_again(Wait *wait) {
     Entry *entry = wait->entry;
@@ -427,11 +448,11 @@ static PyObject *entry_exit(PyObject *self, PyObject *args) {
         return NULL;
     }
     if (end(entry) != WANZOCHE_STALE && !wake(entry->system)) return NULL;
-    Py_RETURN_NONE;
+    return none();
 }
 
 /* Raises what a method of Python's returns. */
-static PyObject *raise_from(void *object, enum Method method) {
+static PyObject *raise_from(void *object, enum Name method) {
     PyObject *error = answer_of(object, method, NULL, NULL);
     if (error == NULL) return NULL;
     PyErr_SetObject((PyObject *)Py_TYPE(error), error);
@@ -446,7 +467,7 @@ static PyObject *entry_leave(PyObject *self, PyObject *nothing) {
     if (code != WANZOCHE_STALE && !wake(entry->system)) return NULL;
     if (code == WANZOCHE_CLOSED) return raise_from(entry->system, CLOSED);
     if (code != WANZOCHE_FINISHED) return raise_from(entry, NOT_IN_PROGRESS);
-    Py_RETURN_NONE;
+    return none();
 }
 
 /* For what is Python of an entry. */
@@ -584,7 +605,7 @@ static PyObject *system_set_up(PyObject *self, PyObject *args) {
     put(&system->due, due);
     put((PyObject **)&system->entry_class, entry_class);
     put((PyObject **)&system->calls, calls);
-    Py_RETURN_NONE;
+    return none();
 }
 
 static PyObject *system_call(PyObject *self, PyObject *args, PyObject *named) {
@@ -637,9 +658,9 @@ static PyTypeObject *made_of(PyTypeObject **type, PyType_Spec *spec) {
 }
 
 static bool make_names(void) {
-    for (int method = 0; method < METHODS; method++) {
-        if (names[method] == NULL) names[method] = PyUnicode_InternFromString(spelled[method]);
-        if (names[method] == NULL) return false;
+    for (int name = 0; name < NAMES; name++) {
+        if (names[name] == NULL) names[name] = PyUnicode_InternFromString(spelled[name]);
+        if (names[name] == NULL) return false;
     }
     return true;
 }

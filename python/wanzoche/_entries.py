@@ -79,7 +79,8 @@ class Entry(Base):
         if answer.code == native.CLOSED:
             raise paths._closed()
         if answer.code == native.NO_ROOM:
-            raise OutOfRoom("no room for a use in {}: a room of {} lines is all for what is in progress".format(operation._name, paths._room))
+            told = "no room for a use in {}: a room of {} lines is all for what is in progress"
+            raise OutOfRoom(told.format(operation._name, paths._room))
         told = native.words(answer.code).decode()
         raise UseRefused("{} in {}: {}".format(_VERBS[verb].format(number), operation._name, told))
 
