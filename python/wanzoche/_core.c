@@ -505,8 +505,8 @@ static PyObject *entry_worker(PyObject *self, void *nothing) {
 }
 
 static PyMethodDef entry_methods[] = {
-    {"__enter__", entry_enter, METH_NOARGS, "Begins the operation, and waits until it is admitted."},
-    {"__exit__", entry_exit, METH_VARARGS, "Finishes the operation if it is in progress."},
+    {"__enter__", entry_enter, METH_NOARGS, "__enter__($self, /)\n--\n\nBegins the operation, and waits until it is admitted."},
+    {"__exit__", entry_exit, METH_VARARGS, "__exit__($self, kind, error, trace, /)\n--\n\nFinishes the operation if it is in progress."},
     {"leave", entry_leave, METH_NOARGS,
      "leave($self, /)\n--\n\n"
      "Finishes the operation. Raises `NotInProgress` if it isn't in progress, and `Closed` if the paths were closed meanwhile."},

@@ -103,7 +103,7 @@ class AsyncEntry(Entry):
 
     __slots__ = ()
 
-    def __enter__(self) -> "Entry":
+    def __enter__(self) -> "AsyncEntry":
         raise TypeError("write `async with paths.aio({!r})`, or `with paths({!r})` for threads".format(self.operation, self.operation))
 
     async def __aenter__(self) -> "AsyncEntry":

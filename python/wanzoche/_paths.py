@@ -31,6 +31,9 @@ class Paths(System):
     >>> with paths("deposit"):
     ...     pass  # whatever belongs to the deposit
 
+    `paths(operation, timeout=None)` is an entry for a `with` statement, which waits until the operation is admitted, or at most so many
+    seconds. Raises `UnknownOperation`.
+
     `room` is how many lines the journal takes before the paths rotate it by themselves, 1 to 1,048,576. `log` gets the lines that a
     rotation gives up, in their order, as strings: a callable, a list, or a file that is open for text. Without one they are dropped.
     Whoever needs room waits while it is called, so it has to be quick, and it starts and leaves nothing itself. If it raises, nothing is

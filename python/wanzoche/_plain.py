@@ -5,7 +5,7 @@ from __future__ import annotations
 import warnings
 from ctypes import addressof
 from types import TracebackType
-from typing import TYPE_CHECKING, Any, Dict, Generator, Optional, Set, Type, cast
+from typing import TYPE_CHECKING, Dict, Generator, Optional, Set, Type, TypeVar, cast
 
 from . import _native as native
 from ._attempts import Operation, admitted, in_use, undo, waiting
@@ -110,6 +110,9 @@ def _undo(operation: _Operation, error: BaseException, worker: int) -> None:
         warnings.warn("an entry of {} was dropped in progress, and is finished now".format(operation._name), ResourceWarning)
 
 
+_Self = TypeVar("_Self", bound="Entry")
+
+
 class Entry:
     """The base of entries."""
 
@@ -119,7 +122,7 @@ class Entry:
         self._operation: Operation = _Operation(paths, operation, timeout)
         self._turn: Optional[_Turn] = None
 
-    def __enter__(self) -> Any:
+    def __enter__(self: _Self) -> _Self:
         turn = self._new_turn(self._operation._paths._thread_worker(), ThreadWaiter)
         try:
             waiter = next(turn)

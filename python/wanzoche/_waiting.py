@@ -21,7 +21,7 @@ from typing import Dict, Optional, Protocol, Set, Tuple
 class Calls(Protocol):
     """What is called of a handle."""
 
-    def is_blocked(self, op: int) -> bool:
+    def is_blocked(self, op: int, /) -> bool:
         """Whether a path forbids the operation of this number now."""
 
 
