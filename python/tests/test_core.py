@@ -115,7 +115,7 @@ class Waits(Cores):
     def test_one_that_is_cut_off_behind_its_turn_is_undone_while_the_traceback_lives(self):
         """Two wait; the first is admitted, and an interrupt comes as it wakes the second."""
         paths, others = Paths(BOOK), []
-        entry = paths.enter("write")
+        entry, read = paths.enter("write"), paths("read")
         wake_all, cut_off = type(paths._queues).wake_all, []
 
         def raises(queues, again=False):
@@ -137,7 +137,7 @@ class Waits(Cores):
         writer.start()
         with mock.patch.object(type(paths._queues), "wake_all", raises):
             try:
-                with paths("read"):
+                with read:
                     self.fail("it was cut off before")
             except Interrupt as error:
                 self.assertIsNotNone(error.__traceback__)
@@ -146,6 +146,70 @@ class Waits(Cores):
                     self.assertFalse(thread.is_alive(), "a turn was lost")
                 self.nothing_is_left(paths)
                 self.assertEqual((paths.journal().count("finished"), cut_off), (3, []))
+
+    def in_a_thread(self, call):
+        thread = threading.Thread(target=call)
+        thread.start()
+        return thread
+
+    def ends(self, thread):
+        thread.join(20)
+        self.assertFalse(thread.is_alive(), "a turn was lost")
+
+    def test_one_that_is_cut_off_as_it_makes_room_is_undone_and_others_are_woken(self):
+        paths, readers = Paths(BOOK, room=4), []
+        for _ in range(2):
+            paths.enter("read").leave()  # so there is no room
+        entry = paths("write")
+
+        def cut_off(entry, code, worker):
+            paths.rotate()
+            entry._begin(worker)
+            readers.append(self.in_a_thread(lambda: paths.enter("read").leave()))
+            while paths.waiting() != {"read": 1}:
+                time.sleep(0.0001)
+            raise Interrupt
+
+        with mock.patch.object(Entry, "_admitted", cut_off), self.assertRaises(Interrupt):
+            entry.__enter__()
+        self.ends(*readers)
+        self.nothing_is_left(paths)
+
+    def test_a_finish_as_it_joins_its_queue_loses_no_turn(self):
+        paths, others = Paths(BOOK), []
+        write, join = paths.enter("write"), type(paths._queues).join
+
+        def joins(queues, waiter):
+            queue = join(queues, waiter)
+            if not others:
+                others.append(None)
+                others.append(self.in_a_thread(lambda: paths.enter("read").leave()))
+                while paths.waiting() != {"read": 2}:
+                    time.sleep(0.0001)
+                write.leave()  # which wakes the first alone
+            return queue
+
+        with mock.patch.object(type(paths._queues), "join", joins):
+            with paths("read"):
+                self.ends(others[1])
+        self.nothing_is_left(paths)
+
+    def test_one_that_finds_another_quicker_is_woken_again(self):
+        paths, quicker = Paths(BOOK), []
+        first, wait = paths.enter("write"), ThreadWaiter.wait
+
+        def woken_late(waiter):
+            wait(waiter)
+            if not quicker:
+                quicker.append(paths.enter("write"))
+
+        threading.Timer(0.05, first.leave).start()
+        threading.Timer(0.2, lambda: quicker[0].leave()).start()
+        with mock.patch.object(ThreadWaiter, "wait", woken_late):
+            with paths("write") as entry:
+                self.assertEqual(entry.activation, 2)
+        self.nothing_is_left(paths)
+        self.assertEqual(paths.journal().count("blocked"), 1)  # it asked before it tried again
 
     def test_one_that_is_in_use_when_its_turn_comes_leaves_the_other_alone(self):
         """A handler enters the entry that its own thread waits for."""
