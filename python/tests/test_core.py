@@ -499,6 +499,11 @@ class References(Cores):
     def test_each_way_through(self):
         paths, closed = Paths(BOOK, room=1048576), Paths(SLOT)
         closed.close()
+        held = Paths(BOOK, room=1048576)
+        reader = held.enter("read")
+        with contextlib.suppress(Timeout):
+            held.enter("write", timeout=0)
+        queue = held._queues._queues[1, None]
         name, timeout = "".join(["wri", "te"]), 12345.5
         unknown = "".join(["ste", "al"])
         calls = [
@@ -513,28 +518,31 @@ class References(Cores):
             lambda: paths.enter("read").__enter__(),
             lambda: paths.try_enter(name).leave(),
             lambda: repr(paths.enter(name)),
+            lambda: held.enter(name, timeout=0),  # which waits
         ]
 
         def counts():
-            return [sys.getrefcount(each) for each in (paths, closed, name, timeout, unknown, Entry, None if core is None else core.Entry)]
+            counted = [paths, closed, held, queue, queue.waiters, name, timeout, unknown, Entry]
+            return [sys.getrefcount(each) for each in counted]
 
         def all_ways(times):
             for _ in range(times):
                 for call in calls:
-                    with contextlib.suppress(UnknownOperation, NotInProgress, TypeError, Closed, RuntimeError):
+                    with contextlib.suppress(UnknownOperation, NotInProgress, TypeError, Closed, RuntimeError, Timeout):
                         call()
 
         with warnings.catch_warnings():
             warnings.simplefilter("ignore", ResourceWarning)
             all_ways(20)
             gc.collect()
-            before, objects, nothings = counts()[:-1], len(gc.get_objects()), sys.getrefcount(None)
+            before, objects, nothings = counts(), len(gc.get_objects()), sys.getrefcount(None)
             all_ways(100)
             gc.collect()
             self.assertAlmostEqual(sys.getrefcount(None), nothings, delta=99)
-            self.assertEqual(counts()[:-1], before)
+            self.assertEqual(counts(), before)
             self.assertLess(len(gc.get_objects()) - objects, 50)
         self.nothing_is_left(paths)
+        reader.leave()
 
     def test_paths_go_when_nobody_holds_them(self):
         paths = Paths(BOOK)
