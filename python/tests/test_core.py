@@ -110,6 +110,31 @@ class Callers(Cores):
         self.assertGreater(number, 10)
 
 
+    def test_a_task_leaves_nothing_behind_while_its_traceback_lives(self):
+        """A task keeps the exception that ended it, and so all that the traceback leads to."""
+        paths, left, number, more = Paths(BOOK), [], 0, True
+
+        def enters():
+            with contextlib.suppress(StopIteration):
+                paths.aio("write").__aenter__().send(None)
+
+        def check():
+            try:
+                enters()
+            except Interrupt as error:
+                if error.__traceback__ and paths.report().live:
+                    left.append(number)
+
+        with mock.patch.object(Paths, "_task_worker", lambda _: 1), warnings.catch_warnings():
+            warnings.simplefilter("ignore")
+            while more:
+                more = at_instruction(number, interrupt, check)
+                self.nothing_is_left(paths)
+                number += 1
+        self.assertLess(len(left), 10)  # only behind the wait, where the entry is handed on
+        self.assertEqual(left, list(range(left[0], left[0] + len(left))))
+
+
 @unittest.skipUnless(core, "there is no core")
 class Waits(Cores):
     def test_one_that_is_cut_off_behind_its_turn_is_undone_while_the_traceback_lives(self):

@@ -1,7 +1,9 @@
 /*
-** What is quick of entries: to make one, begin it, and finish it, without ctypes and without a Python object but the entry.
+** What is quick of entries: to make one, begin it, and finish it, without ctypes and without a Python object but the entry. Of a thread
+** that waits, the order of its steps.
 **
-** Everything that takes longer is Python, and called by its name: to wait, to make room, to wake those that wait, to say what is wrong.
+** Everything that takes longer is Python, and called by its name: to sleep, to make room, to wake those that wait, to say what is wrong. It
+** may be cut off by an interrupt at any instruction; what is undone then, and in which order, is said here.
 **
 ** A call of the library keeps the interpreter's lock and calls nothing back. So two of them are never in one system at once, and no signal
 ** handler, finalizer or fork comes in between. The library writes the record of an entry before it returns, and no Python runs between
@@ -344,8 +346,8 @@ static int entry_traverse(PyObject *self, visitproc visit, void *arg) {
 typedef struct Wait {
     Entry *entry;
     uint32_t worker;
-    uint32_t code;    /* of the last answer to an attempt */
-    PyObject *waiter; /* null until it is made */
+    uint32_t code;     /* of the last answer to an attempt */
+    PyObject *waiter;  /* null until it is made */
     PyObject *queue;   /* where the waiter waits; null before */
     PyObject *waiters; /* all that wait there: a dict in their order */
 } Wait;

@@ -6,7 +6,7 @@ from ctypes import addressof
 from typing import TYPE_CHECKING, cast
 
 from . import _native as native
-from ._attempts import admitted, raise_if_late, waiting
+from ._attempts import admitted, in_use, raise_if_late, undo, waiting
 from ._form import core
 from ._waiting import TaskWaiter, ThreadWaiter
 
@@ -44,12 +44,24 @@ class Entry(CoreEntry):
 
     async def _enter_as_task(self) -> None:
         worker = self._paths._task_worker()
-        code = self._begin(worker)
-        if code != _STARTED:
-            for waiter in waiting(self, code, worker, TaskWaiter):
-                await cast(TaskWaiter, waiter).wait()
+        if self._live:
+            raise in_use(self)
+        try:
+            code = self._begin(worker)
+            if code != _STARTED:
+                for waiter in waiting(self, code, worker, TaskWaiter):
+                    await cast(TaskWaiter, waiter).wait()
+        except BaseException as error:
+            undo(self, error, worker, None)
+            raise
 
     def _try(self, worker: int) -> bool:
         """Begins it, if it is admitted now."""
-        code = self._begin(worker)
-        return code == _STARTED or admitted(self, code, worker)
+        if self._live:
+            raise in_use(self)
+        try:
+            code = self._begin(worker)
+            return code == _STARTED or admitted(self, code, worker)
+        except BaseException as error:
+            undo(self, error, worker, None)
+            raise
