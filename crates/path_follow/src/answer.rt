@@ -27,7 +27,8 @@ fn push_reply_to<D: Device, A: Allocator + Copy>(
 {
     let reply = system.step(worker, attempt);
     told.extend_from_slice(line)?;
-    push_told(told, reply)
+    push_told(told, reply)?;
+    Ok(())
 }
 
 /// Appends the report of the system.
