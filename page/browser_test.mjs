@@ -256,6 +256,44 @@ async function testClicking() {
   await shows("a frozen system", () => text("steps-said"), "Nothing is live and nothing can start: nothing is ever admitted again.");
 }
 
+// Takes back what was written last, and gives the text that is left.
+const undone = id => value(`(it => { it.focus(); document.execCommand("undo"); return it.value; })(document.getElementById("${id}"))`);
+
+const listedCases = () => value(`[...document.getElementById("example").options].filter(it => !it.hidden).map(it => it.textContent)`);
+const chosenCase = () => value(`document.getElementById("example").selectedOptions[0].textContent`);
+
+async function testDrafts() {
+  await openPage();
+  await write("attempts", "1 start deposit\n");
+  await click(`#live [data-key="finish 0"]`);
+  await shows("a click writes an attempt", () => field("attempts"), "1 start deposit\n1 finish 0\n");
+  same("which is taken back as if it were typed", await undone("attempts"), "1 start deposit\n");
+  await shows("and answered", replies, ["started 0"]);
+  await shows("a changed example is marked", chosenCase, "slot, changed");
+  same("nothing is listed but examples", (await listedCases()).length, await value("examples.length"));
+  await choose("pool");
+  await shows("the changed one stays in the list", async () => (await listedCases())[0], "slot, changed");
+  await shows("an example is itself", chosenCase, "pool");
+  same("an example's attempts are taken back, too", await value(`(() => {
+    for (let i = 0; i < 3 && document.getElementById("attempts").value !== "1 start deposit\\n"; i++) document.execCommand("undo");
+    return document.getElementById("attempts").value;
+  })()`), "1 start deposit\n");
+  await choose("pool");
+  await choose("0");
+  await shows("and comes back", async () => [await field("attempts"), (await field("declaration")).split("\n")[0], await chosenCase()],
+    ["1 start deposit\n", "resource slot cell", "slot, changed"]);
+  await typeAtEnd("attempts", "1 finish 0\n");
+  await choose("knot");
+  await shows("each draft stays", async () => (await listedCases()).slice(0, 3), ["slot, changed", "pool, changed", "slot, changed (2)"]);
+  await size(390, 600, false);
+  await choose("pool");
+  const places = await value(`(() => { scrollTo(0, document.getElementById("live").offsetTop); const before = scrollY;
+    document.querySelector("#live button").click(); return [before, scrollY]; })()`);
+  same("the page stays where a button is pressed", places[1], places[0]);
+  await size(1280, 1100, false);
+  await openPage();
+}
+
 async function testAudit() {
   await choose("till");
   await shows("the wrong line", () => text("journal-said"), "wrong line 3: 2 use 1 add 120: used 620");
@@ -352,7 +390,7 @@ try {
   await size(1280, 1100, false);
   await openPage();
   console.log((await text("about")).split(". ")[0]);
-  for (const test of [testExamples, testTyping, testClicking, testAudit, testAddress, testPicture, testMany]) await test();
+  for (const test of [testExamples, testTyping, testClicking, testDrafts, testAudit, testAddress, testPicture, testMany]) await test();
   await choose("philosophers");
   await shoot("wide");
   await size(800, 1100, false);

@@ -9,6 +9,8 @@ const MOST_DRAWN = 2000;
 const STEP_DRAWN = 20;
 // Of long lists beside the texts, so many are shown.
 const MOST_LISTED = 100;
+// As many lines are written as if they were typed. Chromium takes seconds for a thousand.
+const MOST_TYPED = 200;
 // A longer case isn't put into the address.
 const MOST_LINKED = 32768;
 
@@ -21,6 +23,31 @@ function refill(element, html) {
   if (key === undefined) return;
   const again = [...element.querySelectorAll("[data-key]")].find(it => it.dataset.key === key);
   (again ?? element.querySelector("button, input") ?? $("starts").querySelector("button"))?.focus();
+}
+
+// ---- writing for the user
+
+let isWriting = false;
+
+// Puts a text in the place of [from, to) of a text area, as if it were typed, so that it can be undone, unless it is long. The page stays
+// where it is, and the focus too. No `input` is heard of it.
+function write(area, from, to, text) {
+  const { scrollX, scrollY } = window;
+  const focused = document.activeElement;
+  isWriting = true;
+  area.focus({ preventScroll: true });
+  area.setSelectionRange(from, to);
+  const isTyped = document.activeElement === area && new Lines(text).length <= MOST_TYPED
+    && document.execCommand(text === "" ? "delete" : "insertText", false, text);
+  if (!isTyped) area.setRangeText(text, from, to, "end");
+  isWriting = false;
+  focused?.focus({ preventScroll: true });
+  window.scrollTo({ left: scrollX, top: scrollY, behavior: "instant" });
+}
+
+// Puts a text in the place of all that a text area has.
+function rewrite(area, text) {
+  if (area.value !== text) write(area, 0, area.value.length, text);
 }
 
 // ---- a text area, with numbers, marks and replies beside its lines
@@ -336,9 +363,14 @@ function clicked(event) {
     $("number").focus();
     return;
   }
+  append(number ? `${line} ${$("number").value}` : line);
+}
+
+// Writes an attempt below the others.
+function append(line) {
   const { area } = attemptsSheet;
-  area.value = withLine(area.value, number ? `${line} ${$("number").value}` : line);
-  area.setSelectionRange(area.value.length, area.value.length);
+  const before = area.value;
+  write(area, before.length, before.length, withLine(before, line).slice(before.length));
   area.scrollTop = area.scrollHeight;
   show();
 }
@@ -392,13 +424,61 @@ function judge() {
   journalSheet.show(lines, marked);
 }
 
-// ---- the address, and files
+// Shows what follows from the journal.
+function showJournal() {
+  judge();
+  showWhole();
+}
+
+// ---- the case as a whole: an example, or one's own
+
+// Cases that were no examples when another case replaced them, to go back to: { label, declaration, attempts, journal }.
+const drafts = [];
+// What the case was before it was changed, if it is known: an example or a draft.
+let source = null;
 
 function caseNow() {
-  return { declaration: declared.text, attempts: answered.lines.text, journal: $("journal").value };
+  return { declaration: $("declaration").value, attempts: $("attempts").value, journal: $("journal").value };
 }
 
 const isSame = (one, other) => one.declaration === other.declaration && one.attempts === other.attempts && one.journal === other.journal;
+
+const knownAs = now => [...examples, ...drafts].find(it => isSame(it, now));
+
+const nameOf = example => example.name.replaceAll("_", " ");
+
+// What a case that isn't known is called in the list.
+function labelOfOwn() {
+  const label = source === null ? "your own" : source.stem ?? `${nameOf(source)}, changed`;
+  const alike = drafts.filter(it => it.stem === label).length;
+  return { stem: label, label: alike ? `${label} (${alike + 1})` : label };
+}
+
+// Keeps the case as a draft, unless it is known or empty.
+function keepDraft() {
+  const now = caseNow();
+  if (!knownAs(now) && now.declaration + now.attempts + now.journal !== "") drafts.push({ ...labelOfOwn(), ...now });
+}
+
+let listed = "";
+
+// Shows in the list of cases which one this is.
+function showCase() {
+  const known = knownAs(caseNow());
+  const { label } = labelOfOwn();
+  const option = (value, words, more = "") => `<option value="${value}"${more}>${escaped(words)}</option>`;
+  const list = [
+    option("", label, " hidden"),
+    ...drafts.map((it, i) => option(i, it.label)),
+    ...examples.map(it => option(it.name, nameOf(it))),
+  ].join("");
+  if (list !== listed) $("example").innerHTML = listed = list;
+  $("example").value = known?.name ?? (known ? drafts.indexOf(known) : "");
+  const own = source?.name ? `The example ${nameOf(source)}, changed.` : "A case of your own.";
+  $("shows").textContent = known?.shows ?? `${own} It stays in this list when you choose another.`;
+}
+
+// ---- the address, and files
 
 // The part of the address that names this case, or nothing if it is too long.
 function fragmentOf(now) {
@@ -427,9 +507,15 @@ function openAddress() {
   open({ declaration: named.get("declaration"), attempts: named.get("attempts") ?? "", journal: named.get("journal") ?? "" });
 }
 
+// Shows a case, and keeps the one before.
 function open(it) {
+  const isFirst = declared.text === null;
+  if (!isFirst) keepDraft();
+  source = it.label || it.name ? it : null;
+  $("audit").open = true;
   for (const id of ["declaration", "attempts", "journal"]) {
-    $(id).value = it[id];
+    if (isFirst) $(id).value = it[id];
+    else rewrite($(id), it[id]);
     $(id).scrollTop = 0;
     $(id).setSelectionRange(it[id].length, it[id].length);
   }
@@ -473,18 +559,20 @@ function showRest() {
   showSteps();
   showPicture();
   showLong($("report"), answered.reportText);
-  const example = examples.find(it => isSame(it, caseNow()));
-  $("example").value = example?.name ?? "";
-  $("shows").textContent = example?.shows ?? "A case of your own.";
+  showWhole();
+}
+
+// Shows which case this is, in the list and soon in the address.
+function showWhole() {
+  showCase();
   clearTimeout(noting);
   noting = setTimeout(noteAddress, 300);
 }
 
 function listen() {
-  $("example").innerHTML = `<option value="" hidden>own</option>` + examples.map(it => `<option value="${it.name}">${escaped(it.name.replaceAll("_", " "))}</option>`).join("");
-  $("example").addEventListener("change", event => open(examples.find(it => it.name === event.target.value)));
-  for (const id of ["declaration", "attempts"]) $(id).addEventListener("input", show);
-  $("journal").addEventListener("input", () => { judge(); clearTimeout(noting); noting = setTimeout(noteAddress, 300); });
+  $("example").addEventListener("change", ({ target: { value } }) => open(examples.find(it => it.name === value) ?? drafts[value]));
+  for (const id of ["declaration", "attempts"]) $(id).addEventListener("input", () => isWriting || show());
+  $("journal").addEventListener("input", () => isWriting || showJournal());
   document.addEventListener("selectionchange", () => {
     if (document.activeElement === $("attempts") && attemptsSheet.at !== selectedLine()) showAttempts();
   });
@@ -500,7 +588,7 @@ function listen() {
   $("live").addEventListener("click", clicked);
   $("picture").addEventListener("scroll", followPicture);
   new ResizeObserver(followPicture).observe($("picture"));
-  $("audit-trace").addEventListener("click", () => { $("journal").value = journalText(); $("journal").dispatchEvent(new Event("input")); });
+  $("audit-trace").addEventListener("click", () => { rewrite($("journal"), journalText()); showJournal(); });
   $("audit").addEventListener("toggle", judge);
   $("save-attempts").addEventListener("click", () => save("attempts", "text/plain", answered.lines.text));
   $("save-journal").addEventListener("click", () => save("journal", "text/plain", journalText()));
