@@ -133,6 +133,13 @@ async function openPage(hash = "") {
   await until(`document.getElementById("about").textContent !== ""`);
 }
 
+async function reload() {
+  const load = new Promise(done => { loaded = done; });
+  await send("Page.reload");
+  await within(LIMIT.shown, "a reload", load);
+  await until(`document.getElementById("about").textContent !== ""`);
+}
+
 async function size(width, height, isDark) {
   await send("Emulation.setScrollbarsHidden", { hidden: true });
   await send("Emulation.setDeviceMetricsOverride", { width, height, deviceScaleFactor: 1, mobile: false });
@@ -314,6 +321,20 @@ async function testAddress() {
   await openPage(hash);
   await shows("a case comes back from its address", async () => [await field("declaration"), await field("attempts")], shown);
   await shows("and is answered", async () => (await lastReply()).startsWith("blocked"), true);
+  await write("declaration", "");
+  await until(`location.hash.startsWith("#declaration=&attempts=")`);
+  await reload();
+  await shows("an emptied declaration comes back", async () => [await field("declaration"), await field("attempts")], ["", shown[1]]);
+  await choose("pool");
+  const long = `"1 start query\\n".repeat(3000)`;
+  await value(`(it => { it.value = ${long}; it.dispatchEvent(new Event("input")); })(document.getElementById("attempts"))`);
+  await shows("a long case has no link", () => text("link"), "Too long for a link");
+  same("and the address names no other", await value("location.hash"), "");
+  await reload();
+  await shows("it comes back after a reload", async () => (await field("attempts")).length, 14 * 3000);
+  await choose("slot");
+  await reload();
+  await shows("what was chosen just now does, too", () => field("example"), "slot");
 }
 
 async function testPicture() {

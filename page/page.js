@@ -480,31 +480,38 @@ function showCase() {
 
 // ---- the address, and files
 
-// The part of the address that names this case, or nothing if it is too long.
+// The part of the address that names this case, or nothing if it is too long. It has the declaration even if that is empty.
 function fragmentOf(now) {
   const example = examples.find(it => isSame(it, now));
   if (example) return "example=" + example.name;
   if (now.declaration.length + now.attempts.length + now.journal.length > MOST_LINKED) return null;
-  return String(new URLSearchParams(Object.entries(now).filter(it => it[1] !== "")));
+  return String(new URLSearchParams(Object.entries(now).filter(([part, text]) => part === "declaration" || text !== "")));
 }
 
 let lastFragment = null;
 
+// Puts the case into the address. A case that is too long is kept with the tab, so that a reload shows it again.
 function noteAddress() {
-  const fragment = fragmentOf(caseNow());
+  clearTimeout(noting);
+  const now = caseNow();
+  const fragment = fragmentOf(now);
+  const address = location.href.split("#")[0] + (fragment === null ? "" : "#" + fragment);
+  lastFragment = fragment ?? "";
   $("link").textContent = fragment === null ? "Too long for a link" : "Link to this case";
-  if (fragment === null) return $("link").removeAttribute("href");
-  lastFragment = fragment;
-  $("link").href = "#" + fragment;
-  history.replaceState(null, "", "#" + fragment);
+  if (fragment === null) $("link").removeAttribute("href");
+  else $("link").href = address;
+  history.replaceState(fragment === null ? now : null, "", address);
 }
 
-// Shows the case that the address names; the first example if it names none.
+// Shows the case that the address names, or that was kept with the tab; the first example if there is none.
 function openAddress() {
   const named = new URLSearchParams(location.hash.slice(1));
+  const part = name => named.get(name) ?? "";
   const example = examples.find(it => it.name === named.get("example"));
-  if (example || !named.has("declaration")) return open(example ?? examples[0]);
-  open({ declaration: named.get("declaration"), attempts: named.get("attempts") ?? "", journal: named.get("journal") ?? "" });
+  const isOwn = ["declaration", "attempts", "journal"].some(it => named.has(it));
+  if (example) open(example);
+  else if (isOwn) open({ declaration: part("declaration"), attempts: part("attempts"), journal: part("journal") });
+  else open(history.state ?? examples[0]);
 }
 
 // Shows a case, and keeps the one before.
@@ -522,6 +529,7 @@ function open(it) {
   $("audit").open = it.journal !== "";
   show();
   judge();
+  noteAddress();
 }
 
 function save(name, type, text) {
@@ -570,6 +578,7 @@ function showWhole() {
 }
 
 function listen() {
+  showCase();
   $("example").addEventListener("change", ({ target: { value } }) => open(examples.find(it => it.name === value) ?? drafts[value]));
   for (const id of ["declaration", "attempts"]) $(id).addEventListener("input", () => isWriting || show());
   $("journal").addEventListener("input", () => isWriting || showJournal());
