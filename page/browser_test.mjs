@@ -236,12 +236,16 @@ async function testClicking() {
   await choose("slot");
   await write("attempts", "");
   await shows("nothing was attempted", () => text("attempts-said"), "0 attempts.");
-  await shows("what can start", () => value(`[...document.querySelectorAll("#starts button")].map(it => [it.textContent, it.ariaDisabled])`),
-    [["start deposit", null], ["start remove path 0", "true"]]);
+  await shows("what can start", () => value(`[...document.querySelectorAll("#starts button")].map(it => [it.textContent, it.className])`),
+    [["start deposit", ""], ["start remove path 0", "forbidden"]]);
   await click(`#starts [data-key="start remove"]`);
-  await shows("a forbidden start says why", () => text("steps-said"), "Path 0 of slot forbids that remove starts now: deposit; remove.");
-  await shows("and appends nothing", () => field("attempts"), "");
+  const reason = "Path 0 of slot forbids that remove starts now: deposit; remove.";
+  await shows("a forbidden start is attempted", () => field("attempts"), "1 start remove\n");
+  await shows("and refused", replies, ["blocked 0"]);
+  await shows("and says why", async () => (await text("steps-said")).trim(), reason);
+  await shows("beside its line, too", async () => (await text("selected")).endsWith(reason), true);
   await shows("and marks the path", () => marked("declaration"), [["path", "path deposit ; remove end"]]);
+  same("its cursor is that of a button", await value(`getComputedStyle(document.querySelector("#starts .forbidden")).cursor`), "pointer");
   await click(`#starts [data-key="start deposit"]`);
   await write("number", "42");
   await click(`#live [data-key="use 0 put"]`);
@@ -250,8 +254,9 @@ async function testClicking() {
   await until(`document.querySelector("#workers input:checked").value === "2"`);
   await click(`#starts [data-key="start remove"]`);
   await click(`#live [data-key="use 1 look"]`);
-  await shows("clicked attempts", () => field("attempts"), "1 start deposit\n1 use 0 put 42\n1 finish 0\n2 start remove\n2 use 1 look\n");
-  await shows("their replies", replies, ["started 0", "used 0", "finished", "started 1", "used 42"]);
+  await shows("clicked attempts", () => field("attempts"),
+    "1 start remove\n1 start deposit\n1 use 0 put 42\n1 finish 0\n2 start remove\n2 use 1 look\n");
+  await shows("their replies", replies, ["blocked 0", "started 0", "used 0", "finished", "started 1", "used 42"]);
   await write("number", "18446744073709551616");
   await click(`#live [data-key="use 1 put"]`);
   await shows("a number past 64 bits", () => text("steps-said"), "The number to put or add is 0 to 18446744073709551615.");

@@ -216,7 +216,7 @@ let declarationSheet, attemptsSheet, journalSheet;
 let declared = { text: null, lines: new Lines(""), isRead: false, operations: [], paths: [], fault: null };
 let answered = new Answers("", new Lines(""), 0, "", null);
 let picture = lanesOf([]);
-// The path that is marked, by a selected attempt or by a start that it forbids.
+// The path that is marked, by a selected attempt.
 let forbidding = null;
 
 function readDeclaration() {
@@ -314,11 +314,10 @@ const VERBS = { cell: ["look", "put"], tally: ["look", "add"], queue: ["put", "t
 
 function startButton({ name }, worker) {
   const path = answered.report.blocked.get(name);
-  const line = escaped(`${worker} start ${name}`);
-  if (path === undefined) return `<button type="button" data-key="start ${name}" data-line="${line}">start ${name}</button>`;
+  const its = `type="button" data-key="start ${name}" data-line="${worker} start ${name}"`;
+  if (path === undefined) return `<button ${its}>start ${name}</button>`;
   const reason = `Path ${path} of ${declared.paths[path].resource.name} forbids that ${name} starts now: ${declared.paths[path].text}.`;
-  return `<button type="button" data-key="start ${name}" data-path="${path}" data-reason="${escaped(reason)}" aria-disabled="true" title="${escaped(reason)}">`
-    + `start ${name} <small>path ${path}</small></button>`;
+  return `<button ${its} class="forbidden" title="${escaped(reason)}">start ${name} <small>path ${path}</small></button>`;
 }
 
 function liveItem({ activation, worker, operation }) {
@@ -344,20 +343,26 @@ function showSteps() {
   $("steps-said").textContent = can ? more(operations, "operations") + more(live, "live activations")
     : declared.isRead ? "First mend the line that is at fault." : "First mend the declaration.";
   if (can && answered.report.frozen) $("steps-said").textContent = "Nothing is live and nothing can start: nothing is ever admitted again.";
+  showRefusal();
+}
+
+// The line that a button wrote last.
+let clickedLine = -1;
+
+// Says beside the buttons why the start that one of them wrote just now is refused. Screen readers have it from the line of the attempt.
+function showRefusal() {
+  const entry = clickedLine === answered.length - 1 ? answered.entry(clickedLine) : undefined;
+  if (entry?.kind !== "blocked") return;
+  $("steps-said").innerHTML += ` <span aria-hidden="true">${escaped(reasonFor(entry, declared.paths))}</span>`;
 }
 
 const isNumber = text => /^(0|[1-9][0-9]*)$/.test(text) && BigInt(text) < 2n ** 64n;
 
-// A click appends its attempt, or says why it is forbidden.
+// A click appends its attempt, also one that is refused: the reply says why.
 function clicked(event) {
   const button = event.target.closest("button");
   if (!button) return;
-  const { line, number, path, reason } = button.dataset;
-  if (path !== undefined) {
-    $("steps-said").textContent = reason;
-    explain(reason, Number(path));
-    return;
-  }
+  const { line, number } = button.dataset;
   if (number && !isNumber($("number").value)) {
     $("steps-said").textContent = "The number to put or add is 0 to 18446744073709551615.";
     $("number").focus();
@@ -372,6 +377,7 @@ function append(line) {
   const before = area.value;
   write(area, before.length, before.length, withLine(before, line).slice(before.length));
   area.scrollTop = area.scrollHeight;
+  clickedLine = answered.length;
   show();
 }
 
