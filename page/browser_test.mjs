@@ -200,13 +200,17 @@ async function write(id, what) {
   await until(`document.getElementById("${id}").value === ${JSON.stringify(what)}`);
 }
 
+// The verdict of an example, as the page says it: lines count from 1, and the journal's head is one.
+const verdictOf = name => read(`${name}/verdict`).trim()
+  .replace(/\d+$/, line => Number(line) + (read(`${name}/journal`).startsWith("journal ") ? 2 : 1));
+
 async function testExamples() {
   const names = await value(`examples.map(it => it.name)`);
   for (const name of names) {
     await choose(name);
     const [trace, verdict] = await value(`[${JSON.stringify(name)}].map(() => [journalText(), document.getElementById("journal-said").textContent])[0]`);
     if (name !== "refused" && (await field("attempts")) !== "") same(`${name}: trace`, trace, read(`${name}/trace`));
-    if (["service", "till", "recorder"].includes(name)) same(`${name}: verdict`, verdict.startsWith(read(`${name}/verdict`).trim()), true);
+    if (["service", "till", "recorder"].includes(name)) same(`${name}: verdict`, verdict.startsWith(verdictOf(name)), true);
   }
   await choose("readers_and_writers");
   await shows("report", () => text("report"), read("readers_and_writers/report"));
@@ -217,15 +221,15 @@ async function testTyping() {
   await choose("slot");
   await typeAtEnd("attempts", "3 start deposit\n");
   await shows("a typed attempt is answered", lastReply, "blocked 0");
-  await shows("why", () => text("selected"), "Line 6, 3 start deposit: blocked 0. Path 0 of slot forbids that deposit starts now: deposit; remove.");
+  await shows("why", () => text("selected"), "Line 7, 3 start deposit: blocked 0. Path 0 of slot forbids that deposit starts now: deposit; remove.");
   await shows("the path is marked", () => marked("declaration"), [["path", "path deposit ; remove end"]]);
   await typeAtEnd("attempts", "3 start insert\n");
-  await shows("an undeclared name is said", () => text("attempts-said"), "text: undeclared in line 7. 7 attempts: 2 started, 2 blocked, 2 used, 1 finished.");
+  await shows("an undeclared name is said", () => text("attempts-said"), "text: undeclared in line 8. 7 attempts: 2 started, 2 blocked, 2 used, 1 finished.");
   await shows("and marked", () => marked("attempts"), [["fault", "insert"]]);
   await shows("no step is offered", () => text("steps-said"), "First mend the line that is at fault.");
   await choose("slot");
   await value(`(it => { it.focus(); it.setSelectionRange(20, 20); })(document.getElementById("attempts"))`);
-  await shows("the caret's line is explained", () => text("selected"), "Line 1, 2 start remove: blocked 0. Path 0 of slot forbids that remove starts now: deposit; remove.");
+  await shows("the caret's line is explained", () => text("selected"), "Line 2, 2 start remove: blocked 0. Path 0 of slot forbids that remove starts now: deposit; remove.");
   await write("declaration", "resource r cell operation a\npath a ; b end end");
   await shows("a refused declaration", () => text("declaration-said"), "declaration: undeclared at 37 (line 2, column 10)");
   await shows("is marked", () => marked("declaration"), [["fault", "b"]]);
@@ -308,7 +312,7 @@ async function testDrafts() {
 
 async function testAudit() {
   await choose("till");
-  await shows("the wrong line", () => text("journal-said"), "wrong line 3: 2 use 1 add 120: used 620");
+  await shows("the wrong line", () => text("journal-said"), "wrong line 4: 2 use 1 add 120: used 620");
   await shows("is marked", () => value(`[...document.querySelector("#journal-sheet .marks .rows").children].findIndex(it => it.className === "fault")`), 3);
   await choose("slot");
   await value(`document.getElementById("audit").open = true`);
@@ -348,7 +352,7 @@ async function testPicture() {
   const trace = read("philosophers/trace");
   same("a bar for each start", runs, trace.match(/: started/g).length);
   same("a tick for each refused start", ticks, trace.match(/: blocked/g).length);
-  same("in words", (await value(`[...document.querySelectorAll("#spoken li")].map(it => it.textContent)`))[0], "Worker 0: eat0 in lines 0 to 5.");
+  same("in words", (await value(`[...document.querySelectorAll("#spoken li")].map(it => it.textContent)`))[0], "Worker 0: eat0 in lines 1 to 6.");
   await shows("its file", () => value(`new DOMParser().parseFromString(pictureFile().replace(/<style>[^]*<.style>/, ""), "image/svg+xml").querySelector("parsererror") === null`), true);
 }
 
@@ -387,6 +391,60 @@ async function measureKeystrokes(inPage) {
   for (const kind in alone) console.log(`${kind}: ${inShort(inPage[kind])}; in a text area alone ${inShort(alone[kind])}`);
 }
 
+// The numbers beside the lines of a text.
+const numbersOf = id => value(`[...document.querySelectorAll("#${id}-sheet .numbers .rows div")].map(it => it.textContent).join(" ")`);
+
+// The same expression with an element as `it`.
+const on = (selector, expression) => value(`(it => ${expression})(document.querySelector('${selector}'))`);
+
+async function testNumbers() {
+  await choose("slot");
+  await shows("the lines of a declaration have numbers", () => numbersOf("declaration"), "1 2 3 4 5");
+  await choose("recorder");
+  await shows("the lines of a journal count from its head", async () => (await numbersOf("journal")).slice(0, 5), "1 2 3");
+  await choose("philosophers");
+  await shows("lines count from 1 in the picture, too", () => on("#picture .axis", "it.textContent"), "1");
+  await write("attempts", "4294967295 start eat0\n".repeat(40) + "7 start #99\n");
+  await shows("the last reply", lastReply, "unknown operation");
+  await size(390, 900, false);
+  await shows("a reply fits into its column on a phone", () => on("#attempts-sheet .replies", "it.scrollWidth <= it.clientWidth"), true);
+  const fits = "it.getBBox().x + it.getBBox().width <= it.ownerSVGElement.width.baseVal.value";
+  await shows("a worker's long number fits beside the picture", () => on("#picture .labels text:last-child", fits), true);
+  await size(1280, 1100, false);
+}
+
+async function testScrolling() {
+  await choose("philosophers");
+  await write("attempts", "1 start eat0\n".repeat(40));
+  const at = await on("#attempts-sheet .replies", `(it.scrollIntoView({ block: "center" }),
+    (({ x, y }) => ({ x: x + 9, y: y + 40 }))(it.getBoundingClientRect()))`);
+  await on("#attempts", "it.scrollTop = 0");
+  const y = await value("scrollY");
+  await send("Input.dispatchMouseEvent", { type: "mouseWheel", ...at, deltaX: 0, deltaY: 100 });
+  await shows("the wheel over the replies scrolls them", () => on("#attempts", "it.scrollTop > 50"), true);
+  same("and not the page", await value("scrollY"), y);
+  await choose("slot");
+  await choose(await value("drafts.length - 1"));
+  const isSeen = `it.getBoundingClientRect().bottom <= it.closest(".sheet").getBoundingClientRect().bottom`;
+  await shows("the line that is explained is in view", () => on("#attempts-sheet .at", isSeen), true);
+  await write("attempts", "");
+  await shows("nothing is no file", () => value(`["attempts", "journal", "picture"].map(it => document.getElementById("save-" + it).disabled)`),
+    [true, true, true]);
+}
+
+async function testWorkers() {
+  await choose("philosophers");
+  await click(`#workers [data-key="worker 4"]`);
+  await choose("knot");
+  await choose("philosophers");
+  await shows("another example has a worker of its own", () => on("#workers input:checked", "it.value"), "0");
+  await write("attempts", Array.from({ length: 30 }, (_, i) => `${i} start eat0\n`).join(""));
+  await shows("many workers are a list", () => value(`["input", "option"].map(it => document.querySelectorAll("#workers " + it).length)`), [0, 31]);
+  await on("#workers select", `(it.value = "17", it.dispatchEvent(new Event("change", { bubbles: true })))`);
+  await click(`#starts [data-key="start eat2"]`);
+  await shows("of which one is chosen", async () => (await field("attempts")).trim().split("\n").at(-1), "17 start eat2");
+}
+
 async function testMany() {
   await choose("slot");
   await value(`(it => { it.value = ${MANY}; it.setSelectionRange(it.value.length, it.value.length); it.scrollTop = it.scrollHeight; it.dispatchEvent(new Event("input")); })(document.getElementById("attempts"))`);
@@ -399,13 +457,13 @@ async function testMany() {
   console.log(`what follows the last keystroke: ${rest.toFixed(1)} ms`);
   await shoot("large");
   await value(`document.getElementById("attempts").scrollTop = 5000 * attemptsSheet.row`);
-  await shows("scrolled, the middle is drawn", () => value(`document.querySelector('#attempts-sheet .replies [data-line="5005"]')?.textContent`), "line 5005: finished");
+  await shows("scrolled, the middle is drawn", () => value(`document.querySelector('#attempts-sheet .replies [data-line="5005"]')?.textContent`), "line 5006: finished");
   await value(`(it => { const at = attemptsSheet.lines.starts[5005]; it.focus(); it.setSelectionRange(at, at); })(document.getElementById("attempts"))`);
   await send("Input.insertText", { text: "1 start deposit\n" });
   await until(`attemptsSheet.lines.at(5005) === "1 start deposit"`);
   await shows("what is drawn is what was answered", () => value(`(({ first, last, numbers, replies }) =>
-    [...numbers.element.children].map(it => it.textContent).join() === Array.from({ length: last - first }, (_, i) => first + i).join()
-    && [...replies.element.children].every((it, i) => it.textContent === "line " + (first + i) + ": " + answered.entry(first + i)?.reply))(attemptsSheet)`), true);
+    [...numbers.element.children].map(it => it.textContent).join() === Array.from({ length: last - first }, (_, i) => first + i + 1).join()
+    && [...replies.element.children].every((it, i) => it.textContent === "line " + (first + i + 1) + ": " + answered.entry(first + i)?.reply))(attemptsSheet)`), true);
   await measureKeystrokes(inPage);
   await openPage();
 }
@@ -416,7 +474,8 @@ try {
   await size(1280, 1100, false);
   await openPage();
   console.log((await text("about")).split(". ")[0]);
-  for (const test of [testExamples, testTyping, testClicking, testDrafts, testAudit, testAddress, testPicture, testMany]) await test();
+  for (const test of [testExamples, testTyping, testClicking, testDrafts, testAudit, testAddress, testPicture, testNumbers, testScrolling,
+    testWorkers, testMany]) await test();
   await choose("philosophers");
   await shoot("wide");
   await size(800, 1100, false);

@@ -72,16 +72,19 @@ same("a picture of a bad line", calls.picture(SLOT, "1 strat"), refused(4, "text
 same("a wrong line", calls.audit(SLOT, "1 start remove: started 0\n"), { status: 5, out: "wrong line 0\n", err: "" });
 const half = its.answersTo(calls, SLOT, "1 start deposit\n1 start insert\n");
 same("lines before a fault are answered", [half.entries.map(it => it.reply), half.fault],
-  [["started 0"], { says: "text: undeclared in line 1", line: 1, name: "insert" }]);
+  [["started 0"], { says: "text: undeclared in line 2", line: 1, name: "insert" }]);
 const typed = its.answersTo(calls, SLOT, "1 start deposit\n2 sta", its.answersTo(calls, SLOT, "1 start deposit\n"));
-same("while a line is typed", [typed.entries.map(it => it.reply), typed.fault.says, typed.report.blocked.get("deposit")], [["started 0"], "text: bad line 1", 0]);
+same("while a line is typed", [typed.entries.map(it => it.reply), typed.fault.says, typed.report.blocked.get("deposit")], [["started 0"], "text: bad line 2", 0]);
 for (const text of ["", "\n", "a", "a\n", "a\n\nbc"]) {
   const lines = new its.Lines(text);
   same("lines", Array.from({ length: lines.length }, (_, i) => lines.at(i)), text.split("\n"));
   same("lines that are counted", lines.counted, text.split("\n").length - (text === "" || text.endsWith("\n") ? 1 : 0));
   same("lines of places", Array.from({ length: text.length + 1 }, (_, i) => lines.lineOf(i)), Array.from({ length: text.length + 1 }, (_, i) => text.slice(0, i).split("\n").length - 1));
 }
-same("a wrong line behind a head", its.verdictOn(calls, SLOT, "journal 2 room 9\n1 start remove: started 0\n").line, 1);
+same("a wrong line behind a head", its.verdictOn(calls, SLOT, "journal 2 room 9\n1 start remove: started 0\n"),
+  { says: "wrong line 2", isSound: false, line: 1 });
+same("a bad line behind a head", its.verdictOn(calls, SLOT, "journal 2 room 9\n1 strat\n"),
+  { says: "text: bad line 2", line: 1, name: null, isSound: false });
 
 // ---- buffers and memory
 

@@ -1,5 +1,6 @@
 "use strict";
-// The picture: a lane for each worker, with a bar for each activation and a tick for each refused start. Nothing here knows of the page.
+// The picture: a lane for each worker, with a bar for each activation and a tick for each refused start. Lines are shown with numbers
+// from 1. Nothing here knows of the page.
 
 const LANE = { row: 26, bar: 21, ticks: 14, head: 20, label: 84, margin: 12, letter: 7.3 };
 
@@ -43,6 +44,9 @@ function lanesOf(entries) {
   return { lanes, runs, ticks, uses, lines: entries.length, height: top + 4 };
 }
 
+// The width of the workers' names.
+const labelWidth = ({ lanes }) => Math.max(LANE.label, 8 + LANE.letter * Math.max(0, ...lanes.map(lane => `worker ${lane.worker}`.length)));
+
 // The width of a line, so that a short picture fills the page and a long one can be read.
 const stepFor = lines => Math.max(10, Math.min(44, Math.floor(1000 / Math.max(1, lines))));
 
@@ -52,8 +56,8 @@ function drawn(picture, step, window) {
   const isSeen = lane => lane.top + lane.height >= window.top && lane.top <= window.bottom;
   const out = [];
   const every = step >= 16 ? 1 : 5;
-  for (let line = Math.ceil(window.from / every) * every; line < Math.min(window.to, picture.lines); line += every) {
-    out.push(`<text class="axis" x="${x(line) + 2}" y="12">${line}</text>`);
+  for (let line = Math.ceil((window.from + 1) / every) * every - 1; line < Math.min(window.to, picture.lines); line += every) {
+    out.push(`<text class="axis" x="${x(line) + 2}" y="12">${line + 1}</text>`);
   }
   for (const lane of picture.lanes.filter(isSeen)) {
     out.push(`<line class="lane" x1="${x(window.from)}" x2="${x(window.to)}" y1="${lane.top - 4}" y2="${lane.top - 4}"/>`);
@@ -65,7 +69,8 @@ function drawn(picture, step, window) {
     const left = x(run.from);
     const width = (isLive ? x(end) + 10 : x(end) + step * 0.75) - left;
     const top = run.lane.top + run.row * LANE.row;
-    const says = `activation ${run.activation}: ${run.name}, ${isLive ? `live since line ${run.from}` : `lines ${run.from} to ${end}`}`;
+    const lines = isLive ? `live since line ${run.from + 1}` : `lines ${run.from + 1} to ${end + 1}`;
+    const says = `activation ${run.activation}: ${run.name}, ${lines}`;
     const letters = Math.floor((width - 8) / LANE.letter);
     const name = run.name.length <= letters ? run.name : letters > 1 ? run.name.slice(0, letters - 1) + "…" : "";
     out.push(`<g><title>${escaped(says)}</title><rect class="bar${isLive ? " live" : ""}" x="${left}" y="${top}" width="${width}" height="${LANE.bar}" rx="3"/>`);
@@ -80,7 +85,7 @@ function drawn(picture, step, window) {
     if (line < window.from || line >= window.to || !isSeen(lane)) continue;
     const at = x(line) + Math.min(step / 2, 8);
     const low = lane.top + lane.height - LANE.ticks + 5;
-    out.push(`<g><title>${escaped(`line ${line}: ${name} blocked by path ${path}`)}</title><line class="tick" x1="${at}" x2="${at}" y1="${lane.top - 1}" y2="${low}"/>`);
+    out.push(`<g><title>${escaped(`line ${line + 1}: ${name} blocked by path ${path}`)}</title><line class="tick" x1="${at}" x2="${at}" y1="${lane.top - 1}" y2="${low}"/>`);
     out.push(`<text class="path" x="${at + 3}" y="${low}">${path}</text></g>`);
   }
   return out.join("");
@@ -106,8 +111,11 @@ function summaryOf(picture) {
 function spokenOf(picture) {
   const said = new Map(picture.lanes.map(lane => [lane, []]));
   for (const run of picture.runs) {
-    said.get(run.lane).push([run.from, run.to === Infinity ? `${run.name} live since line ${run.from}` : `${run.name} in lines ${run.from} to ${run.to}`]);
+    const lines = run.to === Infinity ? `live since line ${run.from + 1}` : `in lines ${run.from + 1} to ${run.to + 1}`;
+    said.get(run.lane).push([run.from, `${run.name} ${lines}`]);
   }
-  for (const { lane, line, path, name } of picture.ticks) said.get(lane).push([line, `${name} blocked by path ${path} in line ${line}`]);
+  for (const { lane, line, path, name } of picture.ticks) {
+    said.get(lane).push([line, `${name} blocked by path ${path} in line ${line + 1}`]);
+  }
   return picture.lanes.map(lane => `Worker ${lane.worker}: ${said.get(lane).sort((a, b) => a[0] - b[0]).map(it => it[1]).join(", ") || "nothing started"}.`);
 }

@@ -9,6 +9,8 @@ const MOST_DRAWN = 2000;
 const STEP_DRAWN = 20;
 // Of long lists beside the texts, so many are shown.
 const MOST_LISTED = 100;
+// Of so many workers each has a button, and more are a list.
+const MOST_WORKERS = 10;
 // As many lines are written as if they were typed. Chromium takes seconds for a thousand.
 const MOST_TYPED = 200;
 // A longer case isn't put into the address.
@@ -22,7 +24,7 @@ function refill(element, html) {
   element.innerHTML = html;
   if (key === undefined) return;
   const again = [...element.querySelectorAll("[data-key]")].find(it => it.dataset.key === key);
-  (again ?? element.querySelector("button, input") ?? $("starts").querySelector("button"))?.focus();
+  (again ?? element.querySelector("button, input, select") ?? $("starts").querySelector("button"))?.focus();
 }
 
 // ---- writing for the user
@@ -41,7 +43,8 @@ function write(area, from, to, text) {
     && document.execCommand(text === "" ? "delete" : "insertText", false, text);
   if (!isTyped) area.setRangeText(text, from, to, "end");
   isWriting = false;
-  focused?.focus({ preventScroll: true });
+  if (focused === document.body) area.blur();
+  else focused.focus({ preventScroll: true });
   window.scrollTo({ left: scrollX, top: scrollY, behavior: "instant" });
 }
 
@@ -114,6 +117,22 @@ class Sheet {
     this.view = viewOf(this.area);
     this.area.addEventListener("scroll", () => this.follow());
     new ResizeObserver(() => this.follow()).observe(this.area);
+    for (const beside of [this.numbers, this.replies]) beside?.element.parentElement.addEventListener("wheel", it => this.wheeled(it));
+  }
+
+  // Scrolls the text area by the wheel over what is beside it.
+  wheeled(event) {
+    if (event.ctrlKey || event.deltaY === 0) return;
+    const before = this.area.scrollTop;
+    this.area.scrollTop += event.deltaMode === WheelEvent.DOM_DELTA_LINE ? event.deltaY * this.row : event.deltaY;
+    if (this.area.scrollTop !== before) event.preventDefault();
+  }
+
+  // Scrolls down to a line, if it is below what is in view.
+  reveal(line) {
+    const { area, row } = this;
+    const below = (line + 2) * row - area.clientHeight;
+    if (below > area.scrollTop) area.scrollTop = below;
   }
 
   // Shows the marks and replies of a text's lines. `marked` has for a line pieces { from, to, kind } of it, or the kind of the whole
@@ -128,7 +147,7 @@ class Sheet {
     const { first, last, marked } = this;
     const padding = `calc(.6rem + ${first * this.row}px)`;
     const fill = (column, row) => column?.show(Array.from({ length: last - first }, (_, i) => row(first + i)), padding);
-    fill(this.numbers, i => `<div>${i}</div>`);
+    fill(this.numbers, i => `<div>${i + 1}</div>`);
     fill(this.marks, i => this.markedRow(i, marked.get(i)));
     fill(this.replies, i => this.repliedRow(i, this.reply(i)));
     this.place();
@@ -160,7 +179,8 @@ class Sheet {
 
   repliedRow(i, reply) {
     if (reply === undefined) return "<div></div>";
-    return `<div data-line="${i}" class="${reply.kind}${i === this.at ? " at" : ""}"><span class="spoken">line ${i}: </span>${escaped(reply.text)}</div>`;
+    const kind = i === this.at ? reply.kind + " at" : reply.kind;
+    return `<div data-line="${i}" class="${kind}"><span class="spoken">line ${i + 1}: </span>${escaped(reply.text)}</div>`;
   }
 
   // Moves with the text area, and draws what came into view.
@@ -275,7 +295,7 @@ function showAttempts() {
   }
   attemptsSheet.show(lines, marked, replyTo, line);
   const entry = answered.entry(line);
-  explain(entry ? `Line ${line}, ${entry.line}: ${entry.reply}. ${reasonFor(entry, declared.paths)}` : "",
+  explain(entry ? `Line ${line + 1}, ${entry.line}: ${entry.reply}. ${reasonFor(entry, declared.paths)}` : "",
     entry?.kind === "blocked" ? Number(entry.number) : null);
 }
 
@@ -328,13 +348,22 @@ function liveItem({ activation, worker, operation }) {
     + `<button type="button" data-key="finish ${activation}" data-line="${worker} finish ${activation}">finish</button></li>`;
 }
 
+// The choice of a worker, of these.
+function workerChoice(workers, worker) {
+  if (workers.length > MOST_WORKERS) {
+    const options = workers.map(it => `<option${it === worker ? " selected" : ""}>${it}</option>`);
+    return `<select data-key="worker" aria-label="Worker">${options.join("")}</select>`;
+  }
+  const radio = it => `<input type="radio" name="worker" data-key="worker ${it}" value="${it}"${it === worker ? " checked" : ""}>`;
+  return workers.map(it => `<label>${radio(it)} ${it}</label>`).join("");
+}
+
 function showSteps() {
   const workers = workersNow();
-  const chosen = document.querySelector("#workers input:checked")?.value;
+  const chosen = document.querySelector("#workers input:checked, #workers select")?.value;
   const worker = workers.includes(chosen) ? chosen : workers[0];
   const can = declared.isRead && !answered.fault;
-  refill($("workers"), workers.map(it =>
-    `<label><input type="radio" name="worker" data-key="worker ${it}" value="${it}"${it === worker ? " checked" : ""}> ${it}</label>`).join(""));
+  refill($("workers"), workerChoice(workers, worker));
   const more = (list, what) => list.length > MOST_LISTED ? `${list.length - MOST_LISTED} more ${what} can be typed. ` : "";
   const { operations } = declared;
   const { live } = answered.report;
@@ -388,7 +417,7 @@ let pictureView = null;
 function showPicture() {
   const [labelled, lanes] = $("picture").querySelectorAll("svg");
   $("picture").classList.toggle("empty", picture.lines === 0);
-  for (const [svg, width] of [[labelled, LANE.label], [lanes, picture.lines * stepFor(picture.lines) + 2 * LANE.margin]]) {
+  for (const [svg, width] of [[labelled, labelWidth(picture)], [lanes, picture.lines * stepFor(picture.lines) + 2 * LANE.margin]]) {
     svg.setAttribute("width", width);
     svg.setAttribute("height", picture.height);
   }
@@ -533,8 +562,10 @@ function open(it) {
     $(id).setSelectionRange(it[id].length, it[id].length);
   }
   $("audit").open = it.journal !== "";
+  $("workers").textContent = "";
   show();
   judge();
+  attemptsSheet.reveal(answered.length - 1);
   noteAddress();
 }
 
@@ -573,6 +604,8 @@ function showRest() {
   showSteps();
   showPicture();
   showLong($("report"), answered.reportText);
+  $("save-attempts").disabled = answered.lines.text === "";
+  $("save-journal").disabled = $("save-picture").disabled = answered.length === 0;
   showWhole();
 }
 

@@ -66,14 +66,18 @@ function declarationFault(text, err) {
   return { says: `${says} (line ${line}, column ${column})`, from: index, to: index + Math.max(1, tokenAt(text, index).length) };
 }
 
-// Which line of attempts or of a journal is refused, from 0: { says, line, name }; name is the undeclared one, if there is one.
+// A message of the program in which lines count from 1, and not from 0.
+const fromOne = (says, more = 1) => says.replace(/(?<=line )\d+$/, line => Number(line) + more);
+
+// Which line of attempts or of a journal is refused: { says, line, name }; `line` counts from 0, and `says` from 1; name is the undeclared
+// one, if there is one.
 function lineFault(lines, err) {
   const says = err.trim();
   const found = /^text: (bad line|undeclared in line) (\d+)$/.exec(says);
   if (!found) return { says };
   const line = Number(found[2]);
   const name = found[1] === "bad line" ? null : (/^\d+ start ([^ :]+)/.exec(lines.at(line))?.[1] ?? null);
-  return { says, line, name };
+  return { says: fromOne(says), line, name };
 }
 
 // A printed declaration: its operations and paths, in order, each with its resource.
@@ -177,7 +181,8 @@ function answersTo(calls, declaration, attempts, before) {
   return front.status === 0 ? new Answers(declaration, lines, fault.line, front.out, fault) : new Answers(declaration, lines, 0, "", fault);
 }
 
-// The verdict on a journal: { says, isSound, line }; `line` is the line of the text that is wrong or at fault.
+// The verdict on a journal: { says, isSound, line }; `line` is the line of the text that is wrong or at fault, from 0, and `says` has it
+// from 1.
 function verdictOn(calls, declaration, journal) {
   const told = calls.audit(declaration, journal);
   if (told.status === TEXT_REFUSED) return { ...lineFault(new Lines(journal), told.err), isSound: false };
@@ -185,7 +190,7 @@ function verdictOn(calls, declaration, journal) {
   const wrong = /^wrong line (\d+)$/.exec(says);
   // The head of a journal is no line of it.
   const head = journal.startsWith("journal ") ? 1 : 0;
-  return { says, isSound: told.status === 0, line: wrong ? Number(wrong[1]) + head : undefined };
+  return { says: fromOne(says, head + 1), isSound: told.status === 0, line: wrong ? Number(wrong[1]) + head : undefined };
 }
 
 // The attempts so far as one more line makes them.
