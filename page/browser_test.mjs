@@ -445,6 +445,67 @@ async function testWorkers() {
   await shows("of which one is chosen", async () => (await field("attempts")).trim().split("\n").at(-1), "17 start eat2");
 }
 
+// The contrast of two of the page's colours, by their names in the style.
+const contrasts = pairs => value(`(${JSON.stringify(pairs)}).map(pair => {
+  const light = name => {
+    const hex = getComputedStyle(document.documentElement).getPropertyValue("--" + name).trim();
+    const parts = [1, 3, 5].map(i => parseInt(hex.slice(i, i + 2), 16) / 255)
+      .map(it => it <= 0.03928 ? it / 12.92 : ((it + 0.055) / 1.055) ** 2.4);
+    return 0.2126 * parts[0] + 0.7152 * parts[1] + 0.0722 * parts[2] + 0.05;
+  };
+  const [dark, bright] = pair.map(light).sort((a, b) => a - b);
+  return bright / dark;
+})`);
+
+const TEXTS = [["no", "path"], ["no", "paper"], ["no", "field"], ["yes", "path"], ["yes", "paper"], ["yes", "field"], ["faint", "paper"],
+  ["faint", "field"], ["ink", "path"], ["ink", "fault"], ["ink", "live"], ["bar-ink", "bar"]];
+const EDGES = [["edge", "paper"], ["edge", "field"], ["bar", "field"], ["focus", "paper"], ["focus", "field"]];
+
+async function testContrast() {
+  for (const isDark of [false, true]) {
+    await size(1280, 1100, isDark);
+    const where = isDark ? "dark" : "light";
+    const weak = async (pairs, least) => (await contrasts(pairs)).flatMap((it, i) => it >= least ? [] : [[...pairs[i], it]]);
+    same(`texts, ${where}`, await weak(TEXTS, 4.5), []);
+    same(`edges, ${where}`, await weak(EDGES, 3), []);
+  }
+  await size(1280, 1100, false);
+  await choose("slot");
+  const colour = (selector, property) => on(selector, `getComputedStyle(it).${property}`);
+  const names = await value(`Object.fromEntries(["edge", "bar", "field"].map(it => {
+    const hex = getComputedStyle(document.documentElement).getPropertyValue("--" + it).trim();
+    return [it, "rgb(" + [1, 3, 5].map(i => parseInt(hex.slice(i, i + 2), 16)).join(", ") + ")"];
+  }))`);
+  same("the text areas have an edge", await colour("#attempts-sheet", "borderTopColor"), names.edge);
+  same("a live bar has one, too", await colour("#picture .bar.live", "stroke"), names.bar);
+  same("a tick stands out from bars", await colour("#picture .halo", "stroke"), names.field);
+}
+
+// The name and the role of an element, for screen readers.
+async function spokenAs(selector) {
+  const { root } = await send("DOM.getDocument");
+  const { nodeId } = await send("DOM.querySelector", { nodeId: root.nodeId, selector });
+  const { nodes } = await send("Accessibility.getPartialAXTree", { nodeId, fetchRelatives: false });
+  return [nodes[0].role.value, nodes[0].name.value];
+}
+
+async function testSpoken() {
+  await choose("slot");
+  await shows("a button's name has its activation", () => spokenAs(`#live [data-key="finish 1"]`), ["button", "finish activation 1, remove"]);
+  await shows("the report has a name", () => spokenAs("#report"), ["region", "What can happen next"]);
+  await shows("so have the semaphores", () => spokenAs("#compiled"), ["region", "The semaphores"]);
+  const changes = await value(`new Promise(done => {
+    let changes = 0;
+    const observer = new MutationObserver(records => { changes += records.length; });
+    const all = { childList: true, characterData: true, subtree: true };
+    for (const it of document.querySelectorAll("[role=status]")) observer.observe(it, all);
+    show();
+    judge();
+    setTimeout(() => done(changes), 50);
+  })`);
+  same("what is said is said once", changes, 0);
+}
+
 async function testMany() {
   await choose("slot");
   await value(`(it => { it.value = ${MANY}; it.setSelectionRange(it.value.length, it.value.length); it.scrollTop = it.scrollHeight; it.dispatchEvent(new Event("input")); })(document.getElementById("attempts"))`);
@@ -475,7 +536,7 @@ try {
   await openPage();
   console.log((await text("about")).split(". ")[0]);
   for (const test of [testExamples, testTyping, testClicking, testDrafts, testAudit, testAddress, testPicture, testNumbers, testScrolling,
-    testWorkers, testMany]) await test();
+    testWorkers, testContrast, testSpoken, testMany]) await test();
   await choose("philosophers");
   await shoot("wide");
   await size(800, 1100, false);

@@ -79,13 +79,15 @@ function drawn(picture, step, window) {
   }
   for (const { run, line, says } of picture.uses) {
     if (line < window.from || line >= window.to || !isSeen(run.lane)) continue;
-    out.push(`<circle class="use" cx="${x(line) + step / 2}" cy="${run.lane.top + run.row * LANE.row + LANE.bar - 3}" r="2"><title>${escaped(says)}</title></circle>`);
+    out.push(`<circle class="use${run.to === Infinity ? " live" : ""}" cx="${x(line) + step / 2}" cy="${run.lane.top + run.row * LANE.row + LANE.bar - 3}" r="2"><title>${escaped(says)}</title></circle>`);
   }
   for (const { lane, line, path, name } of picture.ticks) {
     if (line < window.from || line >= window.to || !isSeen(lane)) continue;
     const at = x(line) + Math.min(step / 2, 8);
     const low = lane.top + lane.height - LANE.ticks + 5;
-    out.push(`<g><title>${escaped(`line ${line + 1}: ${name} blocked by path ${path}`)}</title><line class="tick" x1="${at}" x2="${at}" y1="${lane.top - 1}" y2="${low}"/>`);
+    const ends = `x1="${at}" x2="${at}" y1="${lane.top - 1}" y2="${low}"`;
+    out.push(`<g><title>${escaped(`line ${line + 1}: ${name} blocked by path ${path}`)}</title>`);
+    out.push(`<line class="halo" ${ends}/><line class="tick" ${ends}/>`);
     out.push(`<text class="path" x="${at + 3}" y="${low}">${path}</text></g>`);
   }
   return out.join("");

@@ -18,6 +18,15 @@ const MOST_LINKED = 32768;
 
 const told = (text, kind) => `<span class="${kind}">${escaped(text)}</span>`;
 
+const sayings = new Map();
+
+// Says something in a status region. The same words again aren't spoken again.
+function say(id, html) {
+  if (sayings.get(id) === html) return;
+  sayings.set(id, html);
+  $(id).innerHTML = html;
+}
+
 // Fills an element anew. What had the focus in it has it again.
 function refill(element, html) {
   const key = element.contains(document.activeElement) ? document.activeElement.dataset.key : undefined;
@@ -250,9 +259,9 @@ function readDeclaration() {
     declared = { text, lines: new Lines(text), isRead: false, operations: [], paths: [], fault: declarationFault(text, read.err || STATUSES[read.status]) };
     $("compiled").textContent = "";
   }
-  $("declaration-said").innerHTML = declared.isRead
+  say("declaration-said", declared.isRead
     ? `${told("A declaration", "yes")}, ${declared.paths.length ? "with these paths:" : "without paths."}`
-    : told(declared.fault.says, "no");
+    : told(declared.fault.says, "no"));
   $("paths").innerHTML = declared.paths.map(path => `<li>${escaped(path.text)}</li>`).join("");
 }
 
@@ -305,13 +314,13 @@ function countAttempts() {
   const tally = new Map();
   for (const { kind } of entries) tally.set(kind, (tally.get(kind) ?? 0) + 1);
   const counts = [...tally].map(([kind, count]) => `${count} ${kind}`).join(", ");
-  $("attempts-said").innerHTML = (fault ? told(fault.says, "no") + ". " : "")
-    + escaped(`${entries.length} ${entries.length === 1 ? "attempt" : "attempts"}${counts ? ": " + counts : ""}.`);
+  say("attempts-said", (fault ? told(fault.says, "no") + ". " : "")
+    + escaped(`${entries.length} ${entries.length === 1 ? "attempt" : "attempts"}${counts ? ": " + counts : ""}.`));
 }
 
 // Says why an attempt got its reply, and marks the path that forbids it.
 function explain(text, path) {
-  if ($("selected").textContent !== text) $("selected").textContent = text;
+  say("selected", escaped(text));
   $("paths").children[forbidding]?.classList.remove("forbids");
   $("paths").children[path]?.classList.add("forbids");
   forbidding = path;
@@ -342,10 +351,12 @@ function startButton({ name }, worker) {
 
 function liveItem({ activation, worker, operation }) {
   const law = declared.operations.find(it => it.name === operation).resource.law;
-  const buttons = VERBS[law].map(verb =>
-    `<button type="button" data-key="use ${activation} ${verb}" data-line="${worker} use ${activation} ${verb}"${verb === "put" || verb === "add" ? ' data-number="yes"' : ""}>${verb}</button>`);
-  return `<li><span>activation ${activation}: ${operation}, worker ${worker}</span>${buttons.join("")}`
-    + `<button type="button" data-key="finish ${activation}" data-line="${worker} finish ${activation}">finish</button></li>`;
+  const button = (verb, key, more = "") => `<button type="button" data-key="${key}" data-line="${worker} ${key}"`
+    + ` aria-label="${verb} activation ${activation}, ${operation}"${more}>${verb}</button>`;
+  const numbered = verb => verb === "put" || verb === "add" ? ' data-number="yes"' : "";
+  const uses = VERBS[law].map(verb => button(verb, `use ${activation} ${verb}`, numbered(verb)));
+  return `<li><span>activation ${activation}: ${operation}, worker ${worker}</span>`
+    + `${uses.join("")}${button("finish", `finish ${activation}`)}</li>`;
 }
 
 // The choice of a worker, of these.
@@ -369,20 +380,20 @@ function showSteps() {
   const { live } = answered.report;
   refill($("starts"), can ? operations.slice(0, MOST_LISTED).map(it => startButton(it, worker)).join("") : "");
   refill($("live"), can ? live.slice(0, MOST_LISTED).map(liveItem).join("") : "");
-  $("steps-said").textContent = can ? more(operations, "operations") + more(live, "live activations")
-    : declared.isRead ? "First mend the line that is at fault." : "First mend the declaration.";
-  if (can && answered.report.frozen) $("steps-said").textContent = "Nothing is live and nothing can start: nothing is ever admitted again.";
-  showRefusal();
+  const hint = !declared.isRead ? "First mend the declaration."
+    : !can ? "First mend the line that is at fault."
+    : answered.report.frozen ? "Nothing is live and nothing can start: nothing is ever admitted again."
+    : more(operations, "operations") + more(live, "live activations");
+  say("steps-said", hint + refusal());
 }
 
 // The line that a button wrote last.
 let clickedLine = -1;
 
-// Says beside the buttons why the start that one of them wrote just now is refused. Screen readers have it from the line of the attempt.
-function showRefusal() {
+// Why the start that a button wrote just now is refused, if it is: for the eye, since screen readers have it from the line of the attempt.
+function refusal() {
   const entry = clickedLine === answered.length - 1 ? answered.entry(clickedLine) : undefined;
-  if (entry?.kind !== "blocked") return;
-  $("steps-said").innerHTML += ` <span aria-hidden="true">${escaped(reasonFor(entry, declared.paths))}</span>`;
+  return entry?.kind === "blocked" ? ` <span aria-hidden="true">${escaped(reasonFor(entry, declared.paths))}</span>` : "";
 }
 
 const isNumber = text => /^(0|[1-9][0-9]*)$/.test(text) && BigInt(text) < 2n ** 64n;
@@ -393,7 +404,7 @@ function clicked(event) {
   if (!button) return;
   const { line, number } = button.dataset;
   if (number && !isNumber($("number").value)) {
-    $("steps-said").textContent = "The number to put or add is 0 to 18446744073709551615.";
+    say("steps-said", "The number to put or add is 0 to 18446744073709551615.");
     $("number").focus();
     return;
   }
@@ -450,12 +461,13 @@ function judge() {
   const journal = $("journal").value;
   const lines = new Lines(journal);
   const marked = new Map();
-  $("journal-said").innerHTML = "";
+  let words = "";
   if (journal !== "" && declared.isRead) {
     const { says, isSound, line } = verdictOn(calls, declared.text, journal);
     if (line !== undefined) marked.set(line, "fault");
-    $("journal-said").innerHTML = told(line === undefined ? says : `${says}: ${lines.at(line)}`, isSound ? "yes" : "no");
+    words = told(line === undefined ? says : `${says}: ${lines.at(line)}`, isSound ? "yes" : "no");
   }
+  say("journal-said", words);
   journalSheet.show(lines, marked);
 }
 
