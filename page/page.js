@@ -27,13 +27,13 @@ function say(id, html) {
   $(id).innerHTML = html;
 }
 
-// Fills an element anew. What had the focus in it has it again.
+// Fills an element anew. What had the focus in it has it again; if it is gone, the element itself, where no key does anything.
 function refill(element, html) {
   const key = element.contains(document.activeElement) ? document.activeElement.dataset.key : undefined;
   element.innerHTML = html;
   if (key === undefined) return;
   const again = [...element.querySelectorAll("[data-key]")].find(it => it.dataset.key === key);
-  (again ?? element.querySelector("button, input, select") ?? $("starts").querySelector("button"))?.focus();
+  (again ?? element.querySelector("input, select") ?? element).focus();
 }
 
 // ---- writing for the user
@@ -398,11 +398,24 @@ function refusal() {
 
 const isNumber = text => /^(0|[1-9][0-9]*)$/.test(text) && BigInt(text) < 2n ** 64n;
 
+// The click before, and how soon and how near another one is to be a slip.
+let lastClick = { key: "", time: 0, x: 0, y: 0 };
+const SLIP = { time: 500, space: 16 };
+
+// Whether a click, as the second of a double click, meets a button that has moved to the place of the one before.
+function isSlip({ detail, timeStamp, clientX, clientY }, key) {
+  const { x, y, time } = lastClick;
+  const isAgain = timeStamp - time < SLIP.time && Math.hypot(clientX - x, clientY - y) < SLIP.space;
+  return detail > 0 && key !== lastClick.key && (detail > 1 || isAgain);
+}
+
 // A click appends its attempt, also one that is refused: the reply says why.
 function clicked(event) {
   const button = event.target.closest("button");
   if (!button) return;
-  const { line, number } = button.dataset;
+  const { line, number, key } = button.dataset;
+  if (isSlip(event, key)) return;
+  lastClick = { key, time: event.timeStamp, x: event.clientX, y: event.clientY };
   if (number && !isNumber($("number").value)) {
     say("steps-said", "The number to put or add is 0 to 18446744073709551615.");
     $("number").focus();
