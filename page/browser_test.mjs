@@ -240,6 +240,27 @@ async function testTyping() {
   await shows("nothing is answered", async () => [await replies(), await text("report"), await text("compiled")], [[], "", ""]);
 }
 
+async function testHalfTyped() {
+  const layout = () => value(`["picture", "report"].map(it => Math.round(document.getElementById(it).getBoundingClientRect().top + scrollY))`);
+  const buttons = () => value(`document.querySelectorAll("#starts button, #live button").length`);
+  const words = async () => [await text("declaration-said"), await text("attempts-said")];
+  const seen = async () => [await layout(), await buttons(), await marked("attempts"), await words()];
+  await choose("slot");
+  const before = await seen();
+  await typeAtEnd("attempts", "1 fin");
+  same("nothing moves while a line is typed, and nothing is judged", await seen(), before);
+  await shows("after a pause it is", () => text("attempts-said"), "text: bad line 7. 6 attempts: 2 started, 1 blocked, 2 used, 1 finished.");
+  same("and what is below stays", [await layout(), await buttons()], before.slice(0, 2));
+  await choose("slot");
+  await typeAtEnd("attempts", "1 fin");
+  await value(`document.getElementById("attempts").blur()`);
+  same("so it is once the text is left", (await text("attempts-said")).startsWith("text: bad line 7."), true);
+  await choose("slot");
+  await typeAtEnd("declaration", "resource");
+  same("the same for a declaration", await seen(), before);
+  await shows("which is judged after a pause", () => text("declaration-said"), "declaration: unexpected at 83 (line 5, column 9)");
+}
+
 async function testClicking() {
   await choose("slot");
   await write("attempts", "");
@@ -554,7 +575,7 @@ try {
   await size(1280, 1100, false);
   await openPage();
   console.log((await text("about")).split(". ")[0]);
-  for (const test of [testExamples, testTyping, testClicking, testDrafts, testSlips, testAudit, testAddress, testPicture,
+  for (const test of [testExamples, testTyping, testHalfTyped, testClicking, testDrafts, testSlips, testAudit, testAddress, testPicture,
     testNumbers, testScrolling, testWorkers, testContrast, testSpoken, testMany]) await test();
   await choose("philosophers");
   await shoot("wide");

@@ -11,6 +11,8 @@ const STEP_DRAWN = 20;
 const MOST_LISTED = 100;
 // Of so many workers each has a button, and more are a list.
 const MOST_WORKERS = 10;
+// A text at fault is judged after so many milliseconds without a keystroke, or when its line is left.
+const PAUSE = 1000;
 // As many lines are written as if they were typed. Chromium takes seconds for a thousand.
 const MOST_TYPED = 200;
 // A longer case isn't put into the address.
@@ -248,10 +250,18 @@ let picture = lanesOf([]);
 // The path that is marked, by a selected attempt.
 let forbidding = null;
 
+// Whether somebody types, so that what is at fault may be half of a line.
+let isTyping = false;
+
+// Whether the line of the caret is at fault, and typed just now.
+const isHalfTyped = () => isTyping && answered.fault?.line !== undefined && answered.fault.line === attemptsSheet.caretLine();
+
+// Reads the declaration. While it is typed, one that is refused leaves what was read before.
 function readDeclaration() {
   const text = $("declaration").value;
   if (text === declared.text) return;
   const read = calls.check(text);
+  if (read.status !== 0 && isTyping && declared.isRead) return;
   if (read.status === 0) {
     declared = { text, lines: new Lines(text), isRead: true, fault: null, ...declaredIn(read.out) };
     showLong($("compiled"), calls.compile(text).out);
@@ -287,6 +297,7 @@ const REPLY_KINDS = { started: "yes", finished: "yes", used: "", blocked: "no" }
 // The reply to a line, as it is shown.
 function replyTo(line) {
   const { fault } = answered;
+  if (line === fault?.line && isHalfTyped()) return undefined;
   if (line === fault?.line) return { text: fault.name ? "undeclared" : "bad line", kind: "no" };
   const entry = answered.entry(line);
   return entry && { text: entry.reply, kind: REPLY_KINDS[entry.kind] ?? "no" };
@@ -297,7 +308,7 @@ function showAttempts() {
   attemptsSheet.lines = lines;
   const line = selectedLine();
   const marked = new Map();
-  if (fault?.line !== undefined) {
+  if (fault?.line !== undefined && !isHalfTyped()) {
     const bad = lines.at(fault.line);
     const from = fault.name ? bad.indexOf(fault.name, bad.indexOf("start ") + 6) : 0;
     marked.set(fault.line, [{ from, to: fault.name ? from + fault.name.length : bad.length, kind: "fault" }]);
@@ -314,7 +325,7 @@ function countAttempts() {
   const tally = new Map();
   for (const { kind } of entries) tally.set(kind, (tally.get(kind) ?? 0) + 1);
   const counts = [...tally].map(([kind, count]) => `${count} ${kind}`).join(", ");
-  say("attempts-said", (fault ? told(fault.says, "no") + ". " : "")
+  say("attempts-said", (fault && !isHalfTyped() ? told(fault.says, "no") + ". " : "")
     + escaped(`${entries.length} ${entries.length === 1 ? "attempt" : "attempts"}${counts ? ": " + counts : ""}.`));
 }
 
@@ -324,8 +335,10 @@ function explain(text, path) {
   $("paths").children[forbidding]?.classList.remove("forbids");
   $("paths").children[path]?.classList.add("forbids");
   forbidding = path;
-  const { lines, fault } = declared;
   const marked = new Map();
+  const written = $("declaration").value;
+  if (written !== declared.text) return declarationSheet.show(new Lines(written), marked);
+  const { lines, fault } = declared;
   if (path !== null) markInto(marked, lines, ...pathPlaces(declared.text)[path], "path");
   if (fault?.from !== undefined) markInto(marked, lines, fault.from, fault.to, "fault");
   declarationSheet.show(lines, marked);
@@ -373,13 +386,14 @@ function showSteps() {
   const workers = workersNow();
   const chosen = document.querySelector("#workers input:checked, #workers select")?.value;
   const worker = workers.includes(chosen) ? chosen : workers[0];
-  const can = declared.isRead && !answered.fault;
+  const can = declared.isRead && (!answered.fault || isHalfTyped());
   refill($("workers"), workerChoice(workers, worker));
   const more = (list, what) => list.length > MOST_LISTED ? `${list.length - MOST_LISTED} more ${what} can be typed. ` : "";
   const { operations } = declared;
   const { live } = answered.report;
-  refill($("starts"), can ? operations.slice(0, MOST_LISTED).map(it => startButton(it, worker)).join("") : "");
-  refill($("live"), can ? live.slice(0, MOST_LISTED).map(liveItem).join("") : "");
+  refill($("starts"), operations.slice(0, MOST_LISTED).map(it => startButton(it, worker)).join(""));
+  refill($("live"), live.slice(0, MOST_LISTED).map(liveItem).join(""));
+  $("starts").inert = $("live").inert = !can;
   const hint = !declared.isRead ? "First mend the declaration."
     : !can ? "First mend the line that is at fault."
     : answered.report.frozen ? "Nothing is live and nothing can start: nothing is ever admitted again."
@@ -431,6 +445,7 @@ function append(line) {
   write(area, before.length, before.length, withLine(before, line).slice(before.length));
   area.scrollTop = area.scrollHeight;
   clickedLine = answered.length;
+  isTyping = false;
   show();
 }
 
@@ -588,6 +603,7 @@ function open(it) {
   }
   $("audit").open = it.journal !== "";
   $("workers").textContent = "";
+  isTyping = false;
   show();
   judge();
   attemptsSheet.reveal(answered.length - 1);
@@ -610,6 +626,24 @@ const journalText = () => answered.entries.map(it => `${it.line}: ${it.reply}\n`
 
 let noting = 0;
 let following = 0;
+
+let resting = 0;
+
+// Shows what follows from a keystroke. What is at fault is judged later.
+function typed() {
+  isTyping = true;
+  clearTimeout(resting);
+  resting = setTimeout(judgeTyped, PAUSE);
+  show();
+}
+
+// Judges what was typed, if that waits for it.
+function judgeTyped() {
+  clearTimeout(resting);
+  const waits = isHalfTyped() || $("declaration").value !== declared.text;
+  isTyping = false;
+  if (waits) show();
+}
 
 // Reads both texts, and shows what follows from them: of a long text the replies at once, and the rest when nobody types.
 function show() {
@@ -644,10 +678,16 @@ function showWhole() {
 function listen() {
   showCase();
   $("example").addEventListener("change", ({ target: { value } }) => open(examples.find(it => it.name === value) ?? drafts[value]));
-  for (const id of ["declaration", "attempts"]) $(id).addEventListener("input", () => isWriting || show());
+  for (const id of ["declaration", "attempts"]) {
+    $(id).addEventListener("input", () => isWriting || typed());
+    $(id).addEventListener("blur", () => isWriting || judgeTyped());
+  }
   $("journal").addEventListener("input", () => isWriting || showJournal());
   document.addEventListener("selectionchange", () => {
-    if (document.activeElement === $("attempts") && attemptsSheet.at !== selectedLine()) showAttempts();
+    if (document.activeElement !== $("attempts")) return;
+    const { fault } = answered;
+    if (isTyping && fault && fault.line !== attemptsSheet.caretLine()) show();
+    else if (attemptsSheet.at !== selectedLine()) showAttempts();
   });
   $("attempts-sheet").querySelector(".replies").addEventListener("click", event => {
     const row = event.target.closest("[data-line]");
