@@ -546,6 +546,28 @@ async function testSpoken() {
   same("what is said is said once", changes, 0);
 }
 
+async function testWithout() {
+  const first = async () => (await text("cannot")).split(":")[0].trim();
+  const shown = () => value(`["main", ".choice", "footer .buttons"].filter(it => document.querySelector(it).offsetHeight > 0)`);
+  const needs = "This page needs JavaScript, and WebAssembly with 64-bit memory";
+  const isSeen = () => on("#cannot", "it.getBoundingClientRect().height > 20 && it.getBoundingClientRect().bottom < 200");
+  const source = `WebAssembly.compile = () => Promise.reject(new TypeError("no such memory"));`;
+  const { identifier } = await send("Page.addScriptToEvaluateOnNewDocument", { source });
+  await visit("about:blank");
+  await visit("file://" + resolve(page));
+  await shows("without such WebAssembly the page says so", async () => [await first(), await isSeen(), await shown()], [needs, true, []]);
+  same("and what is amiss", (await text("cannot")).endsWith("(TypeError: no such memory)"), true);
+  await send("Page.removeScriptToEvaluateOnNewDocument", { identifier });
+  await send("Emulation.setScriptExecutionDisabled", { value: true });
+  await visit("about:blank");
+  await visit("file://" + resolve(page));
+  await shows("so it does without JavaScript", async () => [await first(), await isSeen(), await shown()], [needs, true, []]);
+  await send("Emulation.setScriptExecutionDisabled", { value: false });
+  await openPage();
+  same("otherwise it doesn't", await isSeen(), false);
+  same("and shows all", (await shown()).length, 3);
+}
+
 async function testMany() {
   await choose("slot");
   await value(`(it => { it.value = ${MANY}; it.setSelectionRange(it.value.length, it.value.length); it.scrollTop = it.scrollHeight; it.dispatchEvent(new Event("input")); })(document.getElementById("attempts"))`);
@@ -576,7 +598,7 @@ try {
   await openPage();
   console.log((await text("about")).split(". ")[0]);
   for (const test of [testExamples, testTyping, testHalfTyped, testClicking, testDrafts, testSlips, testAudit, testAddress, testPicture,
-    testNumbers, testScrolling, testWorkers, testContrast, testSpoken, testMany]) await test();
+    testNumbers, testScrolling, testWorkers, testContrast, testSpoken, testWithout, testMany]) await test();
   await choose("philosophers");
   await shoot("wide");
   await size(800, 1100, false);

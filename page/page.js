@@ -714,9 +714,11 @@ async function begin() {
   try {
     calls = callsOf(await WebAssembly.compile(bytes));
   } catch (error) {
-    $("about").innerHTML = told(`This browser can't run the page, which needs WebAssembly with 64-bit memory. (${error})`, "no");
+    const needs = $("cannot").textContent;
+    $("cannot").textContent = `${needs} (${error})`;
     return;
   }
+  for (const it of document.querySelectorAll("[hidden]")) it.hidden = false;
   declarationSheet = new Sheet("declaration");
   attemptsSheet = new Sheet("attempts");
   journalSheet = new Sheet("journal");
