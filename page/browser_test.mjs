@@ -4,7 +4,7 @@
 // It waits for what it wants to see, and no fixed time, so that a slow machine makes it late and not wrong. Times are printed, and decide
 // nothing.
 import { spawn } from "node:child_process";
-import { mkdirSync, mkdtempSync, readFileSync, rmSync, writeFileSync } from "node:fs";
+import { existsSync, mkdirSync, mkdtempSync, readFileSync, rmSync, writeFileSync } from "node:fs";
 import { tmpdir } from "node:os";
 import { join, resolve } from "node:path";
 
@@ -213,9 +213,14 @@ async function testExamples() {
   for (const name of names) {
     await choose(name);
     const [trace, verdict] = await value(`[${JSON.stringify(name)}].map(() => [journalText(), document.getElementById("journal-said").textContent])[0]`);
-    if (name !== "refused" && (await field("attempts")) !== "") same(`${name}: trace`, trace, read(`${name}/trace`));
+    if (existsSync(join(examples, name, "trace"))) same(`${name}: trace`, trace, read(`${name}/trace`));
     if (["service", "till", "recorder"].includes(name)) same(`${name}: verdict`, verdict.startsWith(verdictOf(name)), true);
   }
+  const captions = await value(`examples.map(it => it.shows)`);
+  const missing = /\b(script|explain|explanation|stalled|next is|run)\b/;
+  same("captions speak of what the page has", captions.filter(it => missing.test(it)), []);
+  await choose("forks");
+  await shows("each of the forks is wanted by the other", async () => (await replies()).slice(-2), ["blocked 1", "blocked 0"]);
   await choose("readers_and_writers");
   await shows("report", () => text("report"), read("readers_and_writers/report"));
   await shows("semaphores", () => text("compiled"), read("readers_and_writers/listing"));

@@ -51,12 +51,23 @@ def text_of(example, name):
     return read(path) if os.path.isfile(path) else ""
 
 
+def shown_instead():
+    """What the page shows in another way than the folder of an example: the caption, or attempts where the folder has a script."""
+    found = json.loads(read(HERE, "shown.json"))
+    for example in found.values():
+        if "attempts" in example:
+            example["attempts"] = "".join(line + "\n" for line in example["attempts"])
+    return found
+
+
 def examples():
-    """The examples with a declaration, in the order of the table of examples/README.md, each with what the table says that it shows."""
+    """The examples with a declaration, in the order of the table of examples/README.md, each with what it shows, by the table or by
+    shown.json."""
     rows = re.findall(r"^\| `(\w+)` \| (.+) \|$", read(TOP, "examples", "README.md"), re.MULTILINE)
     texts = ("declaration", "attempts", "journal")
     found = [{"name": name, "shows": shows.replace("`", ""), **{it: text_of(name, it) for it in texts}} for name, shows in rows]
-    return [example for example in found if example["declaration"]]
+    instead = shown_instead()
+    return [{**example, **instead.get(example["name"], {})} for example in found if example["declaration"]]
 
 
 def allowed(texts):
