@@ -70,6 +70,9 @@ impl<A: Allocator + Copy> Live for Activations<A> {
 
     ghost has_place = { λ a. Unit {0} };
 
+    // None: their list grows.
+    ghost places = { λ a. 0 };
+
     type Fault = OutOfMemory;
 
     fn count(&self) -> usize {

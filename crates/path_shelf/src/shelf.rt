@@ -52,8 +52,15 @@ impl<D: Device, A: Allocator + Copy> Shelf<D, A> {
     {
         match shelf_fault(&devices, decl) {
             Some(fault) => Err((fault, devices)),
-            None => Ok(Shelf { devices }),
+            None => Ok(Shelf::over(devices)),
         }
+    }
+
+    /// A shelf of these devices, of which nothing is tested: whether they serve a declaration, [`shelf_fault`] tells.
+    pub fn over(devices: Vec<D, A>) -> Shelf<D, A>
+        ensures { result ≡ map D.state devices.items }
+    {
+        Shelf { devices }
     }
 
     /// Lets the device of a declared resource serve the verb, as its law says. The other devices don't change. The cost is that of the

@@ -1,4 +1,6 @@
 pub mod Answered
 pub mod Written
 pub mod Roomless
+pub mod Asked
+pub mod Apart
 pub mod CallerLemmas

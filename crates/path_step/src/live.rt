@@ -12,10 +12,15 @@ use std::convert::Infallible;
 
 /// What keeps the live activations. Contracts see them, in the order of their starts, and how many were begun.
 pub trait Live: Drop {
+    ghost use Rattle.std.specs.Prelude.{ℕ};
+
     ghost register: { Self → Register };
 
     // There is a place for one more.
     ghost has_place: { Self → Type 0 };
+
+    // How many places were made for them at the outset; no call changes that.
+    ghost places: { Self → ℕ };
 
     /// Why an activation isn't begun.
     type Fault;
@@ -38,20 +43,24 @@ pub trait Live: Drop {
         requires { has_place self.old }
         ensures number { IfOk result (λ n. n.0 ≡ (register self.old).begun) }
         ensures appended { IfOk result (λ n.
-            register self.new ≡ registered (register self.old) (record { act = n; worker = worker; op = op })) };
+            register self.new ≡ registered (register self.old) (record { act = n; worker = worker; op = op })) }
+        ensures places { places self.new ≡ places self.old };
 
     /// Takes out the live activation of this number if it is this worker's own. Fails with `Stale` if none has the number, and else with
     /// `NotYours`; then nothing changes.
     fn end_own(&mut self, worker: u32, act: ActId) -> Result<Activation, EndFault>
         ensures told { result ≡ own_of worker (activation_of act (register self.old).live) }
         ensures ended { OnOk result (register self.new ≡ record (register self.old) { live = without act (register self.old).live }) }
-        ensures kept { OnErr result (self.new ≡ self.old) };
+        ensures kept { OnErr result (self.new ≡ self.old) }
+        ensures places { places self.new ≡ places self.old };
 }
 
 impl<A: Allocator + Copy> Live for Ledger<A> {
     ghost register = { λ b. record { live = b.live; begun = b.begun } };
 
     ghost has_place = { λ b. (length b.live < b.room) × (b.begun < 4294967295) };
+
+    ghost places = { λ b. b.room };
 
     type Fault = Infallible;
 

@@ -23,8 +23,9 @@ fn start<L: Live, A: Allocator + Copy>(
 ) -> Result<Reply, L::Fault>
     requires place { L.has_place live.old }
     requires admitted { gate.old.admitted < 4294967295 }
-    ensures { IfOk result (λ reply. MovesStart operations (present gate.old (L.register live.old)) worker op reply
+    ensures moves { IfOk result (λ reply. MovesStart operations (present gate.old (L.register live.old)) worker op reply
         (present gate.new (L.register live.new))) }
+    ensures places { L.places live.new ≡ L.places live.old }
 {
     if op.0 >= operations {
         return Ok(Reply::UnknownOperation);
@@ -44,8 +45,9 @@ fn finish<L: Live, A: Allocator + Copy>(
     act: ActId,
 ) -> Reply
     requires { IsRunning gate.old (L.register live.old) }
-    ensures { MovesFinish (present gate.old (L.register live.old)) worker act (activation_of act (L.register live.old).live) result
+    ensures moves { MovesFinish (present gate.old (L.register live.old)) worker act (activation_of act (L.register live.old).live) result
         (present gate.new (L.register live.new)) }
+    ensures places { L.places live.new ≡ L.places live.old }
 {
     match live.end_own(worker, act) {
         Err(EndFault::Stale) => Reply::Stale,
@@ -113,6 +115,7 @@ pub fn answer<L: Live, D: Devices<Fault = L::Fault>, A: Allocator + Copy>(
     requires admitted { gate.old.admitted ≡ (L.register live.old).begun }
     ensures answers { IfOk result (λ reply. Answers D.contents D.asked decl.now.declaration (present gate.old (L.register live.old))
         devices.old room lines worker attempt reply (present gate.new (L.register live.new)) devices.new) }
+    ensures places { L.places live.new ≡ L.places live.old }
 {
     let taken = lines as usize + live.count();
     let room = room as usize;

@@ -9,21 +9,27 @@ use Rattle.path_model.specs.Segments.{joined, room_behind, OwedBehind, AreHonest
 use Rattle.path_model.proofs.CallerLemmas.{line_of, room_behind_is, joined_more, more_room_keeps_honest, segments_more, segments_rotated, each_segment_has_room}
 use Rattle.path_gate.specs.Places.{has_room, lacks_number}
 use Rattle.path_gate.proofs.CallerLemmas.{right_fails, same_room, owed_without_number, owed_with_number}
+use Rattle.path_step.specs.Steps.{can_take}
+use Rattle.path_step.proofs.CallerLemmas as step
+use Rattle.path_step.proofs.CallerLemmas.{in_more_room}
 use Rattle.path_system.specs.Accounts.{IsSystem}
 use Rattle.path_system.specs.Inner.Openings.{Row, AreFor, numbers_of}
-use Rattle.path_system.specs.Inner.Parts.{PartsValue, Answers, AreTrueTo, IsTold, can_take}
+use Rattle.path_system.specs.Inner.Parts.{PartsValue, HasAnswered, Answers, AreReady, AreTrueTo, IsTold, contents}
 use Rattle.path_system.specs.Inner.Pasts.{Lines, one_more, rotated}
-use Rattle.path_system.proofs.Answered.{owed_is}
-use Rattle.path_system.proofs.Roomy.{stays}
-use Rattle.path_system.proofs.Stepped.{answers_keep, fits, true_more}
+use Rattle.path_system.proofs.Agreed.{fits, ready}
+use Rattle.path_system.proofs.Stepped.{true_more, stays}
 
-answers_with : (old new : PartsValue) (room lines k w : ℕ) (attempt : Attempt) (reply : Reply) → Answers old room lines w attempt reply new → Answers old (room + k) (lines + k) w attempt reply new
-answers_with old new room lines k w attempt reply answers =
-    let same : can_take old (room + k) (lines + k) w attempt ≡ can_take old room lines w attempt =
-    ap (λ b. b && not (lacks_number old.book.begun attempt)) (same_room room lines k old.book.live w attempt) in
+answers_with : (may_fail : Type 0) (old new : PartsValue) (room lines k w : ℕ) (attempt : Attempt) (reply : Reply) → Answers may_fail old room lines w attempt reply new → Answers may_fail old (room + k) (lines + k) w attempt reply new
+answers_with may_fail old new room lines k w attempt reply answers =
+    let same : can_take old.present (room + k) (lines + k) w attempt ≡ can_take old.present room lines w attempt =
+    ap (λ b. b && not (lacks_number old.present.register.begun attempt)) (same_room room lines k old.present.register.live w attempt) in
     record {
-      inside = λ is. answers.inside (sym same ∙ is);
-      outside = λ is. answers.outside (sym same ∙ is);
+      declaration = answers.declaration;
+      places = answers.places;
+      step = record {
+        inside = λ is. answers.step.inside (sym same ∙ is);
+        outside = λ is. answers.step.outside (sym same ∙ is);
+      };
     }
 
 module _ (old : PartsValue) (room : ℕ) (rows : List Row) (past : Lines) (count : ℕ) (t : IsTold old room rows past count) where
@@ -37,7 +43,7 @@ module _ (old : PartsValue) (room : ℕ) (rows : List Row) (past : Lines) (count
   whole = room_behind earlier room
 
   -- the lines and the finishes to come have room
-  pub few : count + length old.book.live ≤ room
+  pub few : count + length old.present.register.live ≤ room
   few =
       let k = fits old whole (numbers_of rows) all t.told in
       let l = length-append earlier past.present in
@@ -54,49 +60,49 @@ module _ (old : PartsValue) (room : ℕ) (rows : List Row) (past : Lines) (count
     room = each_segment_has_room old.declaration room (numbers_of rows) past.earlier past.present t.segments;
   }
 
-  pub admitted_is : old.standing.admitted ≡ old.book.begun
-  admitted_is = t.told.admitted ∙ sym t.told.begun
+  -- the parts may answer
+  pub ready_now : AreReady old room count
+  ready_now = ready old whole (numbers_of rows) all t.told room count few t.places
 
-  module _ (new : PartsValue) (w : ℕ) (attempt : Attempt) (reply : Reply) (answers : Answers old room count w attempt reply new) where
+  module _ (may_fail : Type 0) (new : PartsValue) (w : ℕ) (attempt : Attempt) (reply : Reply) (answers : Answers may_fail old room count w attempt reply new) where
     -- the answer is that of all lines in the whole room
-    pub answers_all : Answers old whole (length all) w attempt reply new
+    pub answers_all : Answers may_fail old whole (length all) w attempt reply new
     answers_all =
         let lines : length all ≡ count + length earlier = (let l = length-append earlier past.present in let n = t.counted in omega (arith, l, n)) in
-        rw (room_behind_is earlier room, lines) (answers_with old new room count (length earlier) w attempt reply answers)
+        rw (room_behind_is earlier room, lines) (answers_with may_fail old new room count (length earlier) w attempt reply answers)
 
     -- the reply is owed behind the earlier lines
     pub owed_behind : OwedBehind old.declaration room (numbers_of rows) earlier past.present w attempt reply
     owed_behind = go _ refl
       where
-        go : (b : Bool) → lacks_number old.book.begun attempt ≡ b → OwedBehind old.declaration room (numbers_of rows) earlier past.present w attempt reply
+        go : (b : Bool) → lacks_number old.present.register.begun attempt ≡ b → OwedBehind old.declaration room (numbers_of rows) earlier past.present w attempt reply
         go true is =
-            owed_without_number old.declaration room (numbers_of rows) t.good_room w old.book.begun reply earlier past.present attempt t.told.begun is
-            (answers.outside (right_fails (has_room room count old.book.live w attempt) (lacks_number old.book.begun attempt) is)).0
+            owed_without_number old.declaration room (numbers_of rows) t.good_room w old.present.register.begun reply earlier past.present attempt t.told.present.begun is
+            (answers.step.outside (right_fails (has_room room count old.present.register.live w attempt) (lacks_number old.present.register.begun attempt) is)).0
         go false is =
-            owed_with_number old.declaration room (numbers_of rows) t.good_room w old.book.begun reply earlier past.present attempt t.told.begun is
-            (owed_is old whole (numbers_of rows) all t.told w attempt reply new is answers_all)
+            owed_with_number old.declaration room (numbers_of rows) t.good_room w old.present.register.begun reply earlier past.present attempt t.told.present.begun is
+            (step.owed_is contents (HasAnswered may_fail) old.declaration t.told.lawful old.present old.devices whole (numbers_of rows) all t.told.present w attempt reply new.present new.devices is answers_all.step)
 
     -- one line more
     pub told_more : reply ≢ NoRoom → IsTold new room rows (one_more past (line_of w attempt reply)) (count + 1)
     told_more some =
-        let keeps = answers_keep old new room count w attempt reply answers in
         let line : Line = line_of w attempt reply in
         let k = length-append past.present (line ∷ []) in
         let n = t.counted in
         record {
           told = subst (AreTrueTo new whole (numbers_of rows)) (append_assoc earlier past.present (line ∷ []))
-              (true_more old whole (numbers_of rows) all t.told new w attempt reply answers_all some);
-          segments = subst (λ d. AreHonest d room (numbers_of rows) (past.earlier ++ (past.present ++ line ∷ []) ∷ [])) (sym keeps.0)
+              (true_more may_fail old whole (numbers_of rows) all t.told new w attempt reply answers_all some);
+          segments = subst (λ d. AreHonest d room (numbers_of rows) (past.earlier ++ (past.present ++ line ∷ []) ∷ [])) (sym answers.declaration)
               (segments_more old.declaration room (numbers_of rows) past.earlier past.present line t.segments owed_behind some);
           good_room = t.good_room;
           counted = omega (arith, k, n);
-          places = keeps.1 ∙ t.places;
-          roomy = subst (AreFor rows) (sym keeps.0) t.roomy;
+          places = answers.places ∙ t.places;
+          roomy = subst (AreFor rows) (sym answers.declaration) t.roomy;
         }
 
     -- no line
     pub told_still : reply ≡ NoRoom → IsTold new room rows past count
-    told_still none = subst (λ p. IsTold p room rows past count) (sym (stays old new room count w attempt reply answers none)) t
+    told_still none = subst (λ p. IsTold p room rows past count) (sym (stays may_fail old new room count w attempt reply answers none)) t
 
     -- there is a place for the line
     pub place_left : reply ≢ NoRoom → count < room
@@ -118,15 +124,8 @@ module _ (old : PartsValue) (room : ℕ) (rows : List Row) (past : Lines) (count
       let lines : joined (past.earlier ++ past.present ∷ []) ++ [] ≡ all = append-nil (joined (past.earlier ++ past.present ∷ [])) ∙ gone in
       let in_more : AreTrueTo old (room_behind all room) (numbers_of rows) all = record {
         lawful = t.told.lawful;
-        honest = more_room_keeps_honest old.declaration whole (room_behind all room) (numbers_of rows) all (omega (arith, k, m, n)) t.told.honest;
-        paths = t.told.paths;
-        at = t.told.at;
-        admitted = t.told.admitted;
-        live = t.told.live;
-        begun = t.told.begun;
-        declared = t.told.declared;
+        present = in_more_room old.present (contents old.devices) old.declaration whole (room_behind all room) (numbers_of rows) all (omega (arith, k, m, n)) t.told.present;
         laws = t.told.laws;
-        contents = t.told.contents;
         asked_count = t.told.asked_count;
         asked = t.told.asked;
       } in

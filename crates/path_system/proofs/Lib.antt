@@ -1,7 +1,5 @@
-pub mod Owned
-pub mod Answered
-pub mod Written
-pub mod Roomy
+pub mod Serving
+pub mod Agreed
 pub mod Stepped
 pub mod Counted
 pub mod Rows

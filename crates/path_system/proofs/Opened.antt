@@ -1,33 +1,18 @@
--- Why a system isn't opened.
-use Rattle.std.proofs.Common.{◌≡◌, ℕ, ◌<◌, List, length, inl, inr, ap, arith}
+-- The parts and the rows of a system that was just opened.
+use Rattle.std.proofs.Common.{◌≡◌, ℕ, ◌<◌, true, false, List, [], All, length, get_or, inl, inr, ap, sym, subst, ◌∙◌, arith}
 use Rattle.std.proofs.lemmas.Bool.{cases_lt}
 use Rattle.std.specs.Prelude.{map}
-use Rattle.std.proofs.lemmas.List.{length-map}
+use Rattle.std.proofs.lemmas.List.{length-map, length-replicate, get_or-replicate}
 use Rattle.path_model.specs.Declarations.{Declaration, Resource}
 use Rattle.path_model.specs.Rooms.{IsRoom, IsBadRoom}
-use Rattle.path_shelf.specs.declared.shelf.ShelfFault.{ShelfFault}
-use Rattle.path_shelf.specs.declared.shelf.ShelfFault.TheVariants as shelf
 use Rattle.path_shelf.specs.States.{State, laws_of}
-use Rattle.path_shelf.specs.Shelves.{IsShelfFault, declared_laws}
+use Rattle.path_shelf.specs.Shelves.{declared_laws}
 use Rattle.path_shelf.proofs.CallerLemmas.{law_at}
-use Rattle.path_system.specs.declared.fault.OpenFault.{OpenFault}
-use Rattle.path_system.specs.declared.fault.OpenFault.TheVariants.{BadRoom, WrongCount, WrongDevice, OutOfMemory}
-use Rattle.path_system.specs.Faults.{IsDevicesFault, IsOpenFault, as_open_fault}
 use Rattle.path_system.specs.Inner.Openings.{Row, AreFor, HavePlaces}
-use Rattle.path_system.specs.Inner.Parts.{PartsValue, AreOpened}
+use Rattle.path_step.specs.Steps.{Register}
+use Rattle.path_system.specs.Accounts.{contents_of}
+use Rattle.path_system.specs.Inner.Parts.{Marked, PartsValue, AreOpened, AreTrueTo, contents}
 use Rattle.path_system.proofs.Rows.{places_same}
-
--- the fault of a shelf is one of the devices
-pub devices_fault : (states : List State) (d : Declaration) (fault : ShelfFault) → IsShelfFault states d fault → IsDevicesFault states d (as_open_fault fault)
-devices_fault states d shelf.WrongCount is = is
-devices_fault states d (shelf.WrongDevice r) is = is
-
--- and counts where the room is good
-pub open_fault : (room : ℕ) (states : List State) (d : Declaration) (fault : OpenFault) → (IsBadRoom room → ⊥) → IsDevicesFault states d fault → IsOpenFault room states d fault
-open_fault room states d BadRoom good is = absurd is
-open_fault room states d WrongCount good is = (good, is)
-open_fault room states d (WrongDevice r) good is = (good, is)
-open_fault room states d OutOfMemory good is = (good, is)
 
 -- a room that isn't bad is in range
 pub good_room : (room : ℕ) → (IsBadRoom room → ⊥) → IsRoom room
@@ -55,10 +40,38 @@ same_for rows olds d same for_olds =
     }
 
 -- there is one device for each resource
-pub opened_count : (parts : PartsValue) (d : Declaration) (room : ℕ) (states : List State) → AreOpened parts d room states → length parts.states ≡ length d.resources
-opened_count parts d room states o =
+pub opened_count : (states : List State) (d : Declaration) → laws_of states ≡ declared_laws d → length states ≡ length d.resources
+opened_count states d laws =
     let e = length-map states (λ (x : State). x.law) in
     let k = length-map d.resources (λ (x : Resource). x.law) in
-    let l = ap length o.laws in
-    let m = ap length o.over in
-    omega (arith, e, k, l, m)
+    let l = ap length laws in
+    omega (arith, e, k, l)
+
+-- the parts before any attempt agree with the empty journal
+pub true_opened : (parts : PartsValue) (d : Declaration) (room : ℕ) (states : List State) → laws_of states ≡ declared_laws d → AreOpened parts d room states → AreTrueTo parts room (contents_of states) []
+true_opened parts d room states laws o =
+    let count = opened_count states d laws in
+    let marks : length parts.devices.asked ≡ length d.resources = ap (λ (m : Marked). length m.asked) o.devices ∙ length-replicate (length d.resources) false in
+    let same : contents parts.devices ≡ contents_of states = ap contents o.devices in
+    rw o.declaration (record {
+      lawful = o.lawful;
+      present = record {
+        honest = tt;
+        paths = o.paths;
+        at = o.at;
+        admitted = o.admitted;
+        live = ap (λ (b : Register). b.live) o.idle;
+        begun = ap (λ (b : Register). b.begun) o.idle;
+        declared = subst (λ (b : Register). All (λ a. a.op.0 < length d.operations) b.live) (sym o.idle) (λ k a h. absurd (omega arith));
+        one_each = ap length same ∙ length-map states (λ (x : State). x.contents) ∙ count;
+        held = λ r within. sym (ap (λ c. get_or c r []) same);
+      };
+      laws = ap (λ (m : Marked). laws_of m.states) o.devices ∙ laws;
+      asked_count = marks;
+      asked = λ r within. ((λ e. absurd (none r within e)), (λ k. absurd k));
+    })
+  where
+    none : (r : ℕ) → r < length d.resources → get_or parts.devices.asked r false ≡ true → ⊥
+    none r within e =
+        let k : get_or parts.devices.asked r false ≡ false = ap (λ (m : Marked). get_or m.asked r false) o.devices ∙ get_or-replicate (length d.resources) r false false within in
+        cc

@@ -13,23 +13,25 @@ use Rattle.path_model.specs.Asked.{IsAsked}
 use Rattle.path_model.specs.Segments.{joined, room_behind, AreHonest}
 use Rattle.path_model.proofs.CallerLemmas.{unasked_devices_may_be_replaced, segments_over}
 use Rattle.path_shelf.specs.States.{State, state_at}
-use Rattle.path_shelf.proofs.CallerLemmas.{laws_replaced, others_replaced}
+use Rattle.path_shelf.proofs.CallerLemmas.{laws_replaced}
+use Rattle.path_step.proofs.CallerLemmas.{with_contents}
+use Rattle.path_system.specs.Accounts.{contents_of}
 use Rattle.path_system.specs.declared.fault.ReplaceFault.{ReplaceFault}
 use Rattle.path_system.specs.declared.fault.ReplaceFault.TheVariants.{Busy, Used, OtherLaw}
 use Rattle.path_system.specs.Faults.{IsBusy, IsUntouched, IsReplaceFault, MayReplace}
 use Rattle.path_system.specs.Inner.Openings.{Row, row_at, places_of, numbers_of}
 use Rattle.path_system.specs.Inner.Pasts.{Lines}
-use Rattle.path_system.specs.Inner.Parts.{PartsValue, AreTrueTo, IsTold, IsLiveAt, IsFreeAt, IsPartsFault, MayReplacePart, with_state}
-use Rattle.path_system.proofs.Answered.{states_count, law_is}
+use Rattle.path_system.specs.Inner.Parts.{PartsValue, AreTrueTo, IsTold, IsLiveAt, IsFreeAt, IsPartsFault, MayReplacePart, contents, with_state}
+use Rattle.path_system.proofs.Agreed.{states_count, law_is}
 use Rattle.path_system.proofs.Rows.{places_written}
 use Rattle.path_system.proofs.Opened.{same_for}
 
 module _ (old : PartsValue) (room : ℕ) (openings : List (List ℕ)) (journal : List Line) (s : AreTrueTo old room openings journal) (r : ℕ) (within : r < length old.declaration.resources) where
   -- what is live by the ledger is live by the journal
   busy_is : IsBusy old.declaration journal r → IsLiveAt old r
-  busy_is busy = subst (Any (λ (a : Activation). resource_of old.declaration a.op.0 ≡ r)) (sym s.live) busy
+  busy_is busy = subst (Any (λ (a : Activation). resource_of old.declaration a.op.0 ≡ r)) (sym s.present.live) busy
 
-  unasked_is : get_or old.asked r false ≡ false → IsAsked old.declaration journal r → ⊥
+  unasked_is : get_or old.devices.asked r false ≡ false → IsAsked old.declaration journal r → ⊥
   unasked_is unmarked asked = let marked = (s.asked r within).1 asked in cc
 
   untouched : IsFreeAt old r → IsUntouched old.declaration journal r
@@ -40,7 +42,7 @@ module _ (old : PartsValue) (room : ℕ) (openings : List (List ℕ)) (journal :
   may_replace law may = (untouched may.0, may.1 ∙ law_is old room openings journal s r within)
 
   pub replace_fault : (law : Law) (fault : ReplaceFault) → IsPartsFault old r law fault → IsReplaceFault old.declaration journal r law fault
-  replace_fault law Busy is = subst (Any (λ (a : Activation). resource_of old.declaration a.op.0 ≡ r)) s.live is
+  replace_fault law Busy is = subst (Any (λ (a : Activation). resource_of old.declaration a.op.0 ≡ r)) s.present.live is
   replace_fault law Used is = (λ busy. is.0 (busy_is busy), (s.asked r within).0 is.1)
   replace_fault law OtherLaw is = (untouched is.0, λ same. is.1 (same ∙ sym (law_is old room openings journal s r within)))
 
@@ -48,24 +50,20 @@ module _ (old : PartsValue) (room : ℕ) (openings : List (List ℕ)) (journal :
   pub true_replaced : (state : State) → r < length openings → MayReplacePart old r state.law → AreTrueTo (with_state old r state) room (set openings r state.contents) journal
   true_replaced state opened may =
       let law = unasked_devices_may_be_replaced old.declaration room openings (set openings r state.contents) journal r
-      (λ q other. get_or-set_other openings r q state.contents _ other) s.honest (unasked_is may.0.1) in
+      (λ q other. get_or-set_other openings r q state.contents _ other) s.present.honest (unasked_is may.0.1) in
       let count = states_count old room openings journal s in
-      let here : r < length old.states = omega (arith, count, within) in
+      let here : r < length old.devices.states = omega (arith, count, within) in
+      let numbers = map-set (λ (x : State). x.contents) old.devices.states r state in
+      let counted = length-map old.devices.states (λ (x : State). x.contents) in
       record {
         lawful = s.lawful;
-        honest = law.0;
-        paths = s.paths;
-        at = s.at;
-        admitted = s.admitted;
-        live = s.live;
-        begun = s.begun;
-        declared = s.declared;
-        laws = laws_replaced old.states r state may.1 ∙ s.laws;
-        contents = λ q inside. elim (cases_eq q r) [
-          | inl same ↦ ap (λ k. (state_at (set old.states r state) k).contents) same ∙ ap (λ (x : State). x.contents) (get_or-set_same old.states r state _ here)
-              ∙ sym (get_or-set_same openings r state.contents _ opened) ∙ sym law.1 ∙ ap (λ k. contents_after old.declaration (set openings r state.contents) journal k) (sym same)
-          | inr other ↦ ap (λ (x : State). x.contents) (others_replaced old.states r q state other) ∙ s.contents q inside ∙ sym (law.2 q other)
-        ];
+        present = with_contents old.present (contents old.devices) old.declaration room openings journal s.present (contents_of (set old.devices.states r state)) (set openings r state.contents) law.0
+            (ap length numbers ∙ length-set (contents old.devices) r state.contents ∙ s.present.one_each)
+            (λ q inside. elim (cases_eq q r) [
+              | inl same ↦ rw same (law.1 ∙ get_or-set_same openings r state.contents _ opened ∙ sym (get_or-set_same (contents old.devices) r state.contents _ (omega (arith, here, counted))) ∙ sym (ap (λ c. get_or c r []) numbers))
+              | inr other ↦ law.2 q other ∙ s.present.held q inside ∙ sym (get_or-set_other (contents old.devices) r q state.contents _ other) ∙ sym (ap (λ c. get_or c q []) numbers)
+            ]);
+        laws = laws_replaced old.devices.states r state may.1 ∙ s.laws;
         asked_count = s.asked_count;
         asked = s.asked;
       }
@@ -94,16 +92,16 @@ told_replaced old room rows past count t r state within may =
     }
 
 module _ (old : PartsValue) (room : ℕ) (rows : List Row) (past : Lines) (count : ℕ) (t : IsTold old room rows past count)
-    (r : ℕ) (state : State) (within : r < length old.declaration.resources) (states : List State) (replaced : states ≡ set old.states r state) where
-  here : r < length old.states
+    (r : ℕ) (state : State) (within : r < length old.declaration.resources) (states : List State) (replaced : states ≡ set old.devices.states r state) where
+  here : r < length old.devices.states
   here = let count = states_count old (room_behind (joined past.earlier) room) (numbers_of rows) (joined past.earlier ++ past.present) t.told in omega (arith, count, within)
 
   -- the device stands there, and finds its places
   pub replaced_in : r < length states
-  replaced_in = let k = here in let e = ap length replaced in let l = length-set old.states r state in omega (arith, k, e, l)
+  replaced_in = let k = here in let e = ap length replaced in let l = length-set old.devices.states r state in omega (arith, k, e, l)
 
   pub replaced_state : state_at states r ≡ state
-  replaced_state = ap (λ xs. state_at xs r) replaced ∙ get_or-set_same old.states r state _ here
+  replaced_state = ap (λ xs. state_at xs r) replaced ∙ get_or-set_same old.devices.states r state _ here
 
   pub replaced_places : MayReplacePart old r state.law → places_of (state_at states r).law ≤ (row_at rows r).places
   replaced_places may =

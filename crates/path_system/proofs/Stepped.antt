@@ -1,107 +1,91 @@
 -- One step of a system, as its journal sees it.
-use Rattle.std.proofs.Common.{◌≡◌, ◌≢◌, ℕ, ◌+◌, ◌<◌, ◌≤◌, Bool, true, false, List, [], ◌∷◌, ◌++◌, All, length, get_or, arith, refl, ap, sym, subst, ◌∙◌, Option, Some, None, inl, inr}
+use Rattle.std.proofs.Common.{◌≡◌, ◌≢◌, ◌↔◌, ◌⊎◌, ℕ, ◌<◌, true, false, List, [], ◌∷◌, ◌++◌, length, get_or, arith, ap, sym, subst, ◌∙◌, Option, Some, None, inl, inr}
+use Rattle.std.proofs.Math.ListN.{set}
 use Rattle.std.proofs.lemmas.Bool.{cases_eq}
-use Rattle.std.proofs.lemmas.List.{length-replicate, get_or-replicate, get_or-map, length-map}
-use Rattle.path_model.specs.declared.ids.OpId.{OpId}
-use Rattle.path_model.specs.declared.ids.ActId.{ActId}
-use Rattle.path_model.specs.declared.journal.Verb.{Verb}
+use Rattle.std.proofs.lemmas.List.{length-set, get_or-set_same, get_or-set_other}
 use Rattle.path_model.specs.declared.journal.Attempt.{Attempt}
-use Rattle.path_model.specs.declared.journal.Attempt.TheVariants.{Start, Apply, Finish}
 use Rattle.path_model.specs.declared.journal.Reply.{Reply}
-use Rattle.path_model.specs.declared.journal.Reply.TheVariants.{Started, Blocked, UnknownOperation, NoRoom}
+use Rattle.path_model.specs.declared.journal.Reply.TheVariants.{NoRoom}
 use Rattle.path_model.specs.declared.journal.Line.{Line}
-use Rattle.path_model.specs.declared.journal.Activation.{Activation}
-use Rattle.path_model.specs.Declarations.{Declaration, Resource}
-use Rattle.path_model.specs.Journals.{activation_of}
-use Rattle.path_model.proofs.CallerLemmas.{line_of, each_honest_journal_has_room}
-use Rattle.path_shelf.specs.States.{State}
-use Rattle.path_system.specs.Accounts.{contents_of}
-use Rattle.path_ledger.specs.Ledgers.{Book}
-use Rattle.path_system.specs.Inner.Parts.{PartsValue, AreOpened, MovesStart, MovesUse, MovesFinish, Moves, Answers, AreTrueTo, can_take}
-use Rattle.path_system.proofs.Answered.{taken_is}
-use Rattle.path_system.proofs.Written.{true_line}
-use Rattle.path_system.proofs.Roomy.{stays}
+use Rattle.path_model.specs.Asked.{resource_asked, IsAsked}
+use Rattle.path_model.proofs.CallerLemmas.{line_of, asked_more}
+use Rattle.path_shelf.specs.States.{laws_of}
+use Rattle.path_shelf.specs.Shelves.{declared_laws}
+use Rattle.path_shelf.proofs.CallerLemmas.{laws_acted}
+use Rattle.path_step.proofs.CallerLemmas.{AsksNone, AsksOne, asks, with_the_line, without_room}
+use Rattle.path_system.specs.Inner.Parts.{Marked, PartsValue, HasAnswered, Answers, AreTrueTo, contents}
 
--- no attempt changes the declaration, or the room of the ledger
-abbrev pub Keeps : PartsValue → PartsValue → Type 0
-Keeps old new = (new.declaration ≡ old.declaration) × (new.book.room ≡ old.book.room)
+module _ (may_fail : Type 0) (old : PartsValue) (room : ℕ) (openings : List (List ℕ)) (journal : List Line) (s : AreTrueTo old room openings journal) (new : PartsValue) (w : ℕ) (attempt : Attempt) (reply : Reply)
+    (answers : Answers may_fail old room (length journal) w attempt reply new) where
+  -- which device was asked
+  pub asked_by : AsksNone old.declaration journal attempt old.devices reply new.devices ⊎ AsksOne contents (HasAnswered may_fail) old.declaration journal attempt old.devices reply new.devices
+  asked_by = asks contents (HasAnswered may_fail) old.declaration s.lawful old.present old.devices room openings journal s.present w new.present new.devices (length journal) attempt reply answers.step
 
-same_keeps : (old new : PartsValue) → new ≡ old → Keeps old new
-same_keeps old new same = (ap (λ (p : PartsValue). p.declaration) same, ap (λ (p : PartsValue). p.book.room) same)
+  laws_kept : laws_of new.devices.states ≡ declared_laws old.declaration
+  laws_kept = elim asked_by [
+    | inl none ↦ ap (λ (m : Marked). laws_of m.states) none.devices ∙ s.laws
+    | inr one ↦ laws_acted old.devices.states new.devices.states one.resource one.verb one.served.known.answer one.served.known.acts ∙ s.laws
+  ]
 
-kept_by_start : (old new : PartsValue) (w : ℕ) (a : OpId) (reply : Reply) → MovesStart old w a reply new → Keeps old new
-kept_by_start old new w a (Started n) m = (m.declaration, ap (λ (b : Book). b.room) m.book)
-kept_by_start old new w a (Blocked p) m = same_keeps old new m.1
-kept_by_start old new w a UnknownOperation m = same_keeps old new m.1
-kept_by_start old new w a reply m = absurd m
+  marks_counted : length new.devices.asked ≡ length old.declaration.resources
+  marks_counted = elim asked_by [
+    | inl none ↦ ap (λ (m : Marked). length m.asked) none.devices ∙ s.asked_count
+    | inr one ↦ ap length one.served.known.marked ∙ length-set old.devices.asked one.resource true ∙ s.asked_count
+  ]
 
-kept_by_use : (old new : PartsValue) (w : ℕ) (verb : Verb) (o : Option Activation) (reply : Reply) → MovesUse old w verb o reply new → Keeps old new
-kept_by_use old new w verb None reply m = same_keeps old new m.1
-kept_by_use old new w verb (Some a) reply m = elim (cases_eq a.worker w) [
-  | inl own ↦ (ap (λ (p : PartsValue). p.declaration) (m.1 own).others, ap (λ (p : PartsValue). p.book.room) (m.1 own).others)
-  | inr other ↦ same_keeps old new (m.0 other).1
-]
+  -- the lines with the new one
+  abbrev pub all : List Line
+  all = journal ++ line_of w attempt reply ∷ []
 
-kept_by_finish : (old new : PartsValue) (w : ℕ) (n : ActId) (o : Option Activation) (reply : Reply) → MovesFinish old w n o reply new → Keeps old new
-kept_by_finish old new w n None reply m = same_keeps old new m.1
-kept_by_finish old new w n (Some a) reply m = elim (cases_eq a.worker w) [
-  | inl own ↦ ((m.1 own).declaration, ap (λ (b : Book). b.room) (m.1 own).book)
-  | inr other ↦ same_keeps old new (m.0 other).1
-]
+  -- where no device was asked, the marks stay
+  marks_stay : AsksNone old.declaration journal attempt old.devices reply new.devices → (r : ℕ) → r < length old.declaration.resources
+      → (get_or new.devices.asked r false ≡ true) ↔ IsAsked old.declaration all r
+  marks_stay none r within =
+      let more = asked_more old.declaration r journal (line_of w attempt reply) in
+      let so_far = s.asked r within in
+      let same = ap (λ (m : Marked). get_or m.asked r false) none.devices in (
+        (λ e. more.1 (inl (so_far.0 (sym same ∙ e)))),
+        (λ k. elim (more.0 k) [ inl before ↦ same ∙ so_far.1 before | inr now ↦ absurd (no_resource (sym none.line ∙ now)) ]),
+      )
+    where
+      no_resource : ◌≡◌ {A = Option ℕ} None (Some r) → ⊥
+      no_resource e = cc
 
-kept_by_move : (old new : PartsValue) (w : ℕ) (attempt : Attempt) (reply : Reply) → Moves old w attempt reply new → Keeps old new
-kept_by_move old new w (Start a) reply m = kept_by_start old new w a reply m
-kept_by_move old new w (Apply n verb) reply m = kept_by_use old new w verb (activation_of n old.book.live) reply m
-kept_by_move old new w (Finish n) reply m = kept_by_finish old new w n (activation_of n old.book.live) reply m
+  -- and else one is set
+  mark_set : AsksOne contents (HasAnswered may_fail) old.declaration journal attempt old.devices reply new.devices → (r : ℕ) → r < length old.declaration.resources
+      → (get_or new.devices.asked r false ≡ true) ↔ IsAsked old.declaration all r
+  mark_set one r within =
+      let more = asked_more old.declaration r journal (line_of w attempt reply) in
+      let marked = ap (λ xs. get_or xs r false) one.served.known.marked in
+      elim (cases_eq r one.resource) [
+        | inl same ↦ (
+          (λ e. more.1 (inr (one.line ∙ ap Some (sym same)))),
+          (λ k. marked ∙ ap (λ p. get_or (set old.devices.asked one.resource true) p false) same
+              ∙ get_or-set_same old.devices.asked one.resource true false (let k = s.asked_count in let l = one.declared in omega (arith, k, l))),
+        )
+        | inr other ↦
+            let stays = marked ∙ get_or-set_other old.devices.asked one.resource r true false other in
+            let so_far = s.asked r within in (
+              (λ e. more.1 (inl (so_far.0 (sym stays ∙ e)))),
+              (λ k. elim (more.0 k) [ inl before ↦ stays ∙ so_far.1 before | inr now ↦ absurd (other (one_resource r one.resource (sym now ∙ one.line))) ]),
+            )
+      ]
+    where
+      one_resource : (q r : ℕ) → Some q ≡ Some r → q ≡ r
+      one_resource q r e = cc
 
-pub answers_keep : (old new : PartsValue) (room lines w : ℕ) (attempt : Attempt) (reply : Reply) → Answers old room lines w attempt reply new → Keeps old new
-answers_keep old new room lines w attempt reply answers = go _ refl
-  where
-    go : (can : Bool) → can_take old room lines w attempt ≡ can → Keeps old new
-    go true is = kept_by_move old new w attempt reply (answers.inside is)
-    go false is = same_keeps old new ((answers.outside is).1)
+  -- one line more
+  pub true_more : reply ≢ NoRoom → AreTrueTo new room openings all
+  true_more some = rw answers.declaration (record {
+    lawful = s.lawful;
+    present = with_the_line contents (HasAnswered may_fail) old.declaration s.lawful old.present old.devices room openings journal s.present w attempt reply new.present new.devices answers.step some;
+    laws = laws_kept;
+    asked_count = marks_counted;
+    asked = λ r within. elim asked_by [ inl none ↦ marks_stay none r within | inr one ↦ mark_set one r within ];
+  })
 
-module _ (old : PartsValue) (room : ℕ) (openings : List (List ℕ)) (journal : List Line) (s : AreTrueTo old room openings journal) where
-  -- the lines and the finishes to come have room
-  pub fits : length journal + length old.book.live ≤ room
-  fits = let k = each_honest_journal_has_room old.declaration room openings journal s.honest in let l = taken_is old room openings journal s in omega (arith, k, l)
-
-  module _ (new : PartsValue) (w : ℕ) (attempt : Attempt) (reply : Reply) (answers : Answers old room (length journal) w attempt reply new) where
-    -- one line more
-    pub true_more : reply ≢ NoRoom → AreTrueTo new room openings (journal ++ line_of w attempt reply ∷ [])
-    true_more some = true_line old room openings journal s w attempt reply new answers some
-
-    -- no line
-    pub true_still : reply ≡ NoRoom → AreTrueTo new room openings journal
-    true_still none = subst (λ p. AreTrueTo p room openings journal) (sym (stays old new room (length journal) w attempt reply answers none)) s
-
--- the parts before any attempt agree with the empty journal
-pub true_opened : (parts : PartsValue) (d : Declaration) (room : ℕ) (states : List State) → AreOpened parts d room states → AreTrueTo parts room (contents_of states) []
-true_opened parts d room states o =
-    let same : length parts.asked ≡ length d.resources = ap length o.fresh.unasked ∙ length-replicate (length d.resources) false in
-    rw (o.declaration, o.over) (record {
-      lawful = o.lawful;
-      honest = tt;
-      paths = o.fresh.paths;
-      at = o.fresh.at;
-      admitted = o.fresh.admitted;
-      live = ap (λ (b : Book). b.live) o.fresh.idle;
-      begun = ap (λ (b : Book). b.begun) o.fresh.idle;
-      declared = subst (λ (b : Book). All (λ a. a.op.0 < length d.operations) b.live) (sym o.fresh.idle) (λ k a h. absurd (omega arith));
-      laws = o.laws;
-      contents = λ r within. sym (get_or-map (λ (x : State). x.contents) states r _ [] (count r within));
-      asked_count = same;
-      asked = λ r within. ((λ e. absurd (none r within e)), (λ k. absurd k));
-    })
-  where
-    count : (r : ℕ) → r < length d.resources → r < length states
-    count r within =
-        let e = length-map states (λ (x : State). x.law) in
-        let k = length-map d.resources (λ (x : Resource). x.law) in
-        let l = ap length o.laws in
-        omega (arith, e, k, l, within)
-
-    none : (r : ℕ) → r < length d.resources → get_or parts.asked r false ≡ true → ⊥
-    none r within e =
-        let k : get_or parts.asked r false ≡ false = ap (λ xs. get_or xs r false) o.fresh.unasked ∙ get_or-replicate (length d.resources) r false false within in
-        cc
+-- without room all stays
+pub stays : (may_fail : Type 0) (old new : PartsValue) (room lines w : ℕ) (attempt : Attempt) (reply : Reply) → Answers may_fail old room lines w attempt reply new → reply ≡ NoRoom → new ≡ old
+stays may_fail old new room lines w attempt reply answers none =
+    let same = without_room contents (HasAnswered may_fail) old.declaration old.present new.present old.devices new.devices w reply room lines attempt answers.step none in
+    λ i. record { declaration = answers.declaration i; present = same.0 i; places = answers.places i; devices = same.1 i }

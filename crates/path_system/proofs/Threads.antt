@@ -14,6 +14,7 @@ use Rattle.path_shelf.specs.contracts.shelf.Shelf as Shelf
 use Rattle.path_system.specs.contracts.system.System as System
 use Rattle.path_system.specs.contracts.controller.Controller as Controller
 use Rattle.path_system.specs.contracts.parts.Parts as Parts
+use Rattle.path_system.specs.contracts.marked.MarkedShelf as MarkedShelf
 use Rattle.path_system.specs.contracts.openings.Openings as Openings
 
 module _ (D A : RattleType) (d : devices.Ghosts D.Denot) (a : memory.Ghosts A.Denot) where
@@ -28,12 +29,15 @@ module _ (D A : RattleType) (d : devices.Ghosts D.Denot) (a : memory.Ghosts A.De
   shelf_send : IsSend D → IsSend A → Frees a a.dealloc_token → IsSend (Shelf.the_field D A d a).row
   shelf_send sd sa fa = search (sendable, crosses) depth 20
 
+  marked_send : IsSend D → IsSend A → Frees a a.dealloc_token → IsSend (MarkedShelf.the_field D A d a).row
+  marked_send sd sa fa = let s = shelf_send sd sa fa in search (sendable, crosses) depth 20
+
   parts_send : IsSend D → IsSend A → Frees a a.dealloc_token → IsSend (Parts.the_field D A d a).row
   parts_send sd sa fa =
       let g = gate_send A a sa fa in
       let c = decl_send A a sa fa in
       let l = ledger_send sa fa in
-      let s = shelf_send sd sa fa in
+      let m = marked_send sd sa fa in
       search (sendable, crosses) depth 20
 
   controller_whole : IsSend D → IsSend A → Frees a a.dealloc_token → IsSend (Controller.the_field D A d a).row

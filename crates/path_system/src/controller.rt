@@ -59,7 +59,7 @@ impl<D: Device, A: Allocator + Copy> Model for Controller<D, A> {
       openings = numbers_of c.openings;
       earlier = c.past.lines.earlier;
       journal = c.past.lines.present;
-      failures = failures_of c.parts.states;
+      failures = failures_of c.parts.devices.states;
     } };
 
     ghost invariant = { λ c. IsTold c.parts c.room c.openings c.past.lines c.lines };
@@ -94,18 +94,36 @@ impl<D: Device, A: Allocator + Copy> Controller<D, A> {
         ensures system { IfOk result (λ controller. IsSystem controller) }
         ensures back { IfErr result (λ refusal. refusal.1.items ≡ devices.items) }
     {
-        if let Some(fault) = open_fault(&decl, &devices, room) {
-            drop(decl);
-            return Err((fault, devices));
+        match open_fault(&decl, &devices, room) {
+            Some(fault) => {
+                drop(decl);
+                Err((fault, devices))
+            }
+            None => match Controller::over(alloc, decl, devices, room) {
+                Ok(controller) => Ok(controller),
+                Err(devices) => Err((OpenFault::OutOfMemory, devices)),
+            },
         }
+    }
+
+    /// As [`open`](Controller::open), of a room and devices that it takes: it fails only if allocation fails.
+    pub(crate) fn over(
+        alloc: A,
+        decl: Decl<A>,
+        devices: Vec<D, A>,
+        room: u32,
+    ) -> Result<Controller<D, A>, Vec<D, A>>
+        requires room { IsRoom room }
+        requires laws { laws_of (map D.state devices.items) ≡ declared_laws decl.declaration }
+        ensures ok { IfOk result (λ controller. controller ≡ account_of decl.declaration room (map D.state devices.items)) }
+        ensures system { IfOk result (λ controller. IsSystem controller) }
+        ensures back { IfErr result (λ back. back.items ≡ devices.items) }
+    {
         let Ok(mut openings) = Openings::with_places(alloc, &decl) else {
             drop(decl);
-            return Err((OpenFault::OutOfMemory, devices));
+            return Err(devices);
         };
-        let parts = match Parts::open(alloc, decl, devices, room) {
-            Ok(parts) => parts,
-            Err((fault, devices)) => return Err((fault, devices)),
-        };
+        let parts = Parts::open(alloc, decl, devices, room)?;
         openings.write_all(counts(parts.decl()).resources, parts.shelf());
         Ok(Controller {
             parts,

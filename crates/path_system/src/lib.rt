@@ -4,6 +4,7 @@
 mod calls;
 mod controller;
 mod fault;
+mod marked;
 mod openings;
 mod parts;
 mod past;

@@ -2,7 +2,7 @@
 
 ghost use Rattle.std.specs.Prelude.{◌≡◌, ◌↔◌, ◌<◌, true, false, Any, IsTrue, length, slice_index_or, slice_set, IfErr, OnErr, OnOk};
 ghost use Rattle.path_model.specs.Declarations as declarations;
-ghost use Rattle.path_system.specs.Inner.Parts.{AreReady, IsPartsFault, MayReplacePart, with_state};
+ghost use Rattle.path_system.specs.Inner.Parts.{AreDeclared, IsPartsFault, MayReplacePart, with_state};
 
 use crate::fault::ReplaceFault;
 use crate::parts::{Parts, resource_at};
@@ -15,8 +15,9 @@ use std::alloc::Allocator;
 impl<D: Device, A: Allocator + Copy> Parts<D, A> {
     /// Whether an activation of the resource is live.
     fn is_busy(&self, resource: ResId) -> bool
-        requires { AreReady self.now }
-        ensures { IsTrue result ↔ Any (λ a. declarations.resource_of self.now.declaration a.op.0 ≡ resource.0) self.now.book.live }
+        requires { AreDeclared self.now }
+        ensures { IsTrue result ↔ Any (λ a. declarations.resource_of self.now.declaration a.op.0 ≡ resource.0)
+            self.now.present.register.live }
     {
         for activation in self.ledger.live() {
             if resource_at(&self.decl, activation.op) == resource {
@@ -30,7 +31,7 @@ impl<D: Device, A: Allocator + Copy> Parts<D, A> {
     /// with `Busy` if an activation of the resource is live, else with `Used` if its device has been asked, and else with
     /// `OtherLaw` if the new device has another law. The new device then comes back, and the parts are as they were.
     pub fn replace(&mut self, resource: ResId, device: D) -> Result<(), (ReplaceFault, D)>
-        requires ready { AreReady self.old }
+        requires own { AreDeclared self.old }
         requires declared { resource.0 < length self.old.declaration.resources }
         ensures may { OnOk result (MayReplacePart self.old resource.0 (D.state device).law) }
         ensures replaced { OnOk result (self.new ≡ with_state self.old resource.0 (D.state device)) }
@@ -41,10 +42,10 @@ impl<D: Device, A: Allocator + Copy> Parts<D, A> {
         if self.is_busy(resource) {
             return Err((ReplaceFault::Busy, device));
         }
-        if self.asked[resource.0 as usize] {
+        if self.devices.was_asked(resource) {
             return Err((ReplaceFault::Used, device));
         }
-        match self.shelf.replace(resource, device) {
+        match self.devices.replace(resource, device) {
             Ok(()) => Ok(()),
             Err(device) => Err((ReplaceFault::OtherLaw, device)),
         }

@@ -54,8 +54,8 @@ impl<D: Device, A: Allocator + Copy> Parts<D, A> {
     /// The report of these parts. Fails only if allocation fails. The cost is one look at a prologue for each operation and each
     /// path that names it.
     pub fn report(&self, alloc: A) -> Result<Report<A>, OutOfMemory>
-        ensures { IfOk result (λ report. IsReportAt self.now.standing (length self.now.declaration.operations) self.now.book.live
-            report.startable.items report.blocked.items report.live.items report.frozen) }
+        ensures { IfOk result (λ report. IsReportAt self.now.present.standing (length self.now.declaration.operations)
+            self.now.present.register.live report.startable.items report.blocked.items report.live.items report.frozen) }
     {
         let operations = counts(&self.decl).operations;
         let (startable, blocked) = sorted(alloc, operations, &self.gate)?;

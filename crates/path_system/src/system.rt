@@ -83,12 +83,12 @@ impl<D: Device, A: Allocator + Copy> System<D, A> {
             drop(decl);
             return Err((OpenFault::OutOfMemory, devices));
         };
-        match Controller::open(alloc, decl, devices, room) {
+        match Controller::over(alloc, decl, devices, room) {
             Ok(controller) => Ok(System {
                 journal,
                 controller,
             }),
-            Err(refusal) => Err(refusal),
+            Err(devices) => Err((OpenFault::OutOfMemory, devices)),
         }
     }
 

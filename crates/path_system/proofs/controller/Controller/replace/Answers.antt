@@ -8,15 +8,15 @@ use Rattle.path_shelf.specs.States.{State}
 use Rattle.path_system.specs.Accounts.{Account, failures_of}
 use Rattle.path_system.specs.Inner.Openings.{Row, row_at, numbers_of}
 use Rattle.path_system.specs.Inner.Parts.{PartsValue, IsPartsFault}
-use Rattle.path_system.proofs.Answered.{ready}
+use Rattle.path_system.proofs.Agreed.{declared}
 use Rattle.path_system.proofs.Controlled.{is_system}
 use Rattle.path_system.proofs.Replaced.{may_replace, replace_fault, told_replaced, replaced_in, replaced_state, replaced_places}
 use Rattle.path_system.proofs.controller.Controller.replace.Goals as goal
 use Rattle.path_system.proofs.controller.Controller.replace.Goals.{After-shelf, After-write}
 use Rattle.path_system.proofs.controller.Controller.replace.Given.{Over}
 
-pub replace-requires-clause-ready : goal.replace-requires-clause-ready
-replace-requires-clause-ready g c = ready _ _ _ _ c.self.invariant.told
+pub replace-requires-clause-own : goal.replace-requires-clause-own
+replace-requires-clause-own g c = declared _ _ _ _ c.self.invariant.told
 
 pub returns-in_err-replace-clause-fault : goal.returns-in_err-replace-clause-fault
 returns-in_err-replace-clause-fault g c =
@@ -30,8 +30,8 @@ within_of : (g : Over) (c : After-shelf g) → c.args.resource.0 < length c.self
 within_of g c = subst (λ (a : Account). c.args.resource.0 < length a.declaration.resources) (sym c.self.view_is) c.requires
 
 -- the devices with the new one
-states_of : (g : Over) (c : After-shelf g) → c.shelf.result.now ≡ set c.self.inside.parts.states c.args.resource.0 (g.D.Device.state c.args.device)
-states_of g c = c.shelf.ensures ∙ ap (λ (p : PartsValue). p.states) c.in_ok-replace.ensures.replaced
+states_of : (g : Over) (c : After-shelf g) → c.shelf.result.now ≡ set c.self.inside.parts.devices.states c.args.resource.0 (g.D.Device.state c.args.device)
+states_of g c = c.shelf.ensures ∙ ap (λ (p : PartsValue). p.devices.states) c.in_ok-replace.ensures.replaced
 
 pub write-requires-clause-declared : goal.write-requires-clause-declared
 write-requires-clause-declared g c =
@@ -66,7 +66,7 @@ pub returns-clause-replaced : goal.returns-clause-replaced
 returns-clause-replaced g c =
     let declaration = ap (λ (p : PartsValue). p.declaration) c.in_ok-replace.ensures.replaced in
     let numbers = ap numbers_of (rows_of g c) ∙ map-set (λ (row : Row). row.numbers) c.self.inside.openings c.args.resource.0 _ in
-    let failures = ap (λ (p : PartsValue). failures_of p.states) c.in_ok-replace.ensures.replaced ∙ map-set (λ (s : State). s.failures) c.self.inside.parts.states c.args.resource.0 (g.D.Device.state c.args.device) in
+    let failures = ap (λ (p : PartsValue). failures_of p.devices.states) c.in_ok-replace.ensures.replaced ∙ map-set (λ (s : State). s.failures) c.self.inside.parts.devices.states c.args.resource.0 (g.D.Device.state c.args.device) in
     rw (← c.self.view_is) (λ i. record { declaration = declaration i; room = c.self.inside.room; openings = numbers i; earlier = c.self.inside.past.lines.earlier; journal = c.self.inside.past.lines.present; failures = failures i })
 
 pub returns-in_err-replace-clause-system : goal.returns-in_err-replace-clause-system

@@ -6,4 +6,4 @@ use Rattle.path_system.proofs.parts.Parts.is_busy.Given as goal
 
 abbrev pub invariant-loop-activation : goal.invariant-loop-activation
 invariant-loop-activation g l =
-    AllWithin (λ a. declarations.resource_of l.self.declaration a.op.0 ≢ l.resource.0) l.self.book.live 0 l.activation-index
+    AllWithin (λ a. declarations.resource_of l.self.declaration a.op.0 ≢ l.resource.0) l.self.present.register.live 0 l.activation-index

@@ -1,0 +1,39 @@
+-- The parts are those of the empty journal.
+use Rattle.std.proofs.Common.{◌≡◌, refl, ap, sym, subst, ◌∙◌, length}
+use Rattle.std.specs.Prelude.{map}
+use Rattle.path_model.specs.Declarations.{Declaration}
+use Rattle.path_system.specs.Accounts.{contents_of}
+use Rattle.path_system.specs.Inner.Openings.{AreFor, numbers_of}
+use Rattle.path_system.specs.Inner.Parts.{Marked}
+use Rattle.path_system.proofs.Opened.{have_places, same_for, opened_count, true_opened}
+use Rattle.path_system.proofs.Controlled.{is_system}
+use Rattle.path_system.proofs.controller.Controller.over.Goals as goal
+
+pub write_all-requires-clause-devices : goal.write_all-requires-clause-devices
+write_all-requires-clause-devices g c =
+    let o = c.in_ok-parts.ensures.ok in
+    ap length (c.shelf.ensures ∙ ap (λ (m : Marked). m.states) o.devices) ∙ opened_count _ c.args.decl.declaration c.requires.laws
+    ∙ sym (c.counts.ensures.resources ∙ ap (λ (d : Declaration). length d.resources) (c.decl.ensures ∙ o.declaration))
+
+pub write_all-requires-clause-places : goal.write_all-requires-clause-places
+write_all-requires-clause-places g c =
+    let o = c.in_ok-parts.ensures.ok in
+    rw (c.shelf.ensures ∙ ap (λ (m : Marked). m.states) o.devices) (have_places c.in-Ok.openings _ c.args.decl.declaration c.in-Ok.ensures c.requires.laws (opened_count _ c.args.decl.declaration c.requires.laws))
+
+pub invariant_of-result : goal.invariant_of-result
+invariant_of-result g c =
+    let o = c.in_ok-parts.ensures.ok in
+    let states = map g.D.Device.state c.args.devices.items in
+    let numbers : numbers_of c.write_all.new.self ≡ contents_of states = c.write_all.ensures.numbers ∙ ap contents_of (c.shelf.ensures ∙ ap (λ (m : Marked). m.states) o.devices) in
+    rw c.new.ensures (record {
+      told = rw numbers (true_opened c.in_ok-parts.parts c.args.decl.declaration c.args.room states c.requires.laws o);
+      segments = (tt, tt);
+      good_room = c.requires.room;
+      counted = refl;
+      places = o.places;
+      roomy = same_for c.write_all.new.self c.in-Ok.openings c.in_ok-parts.parts.declaration c.write_all.ensures.places
+          (subst (AreFor c.in-Ok.openings) (sym o.declaration) c.in-Ok.ensures);
+    })
+
+pub returns-clause-system : goal.returns-clause-system
+returns-clause-system g c = is_system _ _ _ _ _ (invariant_of-result g c) _
