@@ -45,7 +45,7 @@ fn by_calls(system: &mut System<Cell>, op: OpId) -> u64 {
 
 // Rotates a system whose journal lacks room for a round.
 fn refreshed(system: &mut System<Cell>, spare: Vec<Line>) -> Vec<Line> {
-    if system.room_left() >= 4 {
+    if system.controller().room_left() >= 4 {
         return spare;
     }
     match system.rotate(spare) {

@@ -170,7 +170,7 @@ pub extern "C" fn path_c_live(alloc: Global, handle: &mut Handle) -> u32
     match handle.take(alloc) {
         None => 0,
         Some(service) => {
-            let count = service.system().live_count();
+            let count = service.system().controller().live_count();
             handle.put(service);
             count
         }
@@ -189,7 +189,7 @@ pub extern "C" fn path_c_room_left(alloc: Global, handle: &mut Handle) -> u32
     match handle.take(alloc) {
         None => 0,
         Some(service) => {
-            let left = service.system().room_left();
+            let left = service.system().controller().room_left();
             handle.put(service);
             left
         }

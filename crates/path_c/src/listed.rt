@@ -56,7 +56,12 @@ pub extern "C" fn path_c_live_at(
     match handle.take(alloc) {
         None => 0,
         Some(service) => {
-            let live = service.system().live().get(place as usize).copied();
+            let live = service
+                .system()
+                .controller()
+                .live()
+                .get(place as usize)
+                .copied();
             handle.put(service);
             match live {
                 None => 0,

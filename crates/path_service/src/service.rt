@@ -117,7 +117,7 @@ impl Service {
         if op.0 >= counts(self.system.decl()).operations {
             return Err(StartRefusal::UnknownOperation);
         }
-        match self.system.can_start(op) {
+        match self.system.controller().can_start(op) {
             Ok(()) => Ok(()),
             Err(path) => Err(StartRefusal::Blocked(path)),
         }

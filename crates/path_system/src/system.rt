@@ -145,7 +145,7 @@ impl<D: Device, A: Allocator + Copy> System<D, A> {
     {
         let mut places = places;
         places.clear();
-        if places.capacity() < self.room() as usize {
+        if places.capacity() < self.controller.room() as usize {
             return Err(places);
         }
         self.controller.rotate();
@@ -168,18 +168,12 @@ impl<D: Device, A: Allocator + Copy> System<D, A> {
         self.controller.decl()
     }
 
-    /// What the system controls its devices by.
-    pub(crate) fn controller(&self) -> &Controller<D, A>
+    /// What the system controls its devices by: it says what is live, what could start now, which room is left, and what each device
+    /// contained when the system took it. Takes constant time.
+    pub fn controller(&self) -> &Controller<D, A>
         ensures { result.now ≡ self.now }
     {
         &self.controller
-    }
-
-    /// How many lines the journal has room for, those that finish what is live included.
-    pub fn room(&self) -> u32
-        ensures { result ≡ self.now.room }
-    {
-        self.controller.room()
     }
 
     /// Reports which declared operations can be started and which can't, with the path that forbids each, in the order of the
@@ -192,13 +186,6 @@ impl<D: Device, A: Allocator + Copy> System<D, A> {
             report.startable.items report.blocked.items report.live.items report.frozen) }
     {
         self.controller.report(alloc)
-    }
-
-    /// What each device contained when the system took it, at its opening or in place of another.
-    pub fn openings(&self) -> &[Vec<u64, A>]
-        ensures { map (λ row. row.items) result.now ≡ self.now.openings }
-    {
-        self.controller.openings()
     }
 
     /// The number at this place of what a declared resource contains now; `None` past the end.

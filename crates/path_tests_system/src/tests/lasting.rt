@@ -85,8 +85,9 @@ fn a_room_of_twelve_takes_ten_thousand_attempts(rt: HostRuntime) {
 // Checks that a rotation gives both lines away, that a deposit, which is live, stays live, and how much room is left.
 fn keeps_a_deposit(rt: &impl Abort, alloc: Global, system: &mut System<Cell>) {
     let given = rotated(rt, alloc, system);
-    let are_live = [system.is_live(ActId(0)), system.is_live(ActId(1))];
-    let left = (system.journal().len(), system.room_left());
+    let controller = system.controller();
+    let are_live = [controller.is_live(ActId(0)), controller.is_live(ActId(1))];
+    let left = (system.journal().len(), controller.room_left());
     assert_eq!(rt; (given, are_live, left), (2, [true, false], (0, 11)));
 }
 
@@ -141,12 +142,18 @@ fn a_rotation_wants_places_for_all_lines(rt: HostRuntime) {
 
 // How many activations are live, how many are listed, and how much room is left.
 fn live_and_left(system: &System<Cell>) -> (u32, usize, u32) {
-    (system.live_count(), system.live().len(), system.room_left())
+    let controller = system.controller();
+    (
+        controller.live_count(),
+        controller.live().len(),
+        controller.room_left(),
+    )
 }
 
 // Checks what is refused before anything is live, and starts a deposit.
 fn refuses_starts(rt: &impl Abort, system: &mut System<Cell>) {
-    let can_start = [system.can_start(DEPOSIT), system.can_start(REMOVE)];
+    let controller = system.controller();
+    let can_start = [controller.can_start(DEPOSIT), controller.can_start(REMOVE)];
     let started = [
         system.start(1, OpId(9)),
         system.start(1, REMOVE),

@@ -11,11 +11,11 @@ returns-then-op-counts c =
 pub returns-in-Ok : goal.returns-in-Ok
 returns-in-Ok c = (
   omega (arith, c.if-op-counts.false, c.counts.ensures.operations, ap (λ (d : Declaration). length d.operations) c.decl.ensures, ap (λ (a : Account). length a.declaration.operations) c.self.view_is),
-  rw c.self.view_is at c.in-Ok.ensures,
+  rw (c.controller.ensures, c.self.view_is) at c.in-Ok.ensures,
 )
 
 pub returns-in-Err : goal.returns-in-Err
 returns-in-Err c = (
   omega (arith, c.if-op-counts.false, c.counts.ensures.operations, ap (λ (d : Declaration). length d.operations) c.decl.ensures, ap (λ (a : Account). length a.declaration.operations) c.self.view_is),
-  rw c.self.view_is at c.in-Err.ensures,
+  rw (c.controller.ensures, c.self.view_is) at c.in-Err.ensures,
 )
