@@ -10,13 +10,13 @@ use Rattle.path_model.specs.Honest.{IsHonest}
 use Rattle.path_model.specs.Journals.{with_line}
 use Rattle.path_model.specs.Rooms.{IsRoom}
 use Rattle.path_model.specs.Segments.{joined, room_behind, OwedBehind, IsSegmentFrom, AreHonestFrom, AreHonest}
-use Rattle.path_model.proofs.CallerLemmas.{each_honest_journal_has_room, room_behind_is, joined_more, more_room_keeps_honest, one_reply_is_owed_behind, one_segment_is_a_journal, segments_more, segments_rotated}
+use Rattle.path_model.proofs.CallerLemmas.{each_honest_journal_has_room, room_behind_is, joined_more, one_reply_is_owed_behind, one_segment_is_a_journal, segments_more, segments_rotated}
 use Rattle.path_decl.specs.Lawful.{Lawful}
-use Rattle.path_gate.specs.Places.{has_room, lacks_number}
+use Rattle.path_model.specs.Places.{has_room, lacks_number}
 use Rattle.path_gate.proofs.CallerLemmas.{right_fails, same_room, owed_without_number, owed_with_number}
 use Rattle.path_step.specs.Presents.{IsPresentOf}
 use Rattle.path_step.specs.Steps.{can_take}
-use Rattle.path_step.proofs.CallerLemmas.{owed_is, taken_is, with_the_line, without_room}
+use Rattle.path_step.proofs.CallerLemmas.{in_more_room, owed_is, taken_is, with_the_line, without_room}
 use Rattle.path_audit.specs.Inner.Replays.{Held, ReplayValue, Replays, IsReplayOf, asked, held_for}
 use Rattle.path_audit.specs.Verdicts.{IsFirstWrong}
 use Rattle.path_audit.specs.Judged.{AuditorValue, HasJudged, IsFirstWrongBehind, IsOwedInstead}
@@ -56,21 +56,6 @@ begins_next auditor d openings segments h = record {
   replayed = subst (IsReplayOf auditor.replay d (room_behind (joined segments) auditor.room) openings) (sym (append-nil (joined segments))) h.replayed;
 }
 
--- in more room a replay agrees with the same lines
-in_more : (replay : ReplayValue) (d : Declaration) (room more : ℕ) (openings : List (List ℕ)) (lines : List Line) → room ≤ more
-    → IsReplayOf replay d room openings lines → IsReplayOf replay d more openings lines
-in_more replay d room more openings lines wider r = record {
-  honest = more_room_keeps_honest d room more openings lines wider r.honest;
-  paths = r.paths;
-  at = r.at;
-  admitted = r.admitted;
-  live = r.live;
-  begun = r.begun;
-  declared = r.declared;
-  one_each = r.one_each;
-  held = r.held;
-}
-
 -- the whole next segment was judged
 pub has_judged : (replay : ReplayValue) (d : Declaration) (room : ℕ) (openings : List (List ℕ)) (segments : List (List Line)) (lines : List Line) → IsReplayBehind replay d room openings segments lines
     → HasJudged (record { replay = replay; room = room }) d openings (segments ++ lines ∷ [])
@@ -82,7 +67,7 @@ has_judged replay d room openings segments lines s =
       good_room = s.good_room;
       honest = s.honest;
       replayed = subst (λ xs. IsReplayOf replay d (room_behind xs room) openings xs) (sym (joined_more segments lines))
-          (in_more replay d (room_behind (joined segments) room) (room_behind (joined segments ++ lines) room) openings (joined segments ++ lines) (omega (arith, k, before, now)) s.replayed);
+          (in_more_room replay.present replay.held.contents d (room_behind (joined segments) room) (room_behind (joined segments ++ lines) room) openings (joined segments ++ lines) (omega (arith, k, before, now)) s.replayed);
     }
 
 module _ (d : Declaration) (lawful : Lawful d) (old : ReplayValue) (room : ℕ) (openings : List (List ℕ)) (segments : List (List Line)) (lines : List Line) (n : ℕ)

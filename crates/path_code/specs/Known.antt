@@ -3,7 +3,7 @@ use Rattle.std.specs.Prelude.{refl, List}
 use Rattle.std.specs.Coded.{Coded, code_by, coded_list}
 use base.Stored.{coded_sub}
 use Rattle.path_model.specs.Declarations.{Path}
-use Rattle.path_decl.specs.Inner.Stored as stored
+use Rattle.path_decl.specs.Stored as stored
 pub use Rattle.path_code.specs.LawfulPaths.{LawfulPaths, LawfulPaths-prop}
 
 -- the paths, and what always holds of them

@@ -6,7 +6,7 @@ use Rattle.path_model.specs.Trees.{Names, WellFormed, FewAtOnce}
 use Rattle.path_model.specs.Legal.{Every}
 use Rattle.path_model.specs.Declarations.{Path}
 use Rattle.path_decl.specs.Lawful.{names_count}
-use Rattle.path_decl.specs.Inner.LawfulOnce.{Every-prop, WellFormed-prop, FewAtOnce-prop}
+use Rattle.path_decl.specs.LawfulOnce.{Every-prop, WellFormed-prop, FewAtOnce-prop}
 use Rattle.path_code.specs.PathCodes.{numbered_trees}
 
 -- Each tree is well formed, with bounds of at most 65,535 and at most 64 names, and names operations below 256. There are at most

@@ -1,5 +1,6 @@
 -- What a text declares, in names alone.
-use Rattle.std.specs.Prelude.{ℕ, List, [], ◌∷◌, ◌++◌, Option}
+use Rattle.std.specs.Prelude.{ℕ, List, [], ◌∷◌, ◌++◌, Option, Some, None}
+use Rattle.path_decl.specs.Numerals.{IsUpTo}
 
 -- a path expression over names, with the digits of the bounds of braces
 pub data Form : Type 0 where
@@ -37,3 +38,14 @@ all_operations (r ∷ rs) = r.operations ++ all_operations rs
 abbrev pub all_paths : List ResourceForm → List Form
 all_paths [] = []
 all_paths (r ∷ rs) = r.paths ++ all_paths rs
+
+-- a bound is a number from 1 to 65,535
+abbrev pub BoundFits : Option (List ℕ) → Type 0
+BoundFits None = Unit {0}
+BoundFits (Some ds) = IsUpTo 65535 ds
+
+-- a capacity is a number from 1 to 1,024
+abbrev pub LawFits : LawForm → Type 0
+LawFits a_cell = Unit {0}
+LawFits a_tally = Unit {0}
+LawFits (a_queue ds) = IsUpTo 1024 ds

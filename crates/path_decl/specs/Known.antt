@@ -4,8 +4,8 @@ use Rattle.std.specs.Coded.{Coded, code_by}
 use base.Stored.{coded_sub}
 use Rattle.path_model.specs.Declarations.{Declaration}
 use Rattle.path_decl.specs.Lawful.{Lawful}
-use Rattle.path_decl.specs.Inner.Stored.{declaration_code}
-pub use Rattle.path_decl.specs.Inner.LawfulOnce.{Lawful-prop}
+use Rattle.path_decl.specs.Stored.{declaration_code}
+pub use Rattle.path_decl.specs.LawfulOnce.{Lawful-prop}
 
 -- a declaration, and what always holds of it
 pub record KnownDeclaration : Type 0 where

@@ -3,6 +3,8 @@ pub mod Forms
 pub mod Grammar
 pub mod Declares
 pub mod Lawful
+pub mod LawfulOnce
+pub mod Stored
 pub mod Text
 pub mod Known
 pub mod Table

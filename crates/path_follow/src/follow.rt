@@ -85,10 +85,10 @@ fn ended<D: Device, A: Allocator + Copy, R: Read, O: Write, E: Write>(
 }
 
 /// Answers the lines of the input, one after the other: an attempt with its reply in the line of [`trace_to`](path_trace::trace_to), and
-/// the line `?` with the report of the system as it is then ([`write_report`](path_trace::write_report)). Each answer is written and flushed
-/// before the next line is looked at, and never waits for more of the input than its own line. A line that is neither is told on `err`,
-/// with its number counted from 0, and below that where it stops being an attempt, with its number from 1; and it is skipped. The last
-/// line may lack its line feed.
+/// the line `?` with the report of the system as it is then ([`write_report`](path_trace::write_report)). Each answer is written and
+/// flushed before the next line is looked at, and never waits for more of the input than its own line. A line that is neither is told on
+/// `err`, with its number counted from 0, and below that where it stops being an attempt, with its number from 1; and it is skipped. The
+/// last line may lack its line feed.
 ///
 /// `Done`: the input ended. `TextRefused`: it ended, and lines were skipped. `CommandRefused`: the room is 0 or above
 /// [`MOST_LINES`](path_model::MOST_LINES), or the devices aren't those of the declaration, one for each resource and of its law;
@@ -108,7 +108,8 @@ pub fn follow_to<D: Device, A: Allocator + Copy, R: Read, O: Write, E: Write>(
     err: &mut E,
 ) -> Status
     // Each line of the input was an attempt or asked for the report, and its answer was written, and nothing else.
-    ensures done { result ≡ Status.Done → GaveAll (R.remaining input.old) (λ text. AppendsSome (O.contents out.old) (O.contents out.new)
+    ensures done { result ≡ Status.Done
+        → GaveAll (R.remaining input.old) (λ text. AppendsSome (O.contents out.old) (O.contents out.new)
         (IsFollowOf decl.declaration (map D.state devices.items) (MayFail D.state) room false text)) }
     // A line of the input was refused, and the answers to the others were written, and nothing else.
     ensures refused { result ≡ Status.TextRefused

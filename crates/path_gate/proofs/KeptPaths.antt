@@ -7,7 +7,7 @@ use Rattle.path_model.specs.Machine.{braces}
 use Rattle.path_model.specs.Flat.{semaphores_in, Sited, sited}
 use Rattle.path_model.specs.Trimmed.{stands_in, kept}
 use Rattle.path_model.proofs.CallerLemmas.{has_names, names_has, kept_none}
-use Rattle.path_gate.specs.Inner.Sites.{unlike, kept_paths}
+use Rattle.path_gate.specs.Sites.{unlike, kept_paths}
 use Rattle.path_gate.specs.Inner.Terms.{term_at, terms_at}
 use Rattle.path_gate.proofs.Passes.{Rising, trees_of}
 

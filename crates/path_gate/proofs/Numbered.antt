@@ -14,7 +14,7 @@ use Rattle.path_model.specs.Owed.{OwedToStart, Owed}
 use Rattle.path_model.specs.Rooms.{IsRoom}
 use Rattle.path_model.specs.Segments.{room_behind, has_no_number, OwedUnless, OwedBehind}
 use Rattle.path_model.proofs.CallerLemmas.{begun_lines}
-use Rattle.path_gate.specs.Places.{has_room, wanted_places, has_place, lacks_number}
+use Rattle.path_model.specs.Places.{has_room, wanted_places, has_place, lacks_number}
 
 -- what is taken has room
 pub both_left : (a b : Bool) → (a && b) ≡ true → a ≡ true

@@ -16,7 +16,7 @@ use Rattle.path_trim.specs.LawfulTrees.{LawfulTrees}
 use Rattle.path_trim.specs.LeanTable.{LeanRow, op_left, lean_row, lean_table}
 use Rattle.path_gate.specs.declared.gate.Term.{Term}
 use Rattle.path_gate.specs.Levels.{levels}
-use Rattle.path_gate.specs.Inner.Sites.{unlike, kept_paths}
+use Rattle.path_gate.specs.Sites.{unlike, kept_paths}
 use Rattle.path_gate.specs.Standings.{Standing, IsAt}
 use Rattle.path_gate.specs.Inner.Terms.{term_at, terms_at}
 use Rattle.path_gate.specs.Inner.Soundness.{IsSound}

@@ -11,7 +11,7 @@ use Rattle.path_model.specs.declared.journal.Activation.{Activation}
 use Rattle.path_model.specs.Trees.{Tree}
 use Rattle.path_model.specs.Legal as legal
 use Rattle.path_model.specs.Journals.{activation_of}
-use Rattle.path_gate.specs.Places.{is_own_of}
+use Rattle.path_model.specs.Places.{is_own_of}
 
 -- the room that a start or a use wants
 pub roomy : (m n : ℕ) → (nat_le m n || false) ≡ true → m ≤ n

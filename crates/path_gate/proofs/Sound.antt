@@ -19,7 +19,7 @@ use Rattle.path_model.proofs.CallerLemmas.{has_names, all_paths_judge, each_bloc
 use Rattle.path_trim.specs.LeanTable.{prologue_left}
 use Rattle.path_gate.specs.declared.gate.Term.{Term}
 use Rattle.path_gate.specs.Levels.{Levels, can_pass}
-use Rattle.path_gate.specs.Inner.Sites.{kept_paths, Shows}
+use Rattle.path_gate.specs.Sites.{kept_paths, Shows}
 use Rattle.path_gate.specs.Standings.{Standing, IsNamed, IsAt, Judges, Admitted, BlocksStay, Released}
 use Rattle.path_gate.specs.Inner.Terms.{term_at, terms_at, blocking, all_started, all_finished, CanStartAll, CanFinishAll, IsWithin, one_more, one_less}
 use Rattle.path_gate.specs.Inner.Soundness.{HasPlaces, IsSound}

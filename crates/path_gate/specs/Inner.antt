@@ -1,5 +1,4 @@
 -- How values are stored, and what loops and private functions know. What a public call promises is in the files beside this one.
-pub mod Sites
 pub mod Terms
 pub mod Soundness
 pub mod Opening

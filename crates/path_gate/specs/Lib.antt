@@ -1,4 +1,4 @@
 pub mod Levels
+pub mod Sites
 pub mod Standings
-pub mod Places
 pub mod Inner

@@ -10,9 +10,9 @@ use Rattle.path_model.specs.Histories.{begun, ended}
 use Rattle.path_model.specs.Legal as legal
 use Rattle.path_model.specs.Machine.{opening}
 use Rattle.path_model.specs.Trimmed.{kept, lean_among}
-use Rattle.path_decl.specs.Inner.Stored.{tree_code}
+use Rattle.path_decl.specs.Stored.{tree_code}
 use Rattle.path_gate.specs.Levels.{Levels, levels}
-use Rattle.path_gate.specs.Inner.Sites.{kept_paths, Shows}
+use Rattle.path_gate.specs.Sites.{kept_paths, Shows}
 
 -- the trees of all paths with their numbers, the values of all semaphores and of all counters, how often each operation is in
 -- progress, and how many starts were admitted

@@ -15,4 +15,5 @@ with_number r n = r
 
 -- a text begins with no reply of this kind that ends the line
 abbrev pub IsNone : Reply → List ℕ → Type 0
-IsNone kind text = (n : ℕ) (rest : List ℕ) → ReplyFits (with_number kind n) → EndsAt 10 rest → text ≢ reply_text (with_number kind n) ++ rest
+IsNone kind text =
+    (n : ℕ) (rest : List ℕ) → ReplyFits (with_number kind n) → EndsAt 10 rest → text ≢ reply_text (with_number kind n) ++ rest

@@ -119,8 +119,8 @@ fn push_numbered<A: Allocator + Copy>(
 }
 
 /// Appends what follows an attempt in its line: `: `, the text of the reply and a line feed. If allocation fails, what the
-/// list contains then isn't specified. Allocates only if the capacity of the list isn't enough. Each reply is appended at once, since
-/// a trace does little else: with the words of [`spelled`] it took 1.09 of the time, and 1.18 where most replies are `no room`.
+/// list contains then isn't specified. Allocates only if the capacity of the list isn't enough. Each reply is appended at once, not
+/// by the words of [`spelled`]: a trace does little else.
 pub fn push_told<A: Allocator + Copy>(out: &mut Vec<u8, A>, reply: Reply) -> Result<(), OutOfMemory>
     ensures { OnOk result (out.new.items ≡ out.old.items ++ (codes ": " ++ (reply_text reply ++ 10 ∷ []))) }
 {

@@ -9,8 +9,7 @@ use Rattle.path_print.specs.declared.printer.Place.{Place}
 use Rattle.path_print.specs.declared.printer.Place.TheVariants.{InSeq, InAlt, InUnit}
 use Rattle.path_lex.specs.Names.{IsName}
 use Rattle.path_lex.specs.Spelling.{Piece, sign, reserved}
-use Rattle.path_decl.specs.Forms.{Form, once, sequence, selection, braced, names_in, LawForm, a_cell, a_tally, a_queue, ResourceForm, all_operations}
-use Rattle.path_read.specs.Inner.Building.{BoundFits, LawFits}
+use Rattle.path_decl.specs.Forms.{Form, once, sequence, selection, braced, names_in, LawForm, a_cell, a_tally, a_queue, ResourceForm, all_operations, BoundFits, LawFits}
 use Rattle.path_read.proofs.CallerLemmas.{BracesFit, KeepsPathRules, PathsKeepRules}
 use Rattle.path_read.proofs.CallerLemmas.{resources_called, forms_keep_rules}
 use Rattle.path_decl.specs.Declares.{Declares}

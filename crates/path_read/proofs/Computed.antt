@@ -17,12 +17,12 @@ use Rattle.path_lex.specs.declared.token.Class.{Class}
 use Rattle.path_lex.specs.declared.token.Class.TheVariants as classes
 use Rattle.path_lex.specs.Bytes.{class_of}
 use Rattle.path_lex.specs.Spelling.{Piece, sign, reserved, name, number, Placed, pieces, word_len, number_len, Spells, by_end, by_space, by_mark, by_word, by_number, IsWithinPiece, AreWithin, AreTokensOf}
-use Rattle.path_decl.specs.Forms.{Form, sequence, selection, LawForm, a_cell, a_tally, a_queue, ResourceForm}
+use Rattle.path_decl.specs.Forms.{Form, sequence, selection, LawForm, a_cell, a_tally, a_queue, ResourceForm, BoundFits, LawFits}
 use Rattle.path_decl.specs.Grammar.{IsClosing, by_brace, by_bound, IsUnit, by_name, by_group, by_braces, IsAlt, by_units, MoreUnits, no_unit, one_unit, IsSeq, by_alts, MoreAlts, no_alt, one_alt, IsPath, by_path, ArePaths, no_path, one_path, AreNames, last_name, one_name, IsLaw, by_cell, by_tally, by_queue, IsResource, by_resource, IsFile, last_resource, one_resource}
 use Rattle.path_decl.specs.Numerals.{IsUpTo}
 use Rattle.path_decl.specs.Text.{IsDeclarationText}
 use Rattle.path_read.specs.Inner.Parts.{Saying, a_resource, a_law, an_operation, a_path, a_name, file_parts, a_sequence, a_selection, an_opening, a_closing, an_end}
-use Rattle.path_read.specs.Inner.Building.{Drafted, nothing, after, after_all, Allowed, AllAllowed, HasOne, HasTwo, BoundFits, LawFits}
+use Rattle.path_read.specs.Inner.Building.{Drafted, nothing, after, after_all, Allowed, AllAllowed, HasOne, HasTwo}
 use Rattle.path_read.specs.Computed.{checked, token_then, tokens_from, is_within, are_within, read_tokens, Front, read_closing, read_group, read_braces, read_unit, read_name, read_units, read_alt, read_alts, read_seq, read_within, read_path_end, read_path, read_paths, read_names, read_law, read_operations, read_resource_end, read_parts, read_resource, read_resources, read_file, lacks, fits, is_own, bound_fits, law_fits, has_one, has_two, is_allowed, are_allowed, declared_in}
 use Rattle.path_read.proofs.Whole.{is_read}
 

@@ -5,10 +5,10 @@ use Rattle.std.proofs.lemmas.List.{append-nil, length-map, length-append, map_pu
 use Rattle.path_model.specs.declared.resource.Law.{Law}
 use Rattle.path_model.specs.declared.resource.Law.TheVariants.{Cell}
 use Rattle.path_model.specs.Declarations.{Resource, Operation, Path}
-use Rattle.path_decl.specs.Forms.{Form, ResourceForm, names_in, all_operations, all_paths}
+use Rattle.path_decl.specs.Forms.{Form, ResourceForm, names_in, all_operations, all_paths, LawFits}
 use Rattle.path_read.specs.Inner.Parts.{an_operation, an_end, form_parts, body_parts, path_parts, inner_parts, resource_parts, file_parts}
 use Rattle.path_decl.specs.Declares.{operations_from}
-use Rattle.path_read.specs.Inner.Building.{Drafted, operation_names, law_from, with_law, LawFits, AllAllowed, after_all}
+use Rattle.path_read.specs.Inner.Building.{Drafted, operation_names, law_from, with_law, AllAllowed, after_all}
 use Rattle.path_read.proofs.FormRules.{BracesFit}
 use Rattle.path_read.proofs.Taken.{after_all-append, allowed-append, allowed_front, allowed_back, Fresh, fresh-append, fresh_front, fresh_back, tree_in, FormFits, after_form, form_allowed, form_kept, braces_kept}
 

@@ -2,8 +2,7 @@
 use Rattle.std.proofs.Common.{◌≡◌, ℕ, ◌+◌, ◌≤◌, List, length, map, Contains}
 use Rattle.std.specs.List.{AllByRecursion}
 use Rattle.path_decl.specs.Lawful.{IsDistinct}
-use Rattle.path_read.specs.Inner.Building.{BoundFits, LawFits}
-use Rattle.path_decl.specs.Forms.{Form, once, sequence, selection, braced, names_in, ResourceForm, all_operations, all_paths}
+use Rattle.path_decl.specs.Forms.{Form, once, sequence, selection, braced, names_in, ResourceForm, all_operations, all_paths, BoundFits, LawFits}
 
 -- inside this many open braces, no braces are inside braces, and each bound is a number from 1 to 65,535
 abbrev pub BracesFit : ℕ → Form → Type 0

@@ -10,10 +10,10 @@ use Rattle.path_model.specs.declared.resource.Law.TheVariants.{Queue}
 use Rattle.path_model.specs.Trees.{Bound, any, most, Room, Tree, op, seq, alt, burst, Names, NoRepeats, NoBraces, NoNesting, FewAtOnce, WellFormed}
 use Rattle.path_model.specs.Legal.{numbered, Every}
 use Rattle.path_model.specs.Declarations.{Resource, Operation, Path, Declaration}
-use Rattle.path_decl.specs.Forms.{Form, once, sequence, selection, braced, LawForm, a_cell, a_tally, a_queue, ResourceForm, names_in, all_operations, all_paths}
+use Rattle.path_decl.specs.Forms.{Form, once, sequence, selection, braced, LawForm, a_cell, a_tally, a_queue, ResourceForm, names_in, all_operations, all_paths, LawFits, BoundFits}
 use Rattle.path_decl.specs.Lawful.{IsDistinct, names_count, NamesOwn, CapacityFits, Lawful}
 use Rattle.path_decl.specs.Declares.{IsBound, IsLawOf, Numbers, AreResourcesOf, operations_from, paths_from, ArePathsOf, Declares}
-use Rattle.path_read.specs.Inner.Building.{operation_names, LawFits, BoundFits}
+use Rattle.path_read.specs.Inner.Building.{operation_names}
 use Rattle.path_read.proofs.FormRules.{BracesFit, KeepsPathRules, PathsKeepRules, KeepsRules}
 use Rattle.path_read.proofs.Taken.{each-append}
 use Rattle.path_read.proofs.Files.{owned}

@@ -12,12 +12,12 @@ use Rattle.path_lex.specs.declared.token.Reserved.{Reserved}
 use Rattle.path_lex.specs.Bytes.{is_word_byte}
 use Rattle.path_lex.specs.Names.{reserved_of, IsWordText, IsName}
 use Rattle.path_lex.specs.Spelling.{Piece, sign, reserved, name, number, Placed, pieces, word_or, Spells, by_end, by_space, by_mark, by_word, by_number, IsWithinPiece, AreWithin, AreTokensOf}
-use Rattle.path_decl.specs.Forms.{Form, once, sequence, selection, braced, LawForm, a_cell, a_tally, a_queue, ResourceForm, names_in, all_operations, all_paths}
+use Rattle.path_decl.specs.Forms.{Form, once, sequence, selection, braced, LawForm, a_cell, a_tally, a_queue, ResourceForm, names_in, all_operations, all_paths, LawFits, BoundFits}
 use Rattle.path_decl.specs.Grammar.{IsClosing, by_brace, by_bound, IsUnit, by_name, by_group, by_braces, IsAlt, by_units, MoreUnits, no_unit, one_unit, IsSeq, by_alts, MoreAlts, no_alt, one_alt, by_path, ArePaths, no_path, one_path, AreNames, last_name, one_name, IsLaw, by_cell, by_tally, by_queue, IsResource, by_resource, IsFile, last_resource, one_resource}
 use Rattle.path_decl.specs.Lawful.{IsDistinct}
 use Rattle.path_read.proofs.FormRules.{BracesFit, KeepsRules}
 use Rattle.path_decl.specs.Declares.{operations_from}
-use Rattle.path_read.specs.Inner.Building.{operation_names, law_from, LawFits, bound_of, BoundFits}
+use Rattle.path_read.specs.Inner.Building.{operation_names, law_from, bound_of}
 use Rattle.path_decl.specs.Lawful.{names_count, NamesOwn, AreDistinctNames, CapacityFits, Lawful}
 use Rattle.path_read.proofs.NumeralLemmas.{value_of}
 use Rattle.path_read.proofs.Taken.{each-append, each_front, each_back, each_then, tree_in, IsOwn, fresh_distinct}

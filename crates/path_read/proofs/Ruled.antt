@@ -9,12 +9,12 @@ use Rattle.std.proofs.lemmas.Option.{slice_get-map, slice_get-get_or, slice_get_
 use Rattle.path_model.specs.declared.ids.OpId.{OpId}
 use Rattle.path_model.specs.declared.resource.Law.TheVariants.{Queue}
 use Rattle.path_model.specs.Declarations.{Operation, Path}
-use Rattle.path_decl.specs.Forms.{Form, once, sequence, selection, braced, LawForm, a_cell, a_tally, a_queue, ResourceForm, names_in, all_operations}
+use Rattle.path_decl.specs.Forms.{Form, once, sequence, selection, braced, LawForm, a_cell, a_tally, a_queue, ResourceForm, names_in, all_operations, LawFits, BoundFits}
 use Rattle.path_read.specs.Inner.Parts.{file_parts}
 use Rattle.path_decl.specs.Lawful.{IsDistinct}
 use Rattle.path_read.proofs.FormRules.{BracesFit, KeepsPathRules, PathsKeepRules, KeepsRules}
 use Rattle.path_decl.specs.Declares.{IsBound, IsLawOf, Numbers, AreResourcesOf, paths_from, ArePathsOf, Declares}
-use Rattle.path_read.specs.Inner.Building.{Drafted, nothing, declared_by, operation_names, number_of, place_of, law_from, bound_of, LawFits, BoundFits, AllAllowed, after_all}
+use Rattle.path_read.specs.Inner.Building.{Drafted, nothing, declared_by, operation_names, number_of, place_of, law_from, bound_of, AllAllowed, after_all}
 use Rattle.path_read.proofs.NumeralLemmas.{value_of}
 use Rattle.path_read.proofs.Taken.{each-append, each_front, each_back, each_then, fresh_distinct, distinct_fresh, tree_in, IsOwn}
 use Rattle.path_read.proofs.Files.{resource_from, owned, made_path, made_paths, PathFits, PathsFit, FileFits, names_owned, names_with, after_file, file_kept, file_allowed}

@@ -6,10 +6,10 @@ use Rattle.std.proofs.lemmas.List.Elements.{Contains-get_or}
 use Rattle.std.proofs.lemmas.List.Quantifiers.{all_pairs_push}
 use Rattle.path_model.specs.Trees.{Tree, op, seq, alt, burst}
 use Rattle.path_model.specs.Declarations.{Operation}
-use Rattle.path_decl.specs.Forms.{Form, once, sequence, selection, braced, names_in}
+use Rattle.path_decl.specs.Forms.{Form, once, sequence, selection, braced, names_in, BoundFits}
 use Rattle.path_read.specs.Inner.Parts.{Saying, a_sequence, a_selection, a_closing, form_parts}
 use Rattle.path_decl.specs.Lawful.{IsDistinct}
-use Rattle.path_read.specs.Inner.Building.{Drafted, number_of, bound_of, BoundFits, Allowed, after, AllAllowed, after_all}
+use Rattle.path_read.specs.Inner.Building.{Drafted, number_of, bound_of, Allowed, after, AllAllowed, after_all}
 use Rattle.path_read.proofs.FormRules.{BracesFit}
 
 pub after_all-append : (xs ys : List Saying) (d : Drafted) → after_all (xs ++ ys) d ≡ after_all ys (after_all xs d)

@@ -3,7 +3,7 @@
 ghost use Rattle.std.specs.Prelude.{◌≡◌, ◌<◌, ◌≤◌, ◌∷◌, ◌↔◌, All, length, Contains, Some, None, IsTrue, IfOk, OnOk, IfErr};
 ghost use Rattle.path_model.specs.Trees.{shape};
 ghost use Rattle.path_decl.specs.Lawful.{IsDistinct};
-ghost use Rattle.path_decl.specs.Inner.LawfulOnce.{IsDistinct-prop};
+ghost use Rattle.path_decl.specs.LawfulOnce.{IsDistinct-prop};
 ghost use Rattle.path_decl.specs.Table.{names_of};
 ghost use Rattle.path_read.specs.Inner.Parts.{law_said, saying, a_resource, a_law, an_operation, a_path, a_name};
 ghost use Rattle.path_read.specs.Inner.Parts.{a_sequence, a_selection, an_opening, a_closing, an_end};

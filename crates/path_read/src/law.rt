@@ -2,7 +2,8 @@
 
 ghost use Rattle.std.specs.Prelude.{◌≡◌, IfOk, IfErr};
 ghost use Rattle.path_read.specs.Inner.Parts.{law_said};
-ghost use Rattle.path_read.specs.Inner.Building.{law_from, LawFits};
+ghost use Rattle.path_decl.specs.Forms.{LawFits};
+ghost use Rattle.path_read.specs.Inner.Building.{law_from};
 ghost use Rattle.path_read.specs.Inner.Reading.{Fails};
 
 use crate::numeral::number_up_to;

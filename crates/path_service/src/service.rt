@@ -33,7 +33,7 @@ pub struct Service {
 impl Model for Service {
     ghost use Rattle.std.specs.Prelude.{vec_capacity};
     ghost use Rattle.std.specs.Coded.{codes};
-    ghost use Rattle.path_decl.specs.Inner.Stored.{declaration_code};
+    ghost use Rattle.path_decl.specs.Stored.{declaration_code};
     ghost use Rattle.path_system.specs.Accounts.{Account};
     ghost use Rattle.path_service.specs.Inner.{IsReady};
 

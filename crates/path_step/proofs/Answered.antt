@@ -19,7 +19,7 @@ use Rattle.path_model.specs.Journals.{live, activation_of, admitted_history}
 use Rattle.path_model.specs.Owed.{by_words, taken, IsOwn, OwedToStart, OwedToUse, OwedToFinish, Owed, outcome_for}
 use Rattle.path_model.proofs.CallerLemmas.{each_honest_journal_is_legal, live_in_progress}
 use Rattle.path_decl.specs.Lawful.{Lawful}
-use Rattle.path_gate.specs.Places.{has_room, is_own_of, lacks_number}
+use Rattle.path_model.specs.Places.{has_room, is_own_of, lacks_number}
 use Rattle.path_gate.proofs.CallerLemmas.{both_left, left_fails, roomy, not_roomy, roomy_or, not_roomy_or, not_own, own_or_other, none_forbids, found_declared}
 use Rattle.path_step.specs.Steps.{Present, Acts, AreReady, IsRunning, held_at, MovesStart, MovesUse, MovesFinish, Moves, Answers, can_take}
 use Rattle.path_step.specs.Presents.{IsPresentOf}

@@ -7,7 +7,7 @@ use Rattle.path_model.specs.declared.journal.Reply.TheVariants.{NoRoom}
 use Rattle.path_model.specs.declared.journal.Line.{Line}
 use Rattle.path_model.specs.Segments.{joined, room_behind, OwedBehind, AreHonest}
 use Rattle.path_model.proofs.CallerLemmas.{line_of, room_behind_is, joined_more, more_room_keeps_honest, segments_more, segments_rotated, each_segment_has_room}
-use Rattle.path_gate.specs.Places.{has_room, lacks_number}
+use Rattle.path_model.specs.Places.{has_room, lacks_number}
 use Rattle.path_gate.proofs.CallerLemmas.{right_fails, same_room, owed_without_number, owed_with_number}
 use Rattle.path_step.specs.Steps.{can_take}
 use Rattle.path_step.proofs.CallerLemmas as step

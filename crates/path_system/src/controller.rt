@@ -44,7 +44,7 @@ pub struct Controller<D: Device, A: Allocator + Copy = Global> {
 
 impl<D: Device, A: Allocator + Copy> Model for Controller<D, A> {
     ghost use Rattle.std.specs.Coded.{codes};
-    ghost use Rattle.path_decl.specs.Inner.Stored.{declaration_code};
+    ghost use Rattle.path_decl.specs.Stored.{declaration_code};
     ghost use Rattle.path_system.specs.Accounts.{Account, failures_of};
     ghost use Rattle.path_system.specs.Inner.Openings.{numbers_of};
     ghost use Rattle.path_system.specs.Inner.Parts.{IsTold};

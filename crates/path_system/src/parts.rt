@@ -29,7 +29,7 @@ pub struct Parts<D: Device, A: Allocator + Copy = Global> {
 
 impl<D: Device, A: Allocator + Copy> Model for Parts<D, A> {
     ghost use Rattle.std.specs.Coded.{codes};
-    ghost use Rattle.path_decl.specs.Inner.Stored.{declaration_code};
+    ghost use Rattle.path_decl.specs.Stored.{declaration_code};
     ghost use Rattle.path_gate.specs.Standings.{standing_code};
     ghost use Rattle.path_step.specs.Steps.{present};
     ghost use Rattle.path_system.specs.Inner.Parts.{PartsValue};

@@ -40,7 +40,7 @@ pub struct System<D: Device, A: Allocator + Copy = Global> {
 impl<D: Device, A: Allocator + Copy> Model for System<D, A> {
     ghost use Rattle.std.specs.Prelude.{vec_capacity};
     ghost use Rattle.std.specs.Coded.{codes};
-    ghost use Rattle.path_decl.specs.Inner.Stored.{declaration_code};
+    ghost use Rattle.path_decl.specs.Stored.{declaration_code};
     ghost use Rattle.path_system.specs.Accounts.{Account};
     ghost use Rattle.path_system.specs.Inner.Journaled.{IsJournaled};
 

@@ -3,7 +3,7 @@ use Rattle.std.specs.Prelude.{List, refl}
 use Rattle.std.specs.Coded.{Coded, code_by, coded_list}
 use base.Stored.{coded_sub}
 use Rattle.path_model.specs.Trees.{Tree}
-use Rattle.path_decl.specs.Inner.Stored.{tree_code}
+use Rattle.path_decl.specs.Stored.{tree_code}
 use Rattle.path_trim.specs.LawfulTrees.{LawfulTrees, LawfulTrees-prop}
 
 -- the trees of all paths, the removed ones too, and what always holds of them

@@ -5,7 +5,7 @@ use Rattle.path_model.specs.declared.ids.OpId.{OpId}
 use Rattle.path_model.specs.Trees.{Tree, Names, WellFormed, FewAtOnce}
 use Rattle.path_model.specs.Legal.{Every, numbered}
 use Rattle.path_decl.specs.Lawful.{names_count}
-use Rattle.path_decl.specs.Inner.LawfulOnce.{Every-prop, WellFormed-prop, FewAtOnce-prop}
+use Rattle.path_decl.specs.LawfulOnce.{Every-prop, WellFormed-prop, FewAtOnce-prop}
 
 -- Each tree is well formed, with bounds of at most 65,535 and at most 64 names, and names operations below 256. There are at most
 -- 256 trees.

@@ -26,7 +26,7 @@ pub struct Hall<L: Opening, S: Steps> {
 
 impl<L: Opening, S: Steps> Model for Hall<L, S> {
     ghost use Rattle.std.specs.Coded.{codes};
-    ghost use Rattle.path_decl.specs.Inner.Stored.{declaration_code};
+    ghost use Rattle.path_decl.specs.Stored.{declaration_code};
     ghost use Rattle.path_system.specs.Accounts.{Account};
     ghost use Rattle.path_workers.specs.Inner.Holdings.{IsHallOf};
 

@@ -9,7 +9,7 @@ use Rattle.path_model.specs.Legal as legal
 use Rattle.path_model.specs.Flat.{Sited, HasBound, bound_number}
 use Rattle.path_model.specs.Trimmed.{KeepsSemaphore, KeepsCounter}
 use Rattle.path_gate.specs.declared.gate.Term.{Term}
-use Rattle.path_gate.specs.Inner.Sites.{kept_paths}
+use Rattle.path_gate.specs.Sites.{kept_paths}
 use Rattle.path_gate.specs.Standings.{Standing, IsAt}
 use Rattle.path_gate.specs.Inner.Terms.{terms_at}
 

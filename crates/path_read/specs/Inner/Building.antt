@@ -8,8 +8,7 @@ use Rattle.path_model.specs.declared.resource.Law.TheVariants.{Cell, Tally, Queu
 use Rattle.path_model.specs.Trees.{Bound, any, most, Tree, op, seq, alt, burst, shape}
 use Rattle.path_model.specs.Declarations.{Resource, Operation, Path, Declaration}
 use Rattle.path_read.specs.declared.draft.Draft.{Draft}
-use Rattle.path_decl.specs.Forms.{LawForm, a_cell, a_tally, a_queue}
-use Rattle.path_decl.specs.Numerals.{IsUpTo}
+use Rattle.path_decl.specs.Forms.{LawForm, a_cell, a_tally, a_queue, BoundFits, LawFits}
 use Rattle.path_read.specs.Inner.Parts.{Saying, a_resource, a_law, an_operation, a_path, a_name}
 use Rattle.path_read.specs.Inner.Parts.{a_sequence, a_selection, an_opening, a_closing, an_end}
 use Rattle.path_decl.specs.Table.{names_of, name_at, resources_of, operations_of, path_of}
@@ -116,17 +115,6 @@ pub record IsUsable (d : Drafted) (n : List ℕ) : Type 0 where
   pub own : slice_get d.operations (number_of d.operations n) ≡ Some (record { name = n; resource = d.resource })
   pub new : Contains d.named n → ⊥
   pub room : length d.named < 64
-
--- a bound is a number from 1 to 65,535
-abbrev pub BoundFits : Option (List ℕ) → Type 0
-BoundFits None = Unit {0}
-BoundFits (Some ds) = IsUpTo 65535 ds
-
--- a capacity is a number from 1 to 1,024
-abbrev pub LawFits : LawForm → Type 0
-LawFits a_cell = Unit {0}
-LawFits a_tally = Unit {0}
-LawFits (a_queue ds) = IsUpTo 1024 ds
 
 -- what a part needs of the draft
 abbrev pub Allowed : Saying → Drafted → Type 0
