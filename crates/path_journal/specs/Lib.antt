@@ -1,3 +1,4 @@
 pub mod Replies
 pub mod JournalTexts
 pub mod JournalFaults
+pub mod CutTexts

@@ -1,12 +1,16 @@
 //! The texts of journals: lines with their replies, and in version 2 a first line that names the room.
 #![tactic(auto)]
 
+mod cut;
 mod head;
 mod journal;
 mod record;
 mod reply;
+mod version;
 mod writer;
 
-pub use head::write_head;
+pub use cut::read_cut;
+pub use head::{write_head, write_kept_head};
 pub use journal::{read_journal, stop_in};
-pub use writer::write_journal;
+pub use version::{CutText, Version};
+pub use writer::{push_kept_line, write_journal};

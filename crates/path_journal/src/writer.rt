@@ -3,6 +3,7 @@
 ghost use Rattle.std.specs.Prelude.{◌≡◌, ◌++◌, ◌∷◌, [], IfOk, OnOk};
 ghost use Rattle.std.specs.String.{string_bytes};
 ghost use Rattle.path_journal.specs.JournalTexts.{RoomFits, front_text, lines_text, journal_text};
+ghost use Rattle.path_journal.specs.CutTexts.{kept_line};
 
 use crate::head::write_head;
 use path_decl::Decl;
@@ -53,4 +54,22 @@ pub fn write_journal<A: Allocator + Copy, B: Allocator + Copy>(
     let mut text = write_front(alloc, room)?;
     push_lines(&mut text, decl, lines)?;
     Ok(text)
+}
+
+/// Appends a line of a text of version 3, with its line feed; with a mark, `+` precedes it. If allocation fails, what the text contains then
+/// isn't specified. Allocates only if the capacity of the text isn't enough.
+pub fn push_kept_line<A: Allocator + Copy, B: Allocator + Copy>(
+    out: &mut String<A>,
+    decl: &Decl<B>,
+    marked: bool,
+    line: &Line,
+) -> Result<(), OutOfMemory>
+    ensures { OnOk result (string_bytes out.new ≡ string_bytes out.old ++ kept_line decl.now.declaration (marked, line.now)) }
+{
+    if marked {
+        out.push_str("+")?;
+    }
+    push_line(out, decl, line)?;
+    out.push_str("\n")?;
+    Ok(())
 }
