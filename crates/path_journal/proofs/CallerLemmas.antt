@@ -7,7 +7,7 @@ use Rattle.path_model.specs.Declarations.{Declaration}
 use Rattle.path_lines.specs.LineTexts.{journal_line_text}
 use Rattle.path_journal.specs.JournalTexts.{LineFits, journal_line, IsJournalText}
 pub use Rattle.path_journal.proofs.RecordLemmas.{record_is_line}
-pub use Rattle.path_journal.proofs.CutLemmas.{cut_before, undeclared_apart, undeclared_no_plus, no_plus, one_whole}
+pub use Rattle.path_journal.proofs.CutLemmas.{cut_before, undeclared_apart, undeclared_is_line, undeclared_no_plus, no_plus, one_whole}
 
 -- a line that was written is a journal's text, of this line alone
 pub written_line : (d : Declaration) (l : Line) → LineFits l → IsJournalText d (journal_line_text d l) None (l ∷ [])

@@ -176,7 +176,7 @@ module _ (d : Declaration) (names : AreDistinctNames (operation_names d)) where
       let q = number_once u.undeclared.worker l.worker (32 ∷ u.undeclared.attempt) (32 ∷ attempt_text d l.attempt) small other (space_ends u.undeclared.attempt) (space_ends (attempt_text d l.attempt)) (sym u.undeclared.spelled ∙ p.0) in
       starts_none l.attempt u.undeclared.attempt fits.attempt u.undeclared.undeclared (sym (tail_one q.1))
 
-  undeclared_is_line : (line : List ℕ) → IsUndeclared d line → HasNone 10 line
+  pub undeclared_is_line : (line : List ℕ) → IsUndeclared d line → HasNone 10 line
   undeclared_is_line line u = subst (HasNone 10) (sym u.spelled) (none_joined 10 u.attempt (58 ∷ 32 ∷ reply_text u.reply) (undeclared_clean 10 (inl refl) d u.attempt u.undeclared) ((λ e. omega (arith, e)), ((λ e. omega (arith, e)), reply_is_line u.reply u.fits)))
 
   alone : (line text : List ℕ) → HasNone 10 text → IsFirstLine line text → line ≡ text

@@ -1,0 +1,6 @@
+mod Images
+mod Moments
+mod NoZeros
+mod Left
+mod Crash
+mod Repairs

@@ -1,0 +1,124 @@
+-- What is read of a file is what was found in it, and its repair keeps that.
+use Rattle.std.proofs.Common.{[], ◌++◌, take, sym, ◌∙◌, subst, arith}
+use Rattle.std.proofs.lemmas.List.{append-nil}
+use Rattle.std.proofs.lemmas.List.Elements.{All-nil}
+use Rattle.path_journal.specs.declared.version.Version.TheVariants.{Three}
+use Rattle.path_journal.specs.CutTexts.{KeptFits, front_of, IsCutJournal}
+use Rattle.path_store.specs.Devices.{IsImage}
+use Rattle.path_store.proofs.Repairs.{image_none, only_journal, cut_taken, read_leaves, head_cut, head_written, end_cut, has_these}
+use Rattle.path_store.proofs.recovery.recover.Goals as goal
+
+pub returns-in_err-repair-clause-any_moment : goal.returns-in_err-repair-clause-any_moment
+returns-in_err-repair-clause-any_moment g c = λ synced fresh file.
+    let head = c.as_bytes.ensures.value ∙ c.in_ok-front.ensures in
+    let same = c.deref.ensures.value ∙ c.in_ok-text.ensures.bytes file.text file.read in
+    let image = subst (IsImage (front_of (Three c.args.room))) same (subst (λ x. IsImage x c.deref.result.now) head c.if-is_image.ensures.yes) in
+    let held = c.read.ensures.holds file.text file.read in
+    let first = read_leaves g.D.Device.holds g.D.Device.may_leave c.args.decl.now.declaration c.args.room g.D.Device.moment g.D.Device.left_since g.met.D.Device.only_now c.args.device.now c.read.new.self synced fresh file c.read.ensures.crash c.read.ensures.time in
+    let cut = head_cut g.D.Device.holds g.D.Device.may_leave c.args.decl.now.declaration c.args.room g.D.Device.moment g.D.Device.left_since g.met.D.Device.only_now c.args.device.now c.read.new.self c.repair.new.device synced fresh file c.read.ensures.crash image first (c.repair.ensures.any_moment file.text held (omega arith)) in
+    cut
+
+pub returns-in_err-begin-clause-any_moment : goal.returns-in_err-begin-clause-any_moment
+returns-in_err-begin-clause-any_moment g c = λ synced fresh file.
+    let head = c.as_bytes.ensures.value ∙ c.in_ok-front.ensures in
+    let same = c.deref.ensures.value ∙ c.in_ok-text.ensures.bytes file.text file.read in
+    let image = subst (IsImage (front_of (Three c.args.room))) same (subst (λ x. IsImage x c.deref.result.now) head c.if-is_image.ensures.yes) in
+    let held = c.read.ensures.holds file.text file.read in
+    let first = read_leaves g.D.Device.holds g.D.Device.may_leave c.args.decl.now.declaration c.args.room g.D.Device.moment g.D.Device.left_since g.met.D.Device.only_now c.args.device.now c.read.new.self synced fresh file c.read.ensures.crash c.read.ensures.time in
+    let cut = head_cut g.D.Device.holds g.D.Device.may_leave c.args.decl.now.declaration c.args.room g.D.Device.moment g.D.Device.left_since g.met.D.Device.only_now c.args.device.now c.read.new.self c.repair.new.device synced fresh file c.read.ensures.crash image first (c.repair.ensures.any_moment file.text held (omega arith)) in
+    let none = image_none c.args.decl.now.declaration c.args.room file.text (synced ++ fresh) image file.found in
+    let empty = c.in_ok-repair.ensures.holds file.text held (omega arith) in
+    let only = c.in_ok-repair.ensures.only file.text held (omega arith) in
+    head_written g.D.Device.holds g.D.Device.may_leave c.args.decl.now.declaration c.args.room g.D.Device.moment g.D.Device.left_since g.met.D.Device.only_now c.args.device.now c.repair.new.device c.begin.new.device synced fresh c.as_bytes-then-is_image.result.now none (c.as_bytes-then-is_image.ensures.value ∙ c.in_ok-front.ensures) cut (c.begin.ensures.any_moment empty only)
+
+pub returns-then-is_image-clause-any_moment : goal.returns-then-is_image-clause-any_moment
+returns-then-is_image-clause-any_moment g c = λ synced fresh file.
+    let head = c.as_bytes.ensures.value ∙ c.in_ok-front.ensures in
+    let same = c.deref.ensures.value ∙ c.in_ok-text.ensures.bytes file.text file.read in
+    let image = subst (IsImage (front_of (Three c.args.room))) same (subst (λ x. IsImage x c.deref.result.now) head c.if-is_image.ensures.yes) in
+    let held = c.read.ensures.holds file.text file.read in
+    let first = read_leaves g.D.Device.holds g.D.Device.may_leave c.args.decl.now.declaration c.args.room g.D.Device.moment g.D.Device.left_since g.met.D.Device.only_now c.args.device.now c.read.new.self synced fresh file c.read.ensures.crash c.read.ensures.time in
+    let cut = head_cut g.D.Device.holds g.D.Device.may_leave c.args.decl.now.declaration c.args.room g.D.Device.moment g.D.Device.left_since g.met.D.Device.only_now c.args.device.now c.read.new.self c.repair.new.device synced fresh file c.read.ensures.crash image first (c.repair.ensures.any_moment file.text held (omega arith)) in
+    let none = image_none c.args.decl.now.declaration c.args.room file.text (synced ++ fresh) image file.found in
+    let empty = c.in_ok-repair.ensures.holds file.text held (omega arith) in
+    let only = c.in_ok-repair.ensures.only file.text held (omega arith) in
+    head_written g.D.Device.holds g.D.Device.may_leave c.args.decl.now.declaration c.args.room g.D.Device.moment g.D.Device.left_since g.met.D.Device.only_now c.args.device.now c.repair.new.device c.begin.new.device synced fresh c.as_bytes-then-is_image.result.now none (c.as_bytes-then-is_image.ensures.value ∙ c.in_ok-front.ensures) cut (c.begin.ensures.any_moment empty only)
+
+pub returns-then-is_image-clause-lines : goal.returns-then-is_image-clause-lines
+returns-then-is_image-clause-lines g c = λ synced fresh file.
+    let head = c.as_bytes.ensures.value ∙ c.in_ok-front.ensures in
+    let same = c.deref.ensures.value ∙ c.in_ok-text.ensures.bytes file.text file.read in
+    let image = subst (IsImage (front_of (Three c.args.room))) same (subst (λ x. IsImage x c.deref.result.now) head c.if-is_image.ensures.yes) in
+    let held = c.read.ensures.holds file.text file.read in
+    let first = read_leaves g.D.Device.holds g.D.Device.may_leave c.args.decl.now.declaration c.args.room g.D.Device.moment g.D.Device.left_since g.met.D.Device.only_now c.args.device.now c.read.new.self synced fresh file c.read.ensures.crash c.read.ensures.time in
+    let cut = head_cut g.D.Device.holds g.D.Device.may_leave c.args.decl.now.declaration c.args.room g.D.Device.moment g.D.Device.left_since g.met.D.Device.only_now c.args.device.now c.read.new.self c.repair.new.device synced fresh file c.read.ensures.crash image first (c.repair.ensures.any_moment file.text held (omega arith)) in
+    c.new.ensures.items ∙ sym (image_none c.args.decl.now.declaration c.args.room file.text (synced ++ fresh) image file.found)
+
+pub returns-then-is_image-clause-recovered : goal.returns-then-is_image-clause-recovered
+returns-then-is_image-clause-recovered g c = λ synced fresh file.
+    let head = c.as_bytes.ensures.value ∙ c.in_ok-front.ensures in
+    let same = c.deref.ensures.value ∙ c.in_ok-text.ensures.bytes file.text file.read in
+    let image = subst (IsImage (front_of (Three c.args.room))) same (subst (λ x. IsImage x c.deref.result.now) head c.if-is_image.ensures.yes) in
+    let held = c.read.ensures.holds file.text file.read in
+    let first = read_leaves g.D.Device.holds g.D.Device.may_leave c.args.decl.now.declaration c.args.room g.D.Device.moment g.D.Device.left_since g.met.D.Device.only_now c.args.device.now c.read.new.self synced fresh file c.read.ensures.crash c.read.ensures.time in
+    let cut = head_cut g.D.Device.holds g.D.Device.may_leave c.args.decl.now.declaration c.args.room g.D.Device.moment g.D.Device.left_since g.met.D.Device.only_now c.args.device.now c.read.new.self c.repair.new.device synced fresh file c.read.ensures.crash image first (c.repair.ensures.any_moment file.text held (omega arith)) in
+    let none = image_none c.args.decl.now.declaration c.args.room file.text (synced ++ fresh) image file.found in
+    let empty = c.in_ok-repair.ensures.holds file.text held (omega arith) in
+    let written = c.as_bytes-then-is_image.ensures.value ∙ c.in_ok-front.ensures in
+    has_these g.D.Device.holds g.D.Device.may_leave c.args.decl.now.declaration c.args.room c.begin.new.device [] (synced ++ fresh) c.as_bytes-then-is_image.result.now c.requires c.args.decl.now.lawful.operation_names (sym none) (All-nil (KeptFits _)) (written ∙ sym (append-nil (front_of (Three c.args.room)))) (c.in_ok-begin.ensures.holds empty) (c.in_ok-begin.ensures.only empty)
+
+pub returns-then-ne-clause-any_moment : goal.returns-then-ne-clause-any_moment
+returns-then-ne-clause-any_moment g c = λ synced fresh file. read_leaves g.D.Device.holds g.D.Device.may_leave c.args.decl.now.declaration c.args.room g.D.Device.moment g.D.Device.left_since g.met.D.Device.only_now c.args.device.now c.read.new.self synced fresh file c.read.ensures.crash c.read.ensures.time
+
+pub returns-in_err-repair-2-clause-any_moment : goal.returns-in_err-repair-2-clause-any_moment
+returns-in_err-repair-2-clause-any_moment g c = λ synced fresh file.
+    let head = c.as_bytes.ensures.value ∙ c.in_ok-front.ensures in
+    let same = c.deref.ensures.value ∙ c.in_ok-text.ensures.bytes file.text file.read in
+    let again = c.deref-2.ensures.value ∙ c.in_ok-text.ensures.bytes file.text file.read in
+    let torn = λ (i : IsImage (front_of (Three c.args.room)) file.text). c.if-is_image.ensures.no (subst (λ x. IsImage x c.deref.result.now) (sym head) (subst (IsImage (front_of (Three c.args.room))) (sym same) i)) in
+    let found = only_journal c.args.decl.now.declaration c.args.room file.text (synced ++ fresh) torn file.found in
+    let one = c.in_ok-journal.ensures.one (Three c.args.room) (synced ++ fresh) found.0 (subst (λ x. IsCutJournal c.args.decl.now.declaration x (Three c.args.room) (synced ++ fresh) found.0) (sym again) found.1) in
+    let journal = subst (IsCutJournal c.args.decl.now.declaration file.text (Three c.args.room) (synced ++ fresh)) one.2 found.1 in
+    let held = c.read.ensures.holds file.text file.read in
+    let counted = journal.counted in
+    end_cut g.D.Device.holds g.D.Device.may_leave c.args.decl.now.declaration c.args.room g.D.Device.moment g.D.Device.left_since g.met.D.Device.only_now c.args.device.now c.read.new.self c.repair-2.new.device synced fresh c.in_ok-journal.journal.bytes file c.read.ensures.crash journal (read_leaves g.D.Device.holds g.D.Device.may_leave c.args.decl.now.declaration c.args.room g.D.Device.moment g.D.Device.left_since g.met.D.Device.only_now c.args.device.now c.read.new.self synced fresh file c.read.ensures.crash c.read.ensures.time) (c.repair-2.ensures.any_moment file.text held (omega (arith, counted)))
+
+pub returns-clause-any_moment : goal.returns-clause-any_moment
+returns-clause-any_moment g c = λ synced fresh file.
+    let head = c.as_bytes.ensures.value ∙ c.in_ok-front.ensures in
+    let same = c.deref.ensures.value ∙ c.in_ok-text.ensures.bytes file.text file.read in
+    let again = c.deref-2.ensures.value ∙ c.in_ok-text.ensures.bytes file.text file.read in
+    let torn = λ (i : IsImage (front_of (Three c.args.room)) file.text). c.if-is_image.ensures.no (subst (λ x. IsImage x c.deref.result.now) (sym head) (subst (IsImage (front_of (Three c.args.room))) (sym same) i)) in
+    let found = only_journal c.args.decl.now.declaration c.args.room file.text (synced ++ fresh) torn file.found in
+    let one = c.in_ok-journal.ensures.one (Three c.args.room) (synced ++ fresh) found.0 (subst (λ x. IsCutJournal c.args.decl.now.declaration x (Three c.args.room) (synced ++ fresh) found.0) (sym again) found.1) in
+    let journal = subst (IsCutJournal c.args.decl.now.declaration file.text (Three c.args.room) (synced ++ fresh)) one.2 found.1 in
+    let held = c.read.ensures.holds file.text file.read in
+    let counted = journal.counted in
+    end_cut g.D.Device.holds g.D.Device.may_leave c.args.decl.now.declaration c.args.room g.D.Device.moment g.D.Device.left_since g.met.D.Device.only_now c.args.device.now c.read.new.self c.repair-2.new.device synced fresh c.in_ok-journal.journal.bytes file c.read.ensures.crash journal (read_leaves g.D.Device.holds g.D.Device.may_leave c.args.decl.now.declaration c.args.room g.D.Device.moment g.D.Device.left_since g.met.D.Device.only_now c.args.device.now c.read.new.self synced fresh file c.read.ensures.crash c.read.ensures.time) (c.repair-2.ensures.any_moment file.text held (omega (arith, counted)))
+
+pub returns-clause-lines : goal.returns-clause-lines
+returns-clause-lines g c = λ synced fresh file.
+    let head = c.as_bytes.ensures.value ∙ c.in_ok-front.ensures in
+    let same = c.deref.ensures.value ∙ c.in_ok-text.ensures.bytes file.text file.read in
+    let again = c.deref-2.ensures.value ∙ c.in_ok-text.ensures.bytes file.text file.read in
+    let torn = λ (i : IsImage (front_of (Three c.args.room)) file.text). c.if-is_image.ensures.no (subst (λ x. IsImage x c.deref.result.now) (sym head) (subst (IsImage (front_of (Three c.args.room))) (sym same) i)) in
+    let found = only_journal c.args.decl.now.declaration c.args.room file.text (synced ++ fresh) torn file.found in
+    let one = c.in_ok-journal.ensures.one (Three c.args.room) (synced ++ fresh) found.0 (subst (λ x. IsCutJournal c.args.decl.now.declaration x (Three c.args.room) (synced ++ fresh) found.0) (sym again) found.1) in
+    let journal = subst (IsCutJournal c.args.decl.now.declaration file.text (Three c.args.room) (synced ++ fresh)) one.2 found.1 in
+    let held = c.read.ensures.holds file.text file.read in
+    let counted = journal.counted in
+    sym one.1
+
+pub returns-clause-recovered : goal.returns-clause-recovered
+returns-clause-recovered g c = λ synced fresh file.
+    let head = c.as_bytes.ensures.value ∙ c.in_ok-front.ensures in
+    let same = c.deref.ensures.value ∙ c.in_ok-text.ensures.bytes file.text file.read in
+    let again = c.deref-2.ensures.value ∙ c.in_ok-text.ensures.bytes file.text file.read in
+    let torn = λ (i : IsImage (front_of (Three c.args.room)) file.text). c.if-is_image.ensures.no (subst (λ x. IsImage x c.deref.result.now) (sym head) (subst (IsImage (front_of (Three c.args.room))) (sym same) i)) in
+    let found = only_journal c.args.decl.now.declaration c.args.room file.text (synced ++ fresh) torn file.found in
+    let one = c.in_ok-journal.ensures.one (Three c.args.room) (synced ++ fresh) found.0 (subst (λ x. IsCutJournal c.args.decl.now.declaration x (Three c.args.room) (synced ++ fresh) found.0) (sym again) found.1) in
+    let journal = subst (IsCutJournal c.args.decl.now.declaration file.text (Three c.args.room) (synced ++ fresh)) one.2 found.1 in
+    let held = c.read.ensures.holds file.text file.read in
+    let counted = journal.counted in
+    has_these g.D.Device.holds g.D.Device.may_leave c.args.decl.now.declaration c.args.room c.repair-2.new.device journal.kept (synced ++ fresh) (take c.in_ok-journal.journal.bytes file.text) c.requires c.args.decl.now.lawful.operation_names journal.lines journal.cut.lines.fits (cut_taken c.args.decl.now.declaration file.text (Three c.args.room) (synced ++ fresh) c.in_ok-journal.journal.bytes journal)
+    (c.in_ok-repair-2.ensures.holds file.text held (omega (arith, counted))) (c.in_ok-repair-2.ensures.only file.text held (omega (arith, counted)))

@@ -1,0 +1,98 @@
+//! What a crash has left of a file, and how its end is repaired.
+
+ghost use Rattle.std.specs.Prelude.{◌≡◌, ◌⊎◌, ◌≤◌, ◌++◌, [], List, ℕ, take, length, OnOk, IfOk};
+ghost use Rattle.std.specs.Bool.{OnTrue, OnFalse};
+ghost use Rattle.std.specs.String.{string_bytes};
+ghost use Rattle.path_model.specs.declared.journal.Line.{Line};
+ghost use Rattle.path_model.specs.Rooms.{IsRoom};
+ghost use Rattle.path_journal.specs.declared.version.Version.TheVariants.{Three};
+ghost use Rattle.path_journal.specs.CutTexts.{front_of};
+ghost use Rattle.path_store.specs.Devices.{IsImage, Cut, Only, LeavesOnly};
+ghost use Rattle.path_store.specs.Stores.{FindsSome, IsFile, IsRecovered};
+
+use crate::device::{Device, DeviceFault};
+use crate::fault::StoreFault;
+use path_decl::Decl;
+use path_journal::{Version, read_cut, write_kept_head};
+use path_model::{Line, OutOfMemory};
+use std::alloc::Allocator;
+
+/// The first line of a store's file, with its line feed.
+fn front<B: Allocator + Copy>(alloc: B, room: u32) -> Result<String<B>, OutOfMemory>
+    requires { IsRoom room }
+    ensures { IfOk result (λ text. string_bytes text ≡ front_of (Three room)) }
+{
+    let mut text = write_kept_head(alloc, room)?;
+    text.push_str("\n")?;
+    Ok(text)
+}
+
+/// Whether a crash may have left these bytes of what was written: each is there or is zero, and the end may be missing.
+fn is_image(written: &[u8], left: &[u8]) -> bool
+    ensures yes { OnTrue result (IsImage written.now left.now) }
+    ensures no { OnFalse result (IsImage written.now left.now → ⊥) }
+{
+    if left.len() > written.len() {
+        return false;
+    }
+    for at in 0..left.len() {
+        if left[at] != written[at] && left[at] != 0 {
+            return false;
+        }
+    }
+    true
+}
+
+/// Leaves the first bytes of a file, so many, all of them on the disk.
+fn repair<D: Device>(device: &mut D, size: usize) -> Result<(), DeviceFault>
+    ensures holds { (b : List ℕ) → D.holds device.old b → size ≤ length b → OnOk result (D.holds device.new (take size b)) }
+    ensures only { (b : List ℕ) → D.holds device.old b → size ≤ length b → OnOk result (Only (take size b) (D.may_leave device.new)) }
+    ensures any_moment { (b : List ℕ) → D.holds device.old b → size ≤ length b
+        → LeavesOnly D.moment D.left_since device.old device.new (λ c. D.may_leave device.old c ⊎ Cut size b c) }
+{
+    // What was read may not be on the disk yet.
+    device.sync()?;
+    device.cut(size)?;
+    device.sync()
+}
+
+/// Writes the first line of a file that is empty.
+fn begin<D: Device>(device: &mut D, front: &[u8]) -> Result<(), DeviceFault>
+    ensures holds { D.holds device.old [] → OnOk result (D.holds device.new front.now) }
+    ensures only { D.holds device.old [] → OnOk result (Only front.now (D.may_leave device.new)) }
+    ensures any_moment { D.holds device.old [] → Only [] (D.may_leave device.old)
+        → LeavesOnly D.moment D.left_since device.old device.new (IsImage front.now) }
+{
+    device.append(front)?;
+    device.sync()
+}
+
+/// Reads the lines of a file that a crash may have left, and repairs its end. How many bytes were cut off is told too.
+pub fn recover<A: Allocator + Copy, B: Allocator + Copy, D: Device>(
+    alloc: B,
+    decl: &Decl<A>,
+    room: u32,
+    device: &mut D,
+) -> Result<(Vec<Line, B>, usize), StoreFault>
+    requires { IsRoom room }
+    ensures lines { (synced fresh : List Line) → IsFile D.holds D.may_leave decl.now.declaration room device.old synced fresh
+        → IfOk result (λ p. p.0.items ≡ synced ++ fresh) }
+    ensures recovered { (synced fresh : List Line) → IsFile D.holds D.may_leave decl.now.declaration room device.old synced fresh
+        → OnOk result (IsRecovered D.holds D.may_leave decl.now.declaration room device.new (synced ++ fresh)) }
+    ensures any_moment { (synced fresh : List Line) → IsFile D.holds D.may_leave decl.now.declaration room device.old synced fresh
+        → LeavesOnly D.moment D.left_since device.old device.new (FindsSome decl.now.declaration room synced fresh) }
+{
+    let text = device.read(alloc)?;
+    let front = front(alloc, room)?;
+    if is_image(front.as_bytes(), &text) {
+        repair(device, 0)?;
+        begin(device, front.as_bytes())?;
+        return Ok((Vec::new(alloc), 0));
+    }
+    let journal = read_cut(alloc, decl, &text)?;
+    if journal.version != Version::Three(room) {
+        return Err(StoreFault::OtherHead);
+    }
+    repair(device, journal.bytes)?;
+    Ok((journal.lines, text.len() - journal.bytes))
+}
