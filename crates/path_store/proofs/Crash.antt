@@ -1,7 +1,7 @@
 -- What the calls of a store leave, and what a crash does at any moment in them.
-use Rattle.std.proofs.Common.{◌≡◌, ℕ, zero, suc, ◌≤◌, Bool, true, false, List, [], ◌∷◌, ◌++◌, length, take, ◌⊎◌, inl, inr, All, refl, sym, ap, ◌∙◌, subst, arith, append_assoc, length-append}
+use Rattle.std.proofs.Common.{◌<◌, ◌≡◌, ℕ, zero, suc, ◌≤◌, Bool, true, false, List, [], ◌∷◌, ◌++◌, length, take, drop, get_or, ◌⊎◌, inl, inr, All, refl, sym, ap, ◌∙◌, subst, arith, append_assoc, length-append, take-append-drop}
 use Rattle.std.specs.List.{AllByRecursion}
-use Rattle.std.proofs.lemmas.List.{append-nil, map-append}
+use Rattle.std.proofs.lemmas.List.{append-nil, take_more, map-append}
 use Rattle.std.proofs.lemmas.List.Elements.{All-push}
 use Rattle.std.proofs.lemmas.Grind.{flat_map-append}
 use Rattle.path_model.specs.declared.journal.Line.{Line}
@@ -13,7 +13,7 @@ use Rattle.path_store.specs.Devices.{IsImage, Torn, Follows, Only, Elapses, Leav
 use Rattle.path_store.specs.Stores.{Finds, FindsSome, AreMarked, IsLeft, HasLines}
 use Rattle.path_store.proofs.Images.{torn_behind}
 use Rattle.path_store.proofs.Left.{finds_some}
-use Rattle.path_store.proofs.Moments.{started, goes_on}
+use Rattle.path_store.proofs.Moments.{started, goes_on, joined, weaker}
 
 text_more : (d : Declaration) (ks : List Kept) (k : Kept) → kept_text d (ks ++ k ∷ []) ≡ kept_text d ks ++ kept_line d k
 text_more d ks k = flat_map-append (kept_line d) ks (k ∷ []) ∙ ap (λ x. kept_text d ks ++ x) (append-nil (kept_line d k))
@@ -30,17 +30,38 @@ marked_more (m ∷ ms) k h (inr mark) = all_more ms h
     all_more [] h = (mark, tt)
     all_more (n ∷ ns) h = (h.0, all_more ns h.1)
 
-take_more : (n : ℕ) (xs : List Line) (x : Line) → n ≤ length xs → take n (xs ++ x ∷ []) ≡ take n xs
-take_more zero xs x le = refl
-take_more (suc n) [] x le = absurd (omega (arith, le))
-take_more (suc n) (y ∷ xs) x le = ap (λ l. y ∷ l) (take_more n xs x (omega (arith, le)))
+take_less : (n : ℕ) (xs : List Line) (x : Line) → n ≤ length xs → take n (xs ++ x ∷ []) ≡ take n xs
+take_less zero xs x le = refl
+take_less (suc n) [] x le = absurd (omega (arith, le))
+take_less (suc n) (y ∷ xs) x le = ap (λ l. y ∷ l) (take_less n xs x (omega (arith, le)))
 
 -- with one line more, some lines are some
 pub found_more : (d : Declaration) (room : ℕ) (synced fresh : List Line) (line : Line) (c : List ℕ) → FindsSome d room synced fresh c → FindsSome d room synced (fresh ++ line ∷ []) c
 found_more d room synced fresh line c found =
     let few = found.1 in
     let longer = length-append fresh (line ∷ []) in
-    (found.0, omega (arith, few, longer), subst (λ x. Finds d room c (synced ++ x)) (sym (take_more found.0 fresh line found.1)) found.2)
+    (found.0, omega (arith, few, longer), subst (λ x. Finds d room c (synced ++ x)) (sym (take_less found.0 fresh line found.1)) found.2)
+
+-- so they are with any lines behind
+pub found_longer : (d : Declaration) (room : ℕ) (synced fresh more all : List Line) (c : List ℕ) → all ≡ fresh ++ more → FindsSome d room synced fresh c → FindsSome d room synced all c
+found_longer d room synced fresh more all c is found =
+    let few = found.1 in
+    let longer = ap length is ∙ length-append fresh more in
+    (found.0, omega (arith, few, longer), subst (λ x. Finds d room c (synced ++ x)) (sym (ap (take found.0) is ∙ take_within found.0 fresh more found.1)) found.2)
+  where
+    take_within : (n : ℕ) (xs ys : List Line) → n ≤ length xs → take n (xs ++ ys) ≡ take n xs
+    take_within zero xs ys le = refl
+    take_within (suc n) [] ys le = absurd (omega (arith, le))
+    take_within (suc n) (x ∷ xs) ys le = ap (λ l. x ∷ l) (take_within n xs ys (omega (arith, le)))
+
+pub one_line : (fresh lines : List Line) (i : ℕ) (x : Line) → i < length lines → (fresh ++ take i lines) ++ get_or lines i x ∷ [] ≡ fresh ++ take (i + 1) lines
+one_line fresh lines i x lt = append_assoc fresh (take i lines) (get_or lines i x ∷ []) ∙ ap (λ y. fresh ++ y) (sym (take_more lines i x lt))
+
+cut_lines : (fresh lines : List Line) (i : ℕ) → fresh ++ lines ≡ (fresh ++ take i lines) ++ drop i lines
+cut_lines fresh lines i = ap (λ y. fresh ++ y) (sym (take-append-drop i lines)) ∙ sym (append_assoc fresh (take i lines) (drop i lines))
+
+all_lines : (fresh lines : List Line) (i : ℕ) (x : Line) → i < length lines → fresh ++ lines ≡ ((fresh ++ take i lines) ++ get_or lines i x ∷ []) ++ drop (i + 1) lines
+all_lines fresh lines i x lt = cut_lines fresh lines (i + 1) ∙ ap (λ y. y ++ drop (i + 1) lines) (sym (one_line fresh lines i x lt))
 
 no_lines : (ks : List Kept) → lines_of ks ≡ [] → ks ≡ []
 no_lines [] e = refl
@@ -124,3 +145,19 @@ module _ {D : Type 0} (holds may_leave : D → List ℕ → Type 0) (d : Declara
     pub sync_leaves : (old new : D) (synced fresh : List Line) → HasLines holds may_leave d room old synced fresh → ((c : List ℕ) → may_leave new c → may_leave old c) → Elapses (moment old) (moment new) (left_since old) (left_since new) (may_leave new) → LeavesOnly moment left_since old new (FindsSome d room synced fresh)
     sync_leaves old new synced fresh h crash time =
         goes_on moment left_since old old new (FindsSome d room synced fresh) (may_leave new) (at_start old synced fresh h) time (λ c left. left_found old synced fresh h c (crash c left))
+
+    -- a run of appends goes on, and ends
+    pub run_more : (old mid new : D) (synced fresh lines : List Line) (i other : ℕ) (x : Line) → other ≡ room → i < length lines → LeavesOnly moment left_since old mid (FindsSome d room synced (fresh ++ lines)) → LeavesOnly moment left_since mid new (FindsSome d other synced ((fresh ++ take i lines) ++ get_or lines i x ∷ [])) → LeavesOnly moment left_since old new (FindsSome d room synced (fresh ++ lines))
+    run_more old mid new synced fresh lines i other x is lt first second =
+        joined moment left_since old mid new (FindsSome d room synced (fresh ++ lines)) first
+        (weaker moment left_since mid new (FindsSome d other synced ((fresh ++ take i lines) ++ get_or lines i x ∷ [])) (FindsSome d room synced (fresh ++ lines))
+        (λ c found. found_longer d room synced ((fresh ++ take i lines) ++ get_or lines i x ∷ []) (drop (i + 1) lines) (fresh ++ lines) c (all_lines fresh lines i x lt) (subst (λ r. FindsSome d r synced ((fresh ++ take i lines) ++ get_or lines i x ∷ []) c) is found)) second)
+
+    pub run_end : (old mid new : D) (synced fresh lines : List Line) (i other : ℕ) → other ≡ room → LeavesOnly moment left_since old mid (FindsSome d room synced (fresh ++ lines)) → LeavesOnly moment left_since mid new (FindsSome d other synced (fresh ++ take i lines)) → LeavesOnly moment left_since old new (FindsSome d room synced (fresh ++ lines))
+    run_end old mid new synced fresh lines i other is first second =
+        joined moment left_since old mid new (FindsSome d room synced (fresh ++ lines)) first
+        (weaker moment left_since mid new (FindsSome d other synced (fresh ++ take i lines)) (FindsSome d room synced (fresh ++ lines))
+        (λ c found. found_longer d room synced (fresh ++ take i lines) (drop i lines) (fresh ++ lines) c (cut_lines fresh lines i) (subst (λ r. FindsSome d r synced (fresh ++ take i lines) c) is found)) second)
+
+    pub run_start : (old : D) (synced fresh lines : List Line) → HasLines holds may_leave d room old synced fresh → LeavesOnly moment left_since old old (FindsSome d room synced (fresh ++ lines))
+    run_start old synced fresh lines h = weaker moment left_since old old (FindsSome d room synced fresh) (FindsSome d room synced (fresh ++ lines)) (λ c found. found_longer d room synced fresh lines (fresh ++ lines) c refl found) (at_start old synced fresh h)

@@ -9,9 +9,10 @@ use Rattle.path_lines.specs.LineTexts.{operation_names, journal_line_text}
 use Rattle.path_journal.specs.declared.version.Version.{Version}
 use Rattle.path_journal.specs.declared.version.Version.TheVariants.{Three}
 use Rattle.path_journal.specs.JournalTexts.{journal_line}
-use Rattle.path_journal.specs.CutTexts.{Kept, KeptFits, mark, kept_line, kept_text, lines_of, IsTornEnd, front_of, IsCutJournal}
+use Rattle.path_journal.specs.CutTexts.{IsNoCutJournal, Kept, KeptFits, mark, kept_line, kept_text, lines_of, IsTornEnd, front_of, IsCutJournal}
 use Rattle.path_store.specs.Devices.{IsImage, Cut, Only, Elapses, LeavesOnly}
 use Rattle.path_store.specs.Stores.{Finds, FindsSome, HasLines, IsFile}
+use Rattle.path_store.specs.Faults.{IsNoStore}
 use Rattle.path_store.proofs.Images.{image_short, image_front, cut_front}
 use Rattle.path_store.proofs.Moments.{started, goes_on, joined, weaker}
 
@@ -116,6 +117,10 @@ cut_again d b room ls bytes m c j le is =
 pub only_journal : (d : Declaration) (room : ℕ) (b : List ℕ) (ls : List Line) → (IsImage (front_of (Three room)) b → ⊥) → Finds d room b ls → (bytes : ℕ) × IsCutJournal d b (Three room) ls bytes
 only_journal d room b ls none (inl p) = absurd (none p.0)
 only_journal d room b ls none (inr p) = p
+
+pub no_store : (d : Declaration) (room : ℕ) (b : List ℕ) → (IsImage (front_of (Three room)) b → ⊥) → IsNoCutJournal d b → IsNoStore d room b
+no_store d room b torn none ls (inl p) = torn p.0
+no_store d room b torn none ls (inr p) = none (Three room) ls p.0 p.1
 
 module _ {D : Type 0} (holds may_leave : D → List ℕ → Type 0) (d : Declaration) (room : ℕ) where
   -- lines that are all on the disk

@@ -1,5 +1,8 @@
 //! Why a store can't be opened or go on.
 
+ghost use Rattle.std.specs.Prelude.{◌≡◌};
+ghost use Rattle.path_store.specs.declared.fault.StoreFault.TheVariants.{Device, Text, OutOfMemory};
+
 use crate::device::DeviceFault;
 use path_lines::TextFault;
 use path_model::OutOfMemory;
@@ -8,7 +11,8 @@ use thiserror::Error;
 /// Why a store can't be opened or go on.
 #[derive(Clone, Copy, Debug, PartialEq, Eq, Error)]
 pub enum StoreFault {
-    /// A line of the file is broken, and it isn't one that a crash left. Lines count from 0, the head too.
+    /// A line of the file is broken, and it isn't one that a crash left, or the file is too long, or there was no memory for what it
+    /// has. Lines count from 0, the head too.
     #[error("{0}")]
     Text(TextFault),
     /// The file doesn't begin with the head of a store with this room.
@@ -20,31 +24,31 @@ pub enum StoreFault {
     /// An earlier call failed, so what stands at the end of the file isn't known. Open it again.
     #[error("an earlier call failed")]
     Broken,
-    /// An allocation failed.
+    /// There was no memory to spell a line.
     #[error("out of memory")]
     OutOfMemory,
 }
 
 impl From<DeviceFault> for StoreFault {
-    fn from(fault: DeviceFault) -> StoreFault {
-        match fault {
-            DeviceFault::OutOfMemory => StoreFault::OutOfMemory,
-            fault => StoreFault::Device(fault),
-        }
-    }
-}
+    ghost from_gives = { λ fault e. e ≡ Device fault };
 
-impl From<OutOfMemory> for StoreFault {
-    fn from(_error: OutOfMemory) -> StoreFault {
-        StoreFault::OutOfMemory
+    fn from(fault: DeviceFault) -> StoreFault {
+        StoreFault::Device(fault)
     }
 }
 
 impl From<TextFault> for StoreFault {
+    ghost from_gives = { λ fault e. e ≡ Text fault };
+
     fn from(fault: TextFault) -> StoreFault {
-        match fault {
-            TextFault::OutOfMemory => StoreFault::OutOfMemory,
-            fault => StoreFault::Text(fault),
-        }
+        StoreFault::Text(fault)
+    }
+}
+
+impl From<OutOfMemory> for StoreFault {
+    ghost from_gives = { λ _ e. e ≡ OutOfMemory };
+
+    fn from(_error: OutOfMemory) -> StoreFault {
+        StoreFault::OutOfMemory
     }
 }

@@ -1,6 +1,6 @@
 //! What a crash has left of a file, and how its end is repaired.
 
-ghost use Rattle.std.specs.Prelude.{◌≡◌, ◌⊎◌, ◌≤◌, ◌++◌, [], List, ℕ, take, length, OnOk, IfOk};
+ghost use Rattle.std.specs.Prelude.{◌≡◌, ◌⊎◌, ◌≤◌, ◌++◌, [], List, ℕ, take, length, OnOk, IfOk, IfErr, IsErrOf};
 ghost use Rattle.std.specs.Bool.{OnTrue, OnFalse};
 ghost use Rattle.std.specs.String.{string_bytes};
 ghost use Rattle.path_model.specs.declared.journal.Line.{Line};
@@ -8,7 +8,8 @@ ghost use Rattle.path_model.specs.Rooms.{IsRoom};
 ghost use Rattle.path_journal.specs.declared.version.Version.TheVariants.{Three};
 ghost use Rattle.path_journal.specs.CutTexts.{front_of};
 ghost use Rattle.path_store.specs.Devices.{IsImage, Cut, Only, LeavesOnly};
-ghost use Rattle.path_store.specs.Stores.{FindsSome, IsFile, IsRecovered};
+ghost use Rattle.path_store.specs.Stores.{Finds, FindsSome, IsFile, IsRecovered};
+ghost use Rattle.path_store.specs.Faults.{IsOpenFault, IsRefusal};
 
 use crate::device::{Device, DeviceFault};
 use crate::fault::StoreFault;
@@ -43,10 +44,22 @@ fn is_image(written: &[u8], left: &[u8]) -> bool
     true
 }
 
+/// Whether this is the version of a store, with this room.
+fn is_of_room(version: Version, room: u32) -> bool
+    ensures yes { OnTrue result (version ≡ Three room) }
+    ensures no { OnFalse result (version ≡ Three room → ⊥) }
+{
+    match version {
+        Version::Three(named) => named == room,
+        _ => false,
+    }
+}
+
 /// Leaves the first bytes of a file, so many, all of them on the disk.
 fn repair<D: Device>(device: &mut D, size: usize) -> Result<(), DeviceFault>
     ensures holds { (b : List ℕ) → D.holds device.old b → size ≤ length b → OnOk result (D.holds device.new (take size b)) }
     ensures only { (b : List ℕ) → D.holds device.old b → size ≤ length b → OnOk result (Only (take size b) (D.may_leave device.new)) }
+    ensures cause { IsErrOf result DeviceFault.Failed → D.has_failed device.new }
     ensures any_moment { (b : List ℕ) → D.holds device.old b → size ≤ length b
         → LeavesOnly D.moment D.left_since device.old device.new (λ c. D.may_leave device.old c ⊎ Cut size b c) }
 {
@@ -60,6 +73,7 @@ fn repair<D: Device>(device: &mut D, size: usize) -> Result<(), DeviceFault>
 fn begin<D: Device>(device: &mut D, front: &[u8]) -> Result<(), DeviceFault>
     ensures holds { D.holds device.old [] → OnOk result (D.holds device.new front.now) }
     ensures only { D.holds device.old [] → OnOk result (Only front.now (D.may_leave device.new)) }
+    ensures cause { IsErrOf result DeviceFault.Failed → D.has_failed device.new }
     ensures any_moment { D.holds device.old [] → Only [] (D.may_leave device.old)
         → LeavesOnly D.moment D.left_since device.old device.new (IsImage front.now) }
 {
@@ -75,6 +89,10 @@ pub fn recover<A: Allocator + Copy, B: Allocator + Copy, D: Device>(
     device: &mut D,
 ) -> Result<(Vec<Line, B>, usize), StoreFault>
     requires { IsRoom room }
+    ensures found { (b : List ℕ) → D.holds device.old b → IfOk result (λ p. Finds decl.now.declaration room b p.0.items) }
+    ensures fault { (b : List ℕ) → D.holds device.old b
+        → IfErr result (λ e. IsOpenFault decl.now.declaration room b (D.has_failed device.new) e) }
+    ensures unchanged { (b : List ℕ) → D.holds device.old b → IfErr result (λ e. IsRefusal e → D.holds device.new b) }
     ensures lines { (synced fresh : List Line) → IsFile D.holds D.may_leave decl.now.declaration room device.old synced fresh
         → IfOk result (λ p. p.0.items ≡ synced ++ fresh) }
     ensures recovered { (synced fresh : List Line) → IsFile D.holds D.may_leave decl.now.declaration room device.old synced fresh
@@ -90,7 +108,7 @@ pub fn recover<A: Allocator + Copy, B: Allocator + Copy, D: Device>(
         return Ok((Vec::new(alloc), 0));
     }
     let journal = read_cut(alloc, decl, &text)?;
-    if journal.version != Version::Three(room) {
+    if !is_of_room(journal.version, room) {
         return Err(StoreFault::OtherHead);
     }
     repair(device, journal.bytes)?;

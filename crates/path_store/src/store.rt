@@ -1,12 +1,13 @@
 //! A journal that stands in a file.
 
-ghost use Rattle.std.specs.Prelude.{◌≡◌, ◌++◌, [], ◌∷◌, List, ℕ, OnOk, IfOk, IfErr};
+ghost use Rattle.std.specs.Prelude.{◌≡◌, ◌⊎◌, ◌++◌, [], ◌∷◌, List, ℕ, true, false, OnOk, OnErr, IfOk, IfErr, IsErrOf};
 ghost use Rattle.path_model.specs.declared.journal.Line.{Line};
 ghost use Rattle.path_model.specs.Declarations.{Declaration};
 ghost use Rattle.path_model.specs.Rooms.{IsRoom};
 ghost use Rattle.path_journal.specs.JournalTexts.{LineFits};
 ghost use Rattle.path_store.specs.Devices.{LeavesOnly};
-ghost use Rattle.path_store.specs.Stores.{FindsSome, IsFile, IsStored};
+ghost use Rattle.path_store.specs.Stores.{Finds, FindsSome, IsFile, IsStored};
+ghost use Rattle.path_store.specs.Faults.{IsOpenFault, IsRefusal, IsStepFault};
 
 use crate::device::Device;
 use crate::fault::StoreFault;
@@ -57,6 +58,13 @@ impl<D: Device + Drop, B: Allocator + Copy> Store<D, B> {
         device: D,
     ) -> Result<Opened<D, B>, (StoreFault, D)>
         requires { IsRoom room }
+        // The lines are those of the file, and without an error they are all.
+        ensures found { (b : List ℕ) → D.holds device b → IfOk result (λ o. Finds decl.now.declaration room b o.lines.items) }
+        ensures fault { (b : List ℕ) → D.holds device b
+            → IfErr result (λ e. IsOpenFault decl.now.declaration room b (D.has_failed e.1) e.0) }
+        ensures unchanged { (b : List ℕ) → D.holds device b → IfErr result (λ e. IsRefusal e.0 → D.holds e.1 b) }
+        ensures new { IfOk result (λ o. (o.store.room ≡ room) × (o.store.broken ≡ false)) }
+        // In what a store or a crash has left, all lines that were synced are found, and of the fresh ones those up to one of them.
         ensures lines { (synced fresh : List Line) → IsFile D.holds D.may_leave decl.now.declaration room device synced fresh
             → IfOk result (λ o. o.lines.items ≡ synced ++ fresh) }
         ensures stored { (synced fresh : List Line) → IsFile D.holds D.may_leave decl.now.declaration room device synced fresh
@@ -86,13 +94,18 @@ impl<D: Device + Drop, B: Allocator + Copy> Store<D, B> {
     /// Writes a line behind the last one. It is on the disk only after a `sync`; until then a crash may leave the file with it or without.
     /// Lines that were written one after the other are found up to one of them.
     ///
-    /// Fails with `OutOfMemory` and changes nothing, or because the device failed: then what stands behind the lines isn't known, and each
-    /// further call fails with `Broken`. One write; no memory once lines have been written that are as long.
+    /// Fails with `OutOfMemory` and changes nothing, or with `Device`: then what stands behind the lines isn't known, and each further call
+    /// fails with `Broken`. One write; no memory once lines have been written that are as long.
     pub fn append<A: Allocator + Copy>(
         &mut self,
         decl: &Decl<A>,
         line: Line,
     ) -> Result<(), StoreFault>
+        ensures fault { IfErr result (λ e. IsStepFault self.old.broken (D.has_failed self.new.device) e) }
+        ensures memory { IsErrOf result StoreFault.OutOfMemory → (self.new.device ≡ self.old.device) × (self.new.synced ≡ self.old.synced) × (self.new.broken ≡ self.old.broken) }
+        ensures broken { IfErr result (λ e. (e ≡ StoreFault.OutOfMemory) ⊎ (self.new.broken ≡ true)) }
+        ensures going_on { OnOk result (self.new.broken ≡ false) }
+        ensures room { self.new.room ≡ self.old.room }
         ensures stored { (synced fresh : List Line) → IsStored D.holds D.may_leave decl.now.declaration self.old synced fresh
             → OnOk result (IsStored D.holds D.may_leave decl.now.declaration self.new synced (fresh ++ line ∷ [])) }
         // A crash at any moment of the call leaves the lines from before it, with the new one or without.
@@ -115,6 +128,10 @@ impl<D: Device + Drop, B: Allocator + Copy> Store<D, B> {
     ///
     /// Fails if the device failed; then each further call fails with `Broken`: open the file again.
     pub fn sync(&mut self) -> Result<(), StoreFault>
+        ensures fault { IfErr result (λ e. IsStepFault self.old.broken (D.has_failed self.new.device) e) }
+        ensures broken { OnErr result (self.new.broken ≡ true) }
+        ensures going_on { OnOk result (self.new.broken ≡ false) }
+        ensures room { self.new.room ≡ self.old.room }
         ensures stored { (d : Declaration) (synced fresh : List Line) → IsStored D.holds D.may_leave d self.old synced fresh
             → OnOk result (IsStored D.holds D.may_leave d self.new (synced ++ fresh) []) }
         ensures any_moment { (d : Declaration) (synced fresh : List Line) → IsStored D.holds D.may_leave d self.old synced fresh
@@ -128,5 +145,28 @@ impl<D: Device + Drop, B: Allocator + Copy> Store<D, B> {
         self.broken = false;
         self.synced = true;
         Ok(())
+    }
+
+    /// Writes lines behind the last one, each as `append` does, and then syncs once.
+    ///
+    /// Fails as `append` and `sync` do; the lines before the one that failed are written.
+    pub fn commit<A: Allocator + Copy>(&mut self, decl: &Decl<A>, lines: &[Line]) -> Result<(), StoreFault>
+        ensures stored { (synced fresh : List Line) → IsStored D.holds D.may_leave decl.now.declaration self.old synced fresh
+            → OnOk result (IsStored D.holds D.may_leave decl.now.declaration self.new (synced ++ (fresh ++ lines.now)) []) }
+        // A crash at any moment of the call leaves all that were synced, and of the others those up to one of them.
+        ensures any_moment { (synced fresh : List Line) → IsStored D.holds D.may_leave decl.now.declaration self.old synced fresh
+            → LeavesOnly D.moment D.left_since self.old.device self.new.device (FindsSome decl.now.declaration self.old.room synced (fresh ++ lines.now)) }
+    {
+        for line in lines {
+            self.append(decl, *line)?;
+        }
+        self.sync()
+    }
+
+    /// Gives the device back.
+    pub fn into_device(self) -> D
+        ensures { result ≡ self.device }
+    {
+        self.device
     }
 }
