@@ -238,21 +238,36 @@ static inline bool wanzoche_is_over(const struct timespec *until) {
            (now.tv_sec == until->tv_sec && now.tv_nsec >= until->tv_nsec);
 }
 
+/* Start if no path forbids it now, and else answer what was answered last. Under
+** the lock. */
+static inline wanzoche_answer
+wanzoche_start_if_free(wanzoche_monitor *m, uint32_t worker, uint32_t operation,
+                       wanzoche_answer blocked) {
+    if (wanzoche_can_start(&m->system, operation).code != WANZOCHE_CAN_START)
+        return blocked;
+    return wanzoche_start_in_room(m, worker, operation);
+}
+
 /* Give way to others while there is time, and start if no path forbids it
-** then; else the lock is held without a break since the last look. Under the
-** lock. */
+** then. A lock that is taken isn't waited for meanwhile, but at the end, for
+** one look more: so the lock is held without a break since the last look. Under
+** the lock. */
 static inline wanzoche_answer
 wanzoche_give_way(wanzoche_monitor *m, uint32_t worker, uint32_t operation,
                   const struct timespec *until, wanzoche_answer blocked) {
+    wanzoche_answer a = blocked;
+    bool locked = true;
     int n;
-    for (n = 0; n < WANZOCHE_YIELDS && !wanzoche_is_over(until); n++) {
-        pthread_mutex_unlock(&m->lock);
+    for (n = 0; n < WANZOCHE_YIELDS && a.code == WANZOCHE_BLOCKED &&
+                !wanzoche_is_over(until); n++) {
+        if (locked) pthread_mutex_unlock(&m->lock);
         sched_yield();
-        pthread_mutex_lock(&m->lock);
-        if (wanzoche_can_start(&m->system, operation).code == WANZOCHE_CAN_START)
-            return wanzoche_start_in_room(m, worker, operation);
+        locked = pthread_mutex_trylock(&m->lock) == 0;
+        if (locked) a = wanzoche_start_if_free(m, worker, operation, blocked);
     }
-    return blocked;
+    if (locked) return a;
+    pthread_mutex_lock(&m->lock);
+    return wanzoche_start_if_free(m, worker, operation, blocked);
 }
 
 /* Wait and try again until another answer than WANZOCHE_BLOCKED comes, or the

@@ -3,14 +3,20 @@
 #include <sched.h>
 #include <time.h>
 
-/* The monitor's clock and its giving way are these, so that a test can say how time passes. */
+/* The monitor's clock, its giving way, its tries for the lock and its sleep are these, so that a test can say how time passes. */
 static int clock_of_test(clockid_t clock, struct timespec *now);
 static int yield_of_test(void);
+static int try_of_test(pthread_mutex_t *lock);
+static int sleep_of_test(pthread_cond_t *condition, pthread_mutex_t *lock, const struct timespec *until);
 #define clock_gettime clock_of_test
 #define sched_yield yield_of_test
+#define pthread_mutex_trylock try_of_test
+#define pthread_cond_timedwait sleep_of_test
 #include "wanzoche_monitor.h"
 #undef clock_gettime
 #undef sched_yield
+#undef pthread_mutex_trylock
+#undef pthread_cond_timedwait
 
 #include <stdio.h>
 #include <string.h>
@@ -71,11 +77,38 @@ static int clock_of_test(clockid_t clock, struct timespec *now) {
     return stands_still ? 0 : clock_gettime(clock, now);
 }
 
+/* While the lock is taken whenever it is tried, something is deposited at the last time of giving way. */
+static bool is_taken;
+static int sleeps;
+
 static int yield_of_test(void) {
-    if (!stands_still) return sched_yield();
+    if (!stands_still && !is_taken) return sched_yield();
     still.tv_nsec += 5000000;
     yields++;
+    if (is_taken && yields == WANZOCHE_YIELDS) deposit();
     return 0;
+}
+
+static int try_of_test(pthread_mutex_t *lock) {
+    return is_taken ? EBUSY : pthread_mutex_trylock(lock);
+}
+
+static int sleep_of_test(pthread_cond_t *condition, pthread_mutex_t *lock, const struct timespec *until) {
+    sleeps++;
+    return pthread_cond_timedwait(condition, lock, until);
+}
+
+/* What comes free while the lock was never to be had is seen before the thread sleeps. */
+static void a_last_look(void) {
+    open_with(SLOT, 4096);
+    is_taken = true;
+    yields = 0;
+    sleeps = 0;
+    wanzoche_answer a = wanzoche_enter(&m, 2, REMOVE, 1000);
+    is_taken = false;
+    CHECK(a.code == WANZOCHE_STARTED && yields == WANZOCHE_YIELDS && sleeps == 0);
+    CHECK(wanzoche_leave(&m, 2, a.number).code == WANZOCHE_FINISHED);
+    wanzoche_monitor_close(&m);
 }
 
 /* A limit counts from the call: ten times of giving way are its fifty milliseconds. */
@@ -317,6 +350,7 @@ int main(int arguments, char **argument) {
     (void)argument;
     closed_ones();
     limits_count_from_the_call();
+    a_last_look();
     time_limits();
     if (arguments == 1) {
         cancelled_while_waiting();
