@@ -15,7 +15,7 @@ BOOK = "resource book cell operation read, write path { read } , write end end"
 BUFFER = "resource buffer cell operation put, get path { put ; get : 8 } end path put end path get end end"
 EACH, ROUNDS, THREADS, ITEMS = 5000, 41, 4, 2000
 lock, condition, busy = threading.Lock(), threading.Condition(), [False]
-paths, buffer_paths = Paths(BOOK), Paths(BUFFER)
+paths, buffer_paths, unlogged = Paths(BOOK), Paths(BUFFER), Paths(BOOK, journal=False)
 at, record = paths._at, _native.Record()
 record_at = ctypes.addressof(record)
 
@@ -40,6 +40,12 @@ def by_condition() -> None:
 def by_paths() -> None:
     for _ in range(EACH):
         with paths("write"):
+            pass
+
+
+def by_unlogged() -> None:
+    for _ in range(EACH):
+        with unlogged("write"):
             pass
 
 
@@ -122,7 +128,9 @@ def compared(works, each: int) -> None:
 
 
 compared(
-    [("with lock", locked), ("a condition by hand", by_condition), ("with paths", by_paths), ("the library alone", library_alone)], EACH
+    [("with lock", locked), ("a condition by hand", by_condition), ("with paths", by_paths),
+     ("with paths that keep no journal", by_unlogged), ("the library alone", library_alone)],
+    EACH,
 )
 compared(
     [("asyncio's condition by hand", lambda: asyncio.run(tasks_by_condition())),

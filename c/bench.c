@@ -20,14 +20,17 @@ static double now(void) {
     return (double)t.tv_sec * 1e9 + (double)t.tv_nsec;
 }
 
-static double pairs(const char *text, uint32_t room) {
+typedef wanzoche_answer (*opening)(wanzoche *, const char *, size_t, uint32_t, char *, size_t);
+
+/* A start with its finish, the least of 2,000 rounds of as many as a journal of this room takes. */
+static double pairs(opening opens, const char *text, uint32_t room) {
     wanzoche w = WANZOCHE_CLOSED_HANDLE;
     double best = 1e18;
-    if (wanzoche_open(&w, text, strlen(text), room, NULL, 0).code != WANZOCHE_OPENED) return -1;
+    if (opens(&w, text, strlen(text), room, NULL, 0).code != WANZOCHE_OPENED) return -1;
     for (int r = 0; r < 2000; r++) {
         double began = now();
         uint32_t n = 0;
-        for (;; n++) {
+        for (; n < room / 2; n++) {
             wanzoche_answer a = wanzoche_start(&w, 1, n & 1);
             if (a.code != WANZOCHE_STARTED) break;
             wanzoche_finish(&w, 1, a.number);
@@ -106,8 +109,10 @@ int main(int arguments, char **argument) {
     int rounds = arguments > 1 ? atoi(argument[1]) : 21;
     double hand[ROUNDS], paths[ROUNDS];
     if (rounds < 1 || rounds > ROUNDS) return 2;
-    printf("a start with its finish: %.1f ns in a room of 4,096, %.1f over two paths; %.1f in one of 65,536\n", pairs(SLOT, 4096),
-           pairs(BUFFER, 4096), pairs(SLOT, 65536));
+    printf("a start with its finish: %.1f ns in a room of 4,096, %.1f over two paths; %.1f in one of 65,536\n",
+           pairs(wanzoche_open, SLOT, 4096), pairs(wanzoche_open, BUFFER, 4096), pairs(wanzoche_open, SLOT, 65536));
+    printf("without a journal: %.1f ns, %.1f over two paths\n", pairs(wanzoche_open_without_journal, SLOT, 4096),
+           pairs(wanzoche_open_without_journal, BUFFER, 4096));
     if (wanzoche_monitor_open(&monitor, BUFFER, strlen(BUFFER), 65536, NULL, 0).code != WANZOCHE_OPENED) return 1;
     for (int r = 0; r < rounds; r++) {
         hand[r] = threads(by_hand);

@@ -14,6 +14,7 @@ _Static_assert(sizeof(wanzoche_answer) == 16, "a code and a number");
 #endif
 
 wanzoche_answer path_c_open(wanzoche *, const uint8_t *, size_t, uint32_t, uint8_t *, size_t);
+wanzoche_answer path_c_open_without_journal(wanzoche *, const uint8_t *, size_t, uint32_t, uint8_t *, size_t);
 void path_c_close(wanzoche *);
 int64_t path_c_operation(wanzoche *, const uint8_t *, size_t);
 wanzoche_answer path_c_start(wanzoche *, uint32_t, uint32_t);
@@ -48,14 +49,28 @@ static uint8_t *buffer_at(char *buffer) {
     return buffer == NULL ? nothing : (uint8_t *)buffer;
 }
 
+/* An answer that a handle which isn't there is closed. */
+static wanzoche_answer no_handle(char *message, size_t size) {
+    if (message != NULL && size > 0) message[0] = 0;
+    return closed;
+}
+
 wanzoche_answer wanzoche_open(wanzoche *handle, const char *text, size_t length,
                               uint32_t room, char *message, size_t size) {
-    if (handle == NULL) {
-        if (message != NULL && size > 0) message[0] = 0;
-        return closed;
-    }
+    if (handle == NULL) return no_handle(message, size);
     return path_c_open(handle, text_at(text), length_of(text, length), room,
                        buffer_at(message), length_of(message, size));
+}
+
+wanzoche_answer wanzoche_open_without_journal(wanzoche *handle,
+                                              const char *text, size_t length,
+                                              uint32_t room, char *message,
+                                              size_t size) {
+    if (handle == NULL) return no_handle(message, size);
+    return path_c_open_without_journal(handle, text_at(text),
+                                       length_of(text, length), room,
+                                       buffer_at(message),
+                                       length_of(message, size));
 }
 
 void wanzoche_close(wanzoche *handle) {
@@ -213,6 +228,7 @@ const char *wanzoche_words(uint32_t code) {
     case WANZOCHE_JOURNAL_TOO_LONG: return "journal too long";
     case WANZOCHE_BAD_LINE: return "bad line";
     case WANZOCHE_UNDECLARED_LINE: return "undeclared in line";
+    case WANZOCHE_NO_JOURNAL: return "no journal";
     case WANZOCHE_TOO_LONG: return "text too long";
     case WANZOCHE_BAD_BYTE: return "bad byte";
     case WANZOCHE_WORD_TOO_LONG: return "word too long";

@@ -48,10 +48,11 @@
 ** do.
 **
 ** MEMORY. A call allocates by the program's malloc, realloc and free, and
-** only these calls do: wanzoche_open, wanzoche_journal, wanzoche_report,
-** wanzoche_declaration and wanzoche_audit. If it gets no memory it answers
-** WANZOCHE_OUT_OF_MEMORY, keeps nothing, and the handle is as it was. A
-** start, a use, a finish and a rotation never lack memory.
+** only these calls do: wanzoche_open, wanzoche_open_without_journal,
+** wanzoche_journal, wanzoche_report, wanzoche_declaration and wanzoche_audit.
+** If it gets no memory it answers WANZOCHE_OUT_OF_MEMORY, keeps nothing, and
+** the handle is as it was. A start, a use, a finish and a rotation never lack
+** memory.
 **
 ** TEXTS. A text that comes in is a pointer and a length, need not end with a
 ** zero byte, and isn't kept. A text that goes out ends with a zero byte,
@@ -146,6 +147,7 @@ enum {
     WANZOCHE_ALREADY_OPEN = 20,      /* the handle is open, and stays so */
     WANZOCHE_BAD_ROOM = 21,          /* the room is 0 or above the most */
     WANZOCHE_OUT_OF_MEMORY = 22,     /* an allocation failed */
+    WANZOCHE_NO_JOURNAL = 28,        /* the handle keeps no lines */
 
     /* Verdicts on a journal, and why it isn't one; number: the line, from 0 */
     WANZOCHE_SOUND = 23,             /* each reply was owed; no number */
@@ -219,6 +221,29 @@ wanzoche_answer wanzoche_open(wanzoche *handle, const char *text, size_t length,
                               uint32_t room, char *message, size_t size);
 
 /*
+** Open a handle as wanzoche_open does, with the same answers and messages, but
+** without a journal: for a service that keeps no log. A start and a finish
+** are quicker, and no rotation is needed.
+**
+** The room is that of what is live, 1 to WANZOCHE_MOST_LINES: at most room - 1
+** activations at once. Only a start beyond these is answered by
+** WANZOCHE_NO_ROOM, and a start after 4,294,967,295 others. All memory is
+** taken now: for each place of the room 32 bytes, and for each queue its
+** capacity.
+**
+** Starts, uses and finishes get the same replies as with a journal that has
+** room for them. wanzoche_report, wanzoche_list_live, wanzoche_can_start and
+** all other calls answer as ever, but for what needs lines:
+** wanzoche_journal answers WANZOCHE_NO_JOURNAL, and wanzoche_lines is 0.
+** wanzoche_rotate answers WANZOCHE_ROTATED and changes nothing. What happened
+** can't be audited or explained afterwards.
+*/
+wanzoche_answer wanzoche_open_without_journal(wanzoche *handle,
+                                              const char *text, size_t length,
+                                              uint32_t room, char *message,
+                                              size_t size);
+
+/*
 ** Close a handle, and give all its memory back, whatever is live. A handle
 ** that is closed or null stays so: a second close does nothing. A closed
 ** handle may be opened again.
@@ -244,7 +269,8 @@ int64_t wanzoche_operation(wanzoche *handle, const char *name, size_t length);
 **                   forbidden until something finishes
 ** WANZOCHE_UNKNOWN_OPERATION, WANZOCHE_CLOSED
 ** WANZOCHE_NO_ROOM  the journal hasn't two places left, for this line and its
-**                   finish, or 4,294,967,295 starts were admitted
+**                   finish, or 4,294,967,295 starts were admitted; without a
+**                   journal: as many activations are live as there may be
 */
 wanzoche_answer wanzoche_start(wanzoche *handle, uint32_t worker,
                                uint32_t operation);
@@ -313,7 +339,8 @@ wanzoche_answer wanzoche_can_start(wanzoche *handle, uint32_t operation);
 /*
 ** How many lines the journal has, how many activations are live, and how many
 ** places of the room are left beside those of the lines and of the finishes
-** to come: a start needs two, and a use one. 0 if the handle is closed.
+** to come: a start needs two, and a use one. 0 if the handle is closed. Without
+** a journal there are no lines.
 */
 size_t wanzoche_lines(wanzoche *handle);
 uint32_t wanzoche_live(wanzoche *handle);
@@ -342,6 +369,8 @@ uint32_t wanzoche_list_live(wanzoche *handle, wanzoche_activation *list,
 ** WANZOCHE_WRITTEN   the text and a zero byte are in the buffer
 ** WANZOCHE_TOO_SMALL the text and a zero byte need number + 1 bytes, and the
 **                    buffer is as it was
+** WANZOCHE_NO_JOURNAL the handle was opened without one; the buffer is as it
+**                    was
 ** WANZOCHE_OUT_OF_MEMORY, WANZOCHE_CLOSED; the buffer is as it was
 **
 ** A null buffer has no bytes. The system is as it was. The cost is that of the
@@ -371,7 +400,8 @@ wanzoche_answer wanzoche_rotate_at(wanzoche *handle, size_t lines,
                                    uint64_t *rotations);
 
 /*
-** Write a report to a buffer, with the answers of wanzoche_journal: a line
+** Write a report to a buffer, with the answers of wanzoche_journal but for
+** WANZOCHE_NO_JOURNAL: a line
 ** `startable` with the operations that can be started, a line `blocked NAME P`
 ** for each other one with the first path that forbids it, a line
 ** `live A W NAME` for each live activation with its number and its worker, and
@@ -382,7 +412,7 @@ wanzoche_answer wanzoche_report(wanzoche *handle, char *buffer, size_t size);
 
 /*
 ** Write the text of the declaration to a buffer, with the answers of
-** wanzoche_journal: one line with its line feed, the words and signs in their
+** wanzoche_report: one line with its line feed, the words and signs in their
 ** order, with parentheses only where they are needed, and a space between two
 ** but none before `,`, `;` and `:`. So path P is what stands between the word
 ** `path` with P others before it and the next `end`.

@@ -29,7 +29,8 @@
 ** opening, and else drops them. `log` is called under the lock, in a thread
 ** that can't be cancelled meanwhile: it is quick, returns, calls nothing of
 ** this monitor, and may be null. If there is no memory for the text, the lines
-** stay, and the call answers WANZOCHE_OUT_OF_MEMORY.
+** stay, and the call answers WANZOCHE_OUT_OF_MEMORY. A monitor that was opened
+** without a journal needs no rotation, and calls no log.
 **
 ** FORKS. After a fork the monitor is only used in the parent.
 */
@@ -106,25 +107,23 @@ static inline bool wanzoche_open_queues(wanzoche_monitor *m) {
     return false;
 }
 
-/*
-** Open a monitor, whatever bytes it has: as wanzoche_open, and with
-** WANZOCHE_OUT_OF_MEMORY and an empty message if there is no lock to be had. A
-** monitor that is open must not be opened again. Unless it answers
-** WANZOCHE_OPENED, the monitor is closed.
-*/
+/* Open a monitor, with a journal or without. */
 static inline wanzoche_answer
-wanzoche_monitor_open(wanzoche_monitor *m, const char *text, size_t length,
-                      uint32_t room, char *message, size_t size) {
+wanzoche_open_monitor(wanzoche_monitor *m, const char *text, size_t length,
+                      uint32_t room, char *message, size_t size, bool journal) {
     const wanzoche_answer no_memory = {WANZOCHE_OUT_OF_MEMORY, 0};
     const wanzoche nothing = WANZOCHE_CLOSED_HANDLE;
+    wanzoche_answer (*opens)(wanzoche *, const char *, size_t, uint32_t, char *,
+                             size_t) =
+        journal ? wanzoche_open : wanzoche_open_without_journal;
     wanzoche_answer a;
-    if (m == NULL) return wanzoche_open(NULL, text, length, room, message, size);
+    if (m == NULL) return opens(NULL, text, length, room, message, size);
     m->system = nothing;
     m->operations = 0;
     m->waiting = 0;
     m->log = NULL;
     m->log_for = NULL;
-    a = wanzoche_open(&m->system, text, length, room, message, size);
+    a = opens(&m->system, text, length, room, message, size);
     if (a.code != WANZOCHE_OPENED) return a;
     m->operations = wanzoche_operations(&m->system);
     if (pthread_mutex_init(&m->lock, NULL) == 0) {
@@ -134,6 +133,29 @@ wanzoche_monitor_open(wanzoche_monitor *m, const char *text, size_t length,
     wanzoche_close(&m->system);
     m->operations = 0;
     return no_memory;
+}
+
+/*
+** Open a monitor, whatever bytes it has: as wanzoche_open, and with
+** WANZOCHE_OUT_OF_MEMORY and an empty message if there is no lock to be had. A
+** monitor that is open must not be opened again. Unless it answers
+** WANZOCHE_OPENED, the monitor is closed.
+*/
+static inline wanzoche_answer
+wanzoche_monitor_open(wanzoche_monitor *m, const char *text, size_t length,
+                      uint32_t room, char *message, size_t size) {
+    return wanzoche_open_monitor(m, text, length, room, message, size, true);
+}
+
+/*
+** The same without a journal: as wanzoche_open_without_journal. There are no
+** lines to hand over, so `log` stays null.
+*/
+static inline wanzoche_answer
+wanzoche_monitor_open_without_journal(wanzoche_monitor *m, const char *text,
+                                      size_t length, uint32_t room,
+                                      char *message, size_t size) {
+    return wanzoche_open_monitor(m, text, length, room, message, size, false);
 }
 
 /*
@@ -306,8 +328,8 @@ wanzoche_wait(wanzoche_monitor *m, uint32_t worker, uint32_t operation,
 **                   start at last
 ** WANZOCHE_UNKNOWN_OPERATION, WANZOCHE_CLOSED
 ** WANZOCHE_OUT_OF_MEMORY  no memory for the text of the lines
-** WANZOCHE_NO_ROOM  more activations are live than the room has places for, or
-**                   4,294,967,295 starts were admitted
+** WANZOCHE_NO_ROOM  more activations would be live than the room has places
+**                   for, or 4,294,967,295 starts were admitted
 */
 static inline wanzoche_answer wanzoche_enter(wanzoche_monitor *m, uint32_t worker,
                                              uint32_t operation,
@@ -381,7 +403,8 @@ static inline wanzoche_answer wanzoche_monitor_use(wanzoche_monitor *m,
 }
 
 /*
-** The report and the journal, as wanzoche_report and wanzoche_journal.
+** The report and the journal, as wanzoche_report and wanzoche_journal. Without
+** a journal the second answers WANZOCHE_NO_JOURNAL.
 */
 static inline wanzoche_answer wanzoche_monitor_report(wanzoche_monitor *m,
                                                       char *buffer, size_t size) {
@@ -409,6 +432,7 @@ static inline wanzoche_answer wanzoche_monitor_journal(wanzoche_monitor *m,
 ** Hand the lines to the log and rotate now, as at the end of a file.
 **
 ** WANZOCHE_ROTATED, WANZOCHE_OUT_OF_MEMORY, WANZOCHE_CLOSED
+** WANZOCHE_NO_JOURNAL  there is a log, but no journal
 */
 static inline wanzoche_answer wanzoche_monitor_rotate(wanzoche_monitor *m) {
     const wanzoche_answer closed = {WANZOCHE_CLOSED, 0};

@@ -309,6 +309,68 @@ static void rotations(void) {
     wanzoche_close(&w);
 }
 
+/* How a handle is opened. */
+typedef wanzoche_answer (*opening)(wanzoche *, const char *, size_t, uint32_t, char *, size_t);
+
+/* Attempts of each kind, and what is seen of the system behind them. */
+static void attempts(opening opens, wanzoche_answer *answers, char *report, size_t size) {
+    wanzoche w = WANZOCHE_CLOSED_HANDLE;
+    CHECK(is(opens(&w, THREE, strlen(THREE), 64, NULL, 0), WANZOCHE_OPENED, 0));
+    answers[0] = wanzoche_start(&w, 1, 2);
+    answers[1] = wanzoche_use(&w, 1, 0, WANZOCHE_ADD, 5);
+    answers[2] = wanzoche_use(&w, 1, 0, WANZOCHE_PUT, 5);
+    answers[3] = wanzoche_start(&w, 2, 3);
+    answers[4] = wanzoche_start(&w, 3, 4);
+    answers[5] = wanzoche_use(&w, 2, 1, WANZOCHE_PUT, 8);
+    answers[6] = wanzoche_finish(&w, 1, 1);
+    answers[7] = wanzoche_finish(&w, 2, 1);
+    answers[8] = wanzoche_finish(&w, 2, 1);
+    answers[9] = wanzoche_start(&w, 3, 5);
+    answers[10] = wanzoche_can_start(&w, 4);
+    CHECK(wanzoche_report(&w, report, size).code == WANZOCHE_WRITTEN);
+    wanzoche_close(&w);
+}
+
+/* Without a journal each attempt gets the same answer, and what is live takes the room alone. */
+static void without_journal(void) {
+    wanzoche w = WANZOCHE_CLOSED_HANDLE;
+    wanzoche_answer with[11], without[11];
+    wanzoche_activation list[3];
+    char report[256], same[256], why[WANZOCHE_MESSAGE] = "?", text[8] = "xxxxxxx";
+    uint64_t rotated = 5;
+    attempts(wanzoche_open, with, report, sizeof report);
+    attempts(wanzoche_open_without_journal, without, same, sizeof same);
+    for (int n = 0; n < 11; n++) CHECK(is(without[n], with[n].code, with[n].number));
+    CHECK(!strcmp(report, same));
+    CHECK(is(wanzoche_open_without_journal(&w, THREE, strlen(THREE), 3, why, sizeof why), WANZOCHE_OPENED, 0) && why[0] == 0);
+    CHECK(wanzoche_operations(&w) == 5 && wanzoche_operation(&w, "look1", 5) == 1 && wanzoche_room_left(&w) == 3);
+    for (uint64_t n = 0; n < 1000; n++) {
+        CHECK(is(wanzoche_start(&w, 1, 0), WANZOCHE_STARTED, n));
+        CHECK(is(wanzoche_use(&w, 1, n, WANZOCHE_PUT, n), WANZOCHE_USED, n == 0 ? 0 : n - 1));
+        CHECK(is(wanzoche_finish(&w, 1, n), WANZOCHE_FINISHED, 0) && is(wanzoche_finish(&w, 1, n), WANZOCHE_STALE, 0));
+    }
+    CHECK(is(wanzoche_start(&w, 7, 1), WANZOCHE_STARTED, 1000) && is(wanzoche_start(&w, 8, 3), WANZOCHE_STARTED, 1001));
+    CHECK(is(wanzoche_start(&w, 9, 0), WANZOCHE_NO_ROOM, 0) && is(wanzoche_can_start(&w, 0), WANZOCHE_CAN_START, 0));
+    CHECK(is(wanzoche_use(&w, 8, 1001, WANZOCHE_TAKE, 0), WANZOCHE_EMPTY, 0) && is(wanzoche_finish(&w, 9, 1001), WANZOCHE_NOT_YOURS, 0));
+    CHECK(wanzoche_live(&w) == 2 && wanzoche_lines(&w) == 0 && wanzoche_room_left(&w) == 1);
+    CHECK(wanzoche_list_live(&w, list, 3) == 2 && is_live(list[0], 1000, 7, 1) && is_live(list[1], 1001, 8, 3));
+    CHECK(is(wanzoche_journal(&w, text, sizeof text), WANZOCHE_NO_JOURNAL, 0) && !strcmp(text, "xxxxxxx"));
+    CHECK(is(wanzoche_rotate(&w), WANZOCHE_ROTATED, 0) && is(wanzoche_rotate_at(&w, 1, &rotated), WANZOCHE_TOO_SMALL, 0));
+    CHECK(is(wanzoche_rotate_at(&w, 0, &rotated), WANZOCHE_ROTATED, 0) && rotated == 6 && wanzoche_live(&w) == 2);
+    CHECK(is(wanzoche_declaration(&w, text, sizeof text), WANZOCHE_TOO_SMALL, 144));
+    CHECK(is(open_with(&w, SLOT, 64, why), WANZOCHE_ALREADY_OPEN, 0));
+    CHECK(is(wanzoche_open_without_journal(&w, SLOT, strlen(SLOT), 64, why, sizeof why), WANZOCHE_ALREADY_OPEN, 0));
+    CHECK(is(wanzoche_finish(&w, 7, 1000), WANZOCHE_FINISHED, 0) && is(wanzoche_start(&w, 9, 0), WANZOCHE_STARTED, 1002));
+    wanzoche_close(&w);
+    CHECK(is(wanzoche_start(&w, 9, 0), WANZOCHE_CLOSED, 0));
+    CHECK(is(wanzoche_open_without_journal(&w, SLOT, strlen(SLOT), 0, why, sizeof why), WANZOCHE_BAD_ROOM, 0) && !strcmp(why, "bad room"));
+    CHECK(is(wanzoche_open_without_journal(&w, "resource", 8, 4, why, sizeof why), WANZOCHE_UNEXPECTED, 8) && !strcmp(why, "unexpected at 8"));
+    CHECK(is(wanzoche_open_without_journal(NULL, SLOT, strlen(SLOT), 64, why, sizeof why), WANZOCHE_CLOSED, 0) && why[0] == 0);
+    CHECK(is(wanzoche_open_without_journal(&w, SLOT, strlen(SLOT), 1, NULL, 0), WANZOCHE_OPENED, 0));
+    CHECK(is(wanzoche_start(&w, 1, 0), WANZOCHE_NO_ROOM, 0) && is(wanzoche_finish(&w, 1, 0), WANZOCHE_STALE, 0));
+    wanzoche_close(&w);
+}
+
 static wanzoche_answer audited(const char *text, char *why) {
     return wanzoche_audit(SLOT, strlen(SLOT), 4096, text, strlen(text), why, WANZOCHE_MESSAGE);
 }
@@ -402,7 +464,7 @@ static void replies(void) {
 static void words(void) {
     CHECK(!strcmp(wanzoche_words(WANZOCHE_BLOCKED), "blocked") && !strcmp(wanzoche_words(46), "no such code"));
     for (uint32_t code = 0; code <= WANZOCHE_TOO_MANY; code++)
-        CHECK((code > WANZOCHE_UNDECLARED_LINE && code < WANZOCHE_TOO_LONG) == !strcmp(wanzoche_words(code), "no such code"));
+        CHECK((code > WANZOCHE_NO_JOURNAL && code < WANZOCHE_TOO_LONG) == !strcmp(wanzoche_words(code), "no such code"));
 }
 
 int main(void) {
@@ -417,6 +479,7 @@ int main(void) {
     messages();
     buffers();
     rotations();
+    without_journal();
     audits();
     forks();
     replies();

@@ -71,12 +71,51 @@ static int messages(void) {
     }
 }
 
+static wanzoche_answer opens_without_journal(void) {
+    return wanzoche_open_without_journal(&w, SLOT, strlen(SLOT), 64, NULL, 0);
+}
+
+typedef wanzoche_answer (*opening)(wanzoche *, const char *, size_t, uint32_t, char *, size_t);
+
 /* How many bytes an opening asks for, in this room. */
-static long asks_for(uint32_t room) {
+static long asks_for(opening open, uint32_t room) {
     bytes = 0;
-    wanzoche_open(&w, SLOT, strlen(SLOT), room, NULL, 0);
+    open(&w, SLOT, strlen(SLOT), room, NULL, 0);
     wanzoche_close(&w);
     return bytes;
+}
+
+/* How many it asks for, for each place of the room. */
+static long for_a_place(opening open) {
+    return (asks_for(open, 1048576) - asks_for(open, 524288)) / 524288;
+}
+
+/* Starts, uses, finishes and rotations, and what can be asked in between: whether an answer is wrong. */
+static int steps(bool has_lines) {
+    int bad = 0;
+    for (int n = 0; n < 100; n++) {
+        wanzoche_answer a = wanzoche_start(&w, 1, 0);
+        bad |= a.code != WANZOCHE_STARTED || wanzoche_use(&w, 1, a.number, WANZOCHE_PUT, 5).code != WANZOCHE_USED ||
+               wanzoche_finish(&w, 1, a.number).code != WANZOCHE_FINISHED;
+        a = wanzoche_start(&w, 1, 1);
+        bad |= wanzoche_can_start(&w, 0).code != WANZOCHE_BLOCKED || wanzoche_operation(&w, "get", 3) != 3;
+        bad |= wanzoche_live(&w) != 1 || (wanzoche_lines(&w) > 0) != has_lines || wanzoche_room_left(&w) == 0;
+        bad |= wanzoche_finish(&w, 1, a.number).code != WANZOCHE_FINISHED;
+        if (n < 99) bad |= wanzoche_rotate(&w).code != WANZOCHE_ROTATED;
+    }
+    return bad;
+}
+
+/* The same, of which nothing asks for memory. */
+static int steps_take_none(bool has_lines) {
+    long before = blocks;
+    int bad;
+    asked = 0;
+    left = 0;
+    bad = steps(has_lines);
+    left = -1;
+    if (bad || asked != 0 || blocks != before) printf("steps asked for memory %ld times\n", asked), bad = 1;
+    return bad;
 }
 
 static wanzoche_answer journals(void) {
@@ -116,24 +155,15 @@ static int each_in_turn(const char *name, wanzoche_answer (*call)(void), uint32_
 int main(void) {
     int bad = messages();
     if (bad) printf("a message isn't as it should be\n");
-    long of_a_line = (asks_for(1048576) - asks_for(524288)) / 524288;
-    if (of_a_line != 144) printf("%ld bytes for a line of the room\n", of_a_line), bad = 1;
+    long with = for_a_place(wanzoche_open), without = for_a_place(wanzoche_open_without_journal);
+    if (with != 144 || without != 32) printf("%ld and %ld bytes for a place of the room\n", with, without), bad = 1;
+    bad |= each_in_turn("open without a journal", opens_without_journal, WANZOCHE_OPENED);
+    bad |= steps_take_none(false);
+    bad |= wanzoche_journal(&w, text, sizeof text).code != WANZOCHE_NO_JOURNAL || asked != 0;
+    bad |= each_in_turn("report without a journal", reports, WANZOCHE_WRITTEN);
+    wanzoche_close(&w);
     bad |= each_in_turn("open", opens, WANZOCHE_OPENED);
-    long opened = blocks;
-    asked = 0;
-    left = 0;
-    for (int n = 0; n < 100; n++) {
-        wanzoche_answer a = wanzoche_start(&w, 1, 0);
-        bad |= a.code != WANZOCHE_STARTED || wanzoche_use(&w, 1, a.number, WANZOCHE_PUT, 5).code != WANZOCHE_USED ||
-               wanzoche_finish(&w, 1, a.number).code != WANZOCHE_FINISHED;
-        a = wanzoche_start(&w, 1, 1);
-        bad |= wanzoche_can_start(&w, 0).code != WANZOCHE_BLOCKED || wanzoche_operation(&w, "get", 3) != 3;
-        bad |= wanzoche_live(&w) != 1 || wanzoche_lines(&w) == 0 || wanzoche_room_left(&w) == 0;
-        bad |= wanzoche_finish(&w, 1, a.number).code != WANZOCHE_FINISHED;
-        if (n < 99) bad |= wanzoche_rotate(&w).code != WANZOCHE_ROTATED;
-    }
-    left = -1;
-    if (bad || asked != 0 || blocks != opened) printf("steps asked for memory %ld times\n", asked), bad = 1;
+    bad |= steps_take_none(true);
     bad |= each_in_turn("journal", journals, WANZOCHE_WRITTEN);
     text_length = (long)wanzoche_journal(&w, text, sizeof text).number;
     bad |= text_length == 0;

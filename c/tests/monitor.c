@@ -345,6 +345,29 @@ static void the_log(void) {
     wanzoche_monitor_close(&m);
 }
 
+/* Without a journal nothing has to be rotated, and there are no lines to hand over. */
+static void without_journal(void) {
+    char text[64];
+    CHECK(wanzoche_monitor_open_without_journal(&m, SLOT, strlen(SLOT), 2, NULL, 0).code == WANZOCHE_OPENED);
+    for (int n = 0; n < 200; n++) {
+        wanzoche_answer a = wanzoche_enter(&m, 1, n % 2, -1);
+        CHECK(a.code == WANZOCHE_STARTED && a.number == (uint64_t)n);
+        CHECK(wanzoche_monitor_use(&m, 1, a.number, n % 2 ? WANZOCHE_LOOK : WANZOCHE_PUT, 7).code == WANZOCHE_USED);
+        CHECK(wanzoche_enter(&m, 2, n % 2, 0).code == WANZOCHE_NO_ROOM);
+        CHECK(wanzoche_leave(&m, 1, a.number).code == WANZOCHE_FINISHED);
+    }
+    CHECK(wanzoche_monitor_report(&m, text, sizeof text).code == WANZOCHE_WRITTEN);
+    CHECK(!strcmp(text, "startable deposit\nblocked remove 0\nfrozen no\n"));
+    CHECK(wanzoche_monitor_journal(&m, text, sizeof text).code == WANZOCHE_NO_JOURNAL);
+    CHECK(wanzoche_monitor_rotate(&m).code == WANZOCHE_ROTATED);
+    m.log = keep;
+    CHECK(wanzoche_monitor_rotate(&m).code == WANZOCHE_NO_JOURNAL);
+    wanzoche_monitor_close(&m);
+    CHECK(wanzoche_monitor_open_without_journal(NULL, SLOT, strlen(SLOT), 2, NULL, 0).code == WANZOCHE_CLOSED);
+    CHECK(wanzoche_monitor_open_without_journal(&m, "resource", 8, 2, NULL, 0).code == WANZOCHE_UNEXPECTED);
+    CHECK(wanzoche_enter(&m, 1, DEPOSIT, 0).code == WANZOCHE_CLOSED);
+}
+
 /* With an argument no thread is cancelled: the thread sanitizer doesn't follow one that is. */
 int main(int arguments, char **argument) {
     (void)argument;
@@ -361,6 +384,7 @@ int main(int arguments, char **argument) {
     one_leave_for_three();
     handles_apart();
     the_log();
+    without_journal();
     printf("monitor: %d failures\n", failures);
     return failures != 0;
 }

@@ -10,7 +10,20 @@ import unittest
 import weakref
 
 import wanzoche
-from wanzoche import Closed, DeclarationError, Forked, JournalError, NotInProgress, OutOfRoom, Paths, Timeout, UnknownOperation, UseRefused
+from wanzoche import (
+    Blocked,
+    Closed,
+    DeclarationError,
+    Forked,
+    JournalError,
+    NoJournal,
+    NotInProgress,
+    OutOfRoom,
+    Paths,
+    Timeout,
+    UnknownOperation,
+    UseRefused,
+)
 
 from .declarations import BOOK, LINE, SLOT
 
@@ -195,6 +208,7 @@ class Exceptions(unittest.TestCase):
             lambda: Paths(SLOT)("deposit").leave(),
             takes_nothing,
             lambda: Paths(SLOT, room=1).enter("deposit"),
+            lambda: Paths(SLOT, journal=False).journal(),
         ):
             with self.assertRaises(wanzoche.WanzocheError) as caught:
                 call()
@@ -211,7 +225,7 @@ class Exceptions(unittest.TestCase):
             for other in (copy.copy(error), copy.deepcopy(error), pickle.loads(pickle.dumps(error))):
                 self.assertIs(type(other), type(error))
                 self.assertEqual((str(other), other.args, other.__dict__), (str(error), error.args, error.__dict__))
-        self.assertEqual(len(kinds), 10)
+        self.assertEqual(len(kinds), 11)
 
     def test_another_process(self):
         with concurrent.futures.ProcessPoolExecutor(1, multiprocessing.get_context("spawn")) as pool:
@@ -327,6 +341,43 @@ class Texts(unittest.TestCase):
             wanzoche.audit(SLOT, "1 start steal: blocked 0\n")
         with self.assertRaises(DeclarationError):
             wanzoche.audit("resource", "")
+
+
+class WithoutJournal(unittest.TestCase):
+    def test_no_line_is_kept_and_all_else_is_the_same(self):
+        kept, paths = Paths(LINE, room=64), Paths(LINE, room=3, journal=False)
+        for each in (kept, paths):
+            for number in range(8):
+                with each("put") as entry:
+                    self.assertEqual(entry.put(number), number + 1)
+            with each("get") as entry:
+                self.assertEqual(entry.take(), 0)
+            self.assertEqual(str(each.report()), "startable put get\nfrozen no\n")
+            with each("put"):
+                with self.assertRaisesRegex(Blocked, "^put is blocked: path 0 of line: { put ; get : 8 }; in progress: put by thread 1$"):
+                    raise each.why("put")
+        self.assertEqual(kept.journal().count("\n"), 29)
+        with self.assertRaisesRegex(NoJournal, "^these paths were opened without a journal$"):
+            paths.journal()
+        with self.assertRaises(NoJournal):
+            paths.audit()
+        self.assertTrue(paths.audit(kept.journal()))
+        paths.rotate()
+
+    def test_the_room_is_that_of_what_is_in_progress(self):
+        paths = Paths("resource book cell operation read path { read } end end", room=3, journal=False)
+        for _ in range(100):
+            with paths("read"), paths("read"):
+                with self.assertRaisesRegex(OutOfRoom, "^no room for read: 2 in progress, in a room of 3$"):
+                    paths.enter("read")
+
+    def test_bad_openings_are_refused(self):
+        with self.assertRaisesRegex(ValueError, "^without a journal there are no lines for a log$"):
+            Paths(SLOT, journal=False, log=[])
+        with self.assertRaises(ValueError):
+            Paths(SLOT, journal=False, room=0)
+        with self.assertRaises(DeclarationError):
+            Paths("resource", journal=False)
 
 
 class Ends(unittest.TestCase):

@@ -67,7 +67,7 @@ def admitted(operation: Operation, code: int, worker: int) -> bool:
         raise in_use(operation)
     if code == native.NO_ROOM:
         running = native.live(paths._at)
-        raise OutOfRoom("no room for {}: {} in progress, in a room of {} lines".format(operation._name, running, paths._room))
+        raise OutOfRoom("no room for {}: {} in progress, in a room of {}".format(operation._name, running, paths._room))
     if code == native.CLOSED:
         raise paths._closed()
     return code == native.STARTED

@@ -49,6 +49,10 @@ class JournalError(WanzocheError, ValueError):
         super().__init__("{} {}, which is line {} counted from 1:\n  {}".format(why, number, self.line, shown))
 
 
+class NoJournal(WanzocheError):
+    """The paths were opened without a journal."""
+
+
 class UnknownOperation(WanzocheError, LookupError):
     """No operation of this name is declared."""
 

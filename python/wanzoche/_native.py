@@ -60,6 +60,7 @@ WRONG_LINE = 24
 JOURNAL_TOO_LONG = 25
 BAD_LINE = 26
 UNDECLARED_LINE = 27
+NO_JOURNAL = 28
 TOO_LONG = 32
 TOO_MANY = 45
 
@@ -127,5 +128,8 @@ journal = _declared(_in_turn, "journal", Answer, c_void_p, c_char_p, c_size_t)
 report = _declared(_in_turn, "report", Answer, c_void_p, c_char_p, c_size_t)
 declaration = _declared(_in_turn, "declaration", Answer, c_void_p, c_char_p, c_size_t)
 open = _declared(_aside, "open", Answer, c_void_p, c_char_p, c_size_t, c_uint32, c_char_p, c_size_t)
+open_without_journal = _declared(
+    _aside, "open_without_journal", Answer, c_void_p, c_char_p, c_size_t, c_uint32, c_char_p, c_size_t
+)
 audit = _declared(_aside, "audit", Answer, c_char_p, c_size_t, c_uint32, c_char_p, c_size_t, c_char_p, c_size_t)
 words = _declared(_aside, "words", c_char_p, c_uint32)

@@ -16,7 +16,7 @@ from typing import Any, Awaitable, Callable, Dict, List, Optional, Tuple, Type, 
 
 from . import _native as native
 from ._entries import AsyncEntry, Calls, Entry, System
-from ._errors import Blocked, Closed, DeclarationError, Forked, JournalError, UnknownOperation
+from ._errors import Blocked, Closed, DeclarationError, Forked, JournalError, NoJournal, UnknownOperation
 from ._texts import TASKS, Path, Report, Verdict, read_declaration, read_report
 from ._waiting import Queues
 
@@ -39,17 +39,24 @@ class Paths(System):
     Whoever needs room waits while it is called, so it has to be quick, and it starts and leaves nothing itself. If it raises, nothing is
     rotated, whoever needed the room gets the exception, and the log gets these lines again the next time.
 
+    With `journal=False` no lines are kept, for a service that wants no log: entries are a little quicker, and nothing is rotated. Then
+    `room` is that of what is in progress, one operation less than it says, and `journal()`, and `audit()` without a text, raise `NoJournal`.
+    All else is the same: also `report()`, `why(..)` and `audit(text)`.
+
     All methods may be called by any thread, by a signal handler and by a finalizer. Raises `DeclarationError` if the text isn't a
-    declaration, and `ValueError` for a bad room.
+    declaration, and `ValueError` for a bad room or for a log without a journal.
     """
 
-    def __init__(self, text: Union[str, bytes], *, room: int = 65536, log: Optional[Log] = None) -> None:
+    def __init__(self, text: Union[str, bytes], *, room: int = 65536, log: Optional[Log] = None, journal: bool = True) -> None:
         source = text.encode() if isinstance(text, str) else bytes(text)
         if not 0 < room <= native.MOST_LINES:
             raise ValueError("the room is 1 to 1,048,576 lines, not {}".format(room))
+        if log is not None and not journal:
+            raise ValueError("without a journal there are no lines for a log")
         handle = native.Handle()
         message = ctypes.create_string_buffer(native.MESSAGE)
-        answer = native.open(ctypes.addressof(handle), source, len(source), room, message, len(message))
+        opens = native.open if journal else native.open_without_journal
+        answer = opens(ctypes.addressof(handle), source, len(source), room, message, len(message))
         if answer.code == native.OUT_OF_MEMORY:
             raise MemoryError("no memory for a system with room for {} lines".format(room))
         if answer.code != native.OPENED:
@@ -160,11 +167,11 @@ class Paths(System):
 
     def journal(self) -> str:
         """The lines that the log hasn't got, since the last rotation, as a text: one for each start, use and finish, and for each that
-        was refused."""
+        was refused. Raises `NoJournal` if none are kept."""
         return self._unlogged()[0]
 
     def rotate(self) -> None:
-        """Gives the lines so far to the log, and counts the room anew."""
+        """Gives the lines so far to the log, and counts the room anew. Without a journal it does nothing."""
         self._rotate(None)
 
     def audit(self, text: Optional[str] = None, room: int = native.MOST_LINES) -> Verdict:
@@ -172,7 +179,8 @@ class Paths(System):
 
         Without a text it is the journal of these paths; after a rotation that is only the end of one, and `ValueError` says so. To
         audit all of it, join what the log got and `journal()`, while these are at most 1,048,576 lines. A text that begins with
-        `journal 2 room N` has that room. Raises `JournalError` if the text isn't a journal.
+        `journal 2 room N` has that room. Raises `JournalError` if the text isn't a journal, and `NoJournal` if there is neither a text
+        nor a journal of these paths.
         """
         if self._forked:
             raise self._closed()
@@ -310,6 +318,8 @@ class Paths(System):
                 buffer = ctypes.create_string_buffer(size)
             elif answer.code == native.OUT_OF_MEMORY:
                 raise MemoryError("no memory for a text of the library")
+            elif answer.code == native.NO_JOURNAL:
+                raise NoJournal("these paths were opened without a journal")
             else:
                 raise self._closed()
 

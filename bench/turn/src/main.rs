@@ -208,6 +208,8 @@ fn alone(rounds: usize) {
     let counted = Counted { state: Mutex::new((false, 0)), is_free: Condvar::new() };
     let paths = Options::new().room(ROOM).open(ALONE).unwrap();
     let take = paths.op("take").unwrap();
+    let unlogged = Options::new().room(ROOM).without_journal().open(ALONE).unwrap();
+    let unlogged_take = unlogged.op("take").unwrap();
     open_c(ALONE);
     println!("a turn that nobody else wants:");
     compare(
@@ -218,6 +220,7 @@ fn alone(rounds: usize) {
             ("by hand", &|| (0..TURNS).for_each(|_| (by_hand.enter(), by_hand.leave()).0)),
             ("by hand, with a count of who waits", &|| (0..TURNS).for_each(|_| (counted.enter(), counted.leave()).0)),
             ("the C monitor", &|| c_turns(1, 0, TURNS)),
+            ("the crate, without a journal", &|| turns(&unlogged, unlogged_take, TURNS)),
             ("the crate", &|| turns(&paths, take, TURNS)),
         ],
     );

@@ -14,6 +14,8 @@ use Rattle.path_system.specs.declared.calls.StartRefusal.{StartRefusal}
 use Rattle.path_system.specs.declared.calls.StartRefusal.TheVariants as starts
 use Rattle.path_service.specs.declared.fault.ServiceFault.{ServiceFault}
 use Rattle.path_service.specs.declared.fault.ServiceFault.TheVariants as services
+use Rattle.path_service.specs.declared.fault.JournalFault.{JournalFault}
+use Rattle.path_service.specs.declared.fault.JournalFault.TheVariants as journals
 use Rattle.path_service.specs.declared.fault.AuditRefusal.{AuditRefusal}
 use Rattle.path_service.specs.declared.fault.AuditRefusal.TheVariants as audits
 use Rattle.path_c.specs.declared.answer.Answer.{Answer}
@@ -42,6 +44,10 @@ already_open = plain 20
 
 abbrev pub out_of_memory : Answer
 out_of_memory = plain 22
+
+-- no lines are kept
+abbrev pub no_journal : Answer
+no_journal = plain 28
 
 -- a text of this length is in the buffer, or the buffer is too small for it
 abbrev pub written : ℕ → Answer
@@ -96,6 +102,11 @@ abbrev pub fault_answer : ServiceFault → Answer
 fault_answer (services.Declaration fault) = declaration_answer fault
 fault_answer services.BadRoom = plain 21
 fault_answer services.OutOfMemory = out_of_memory
+
+-- why there is no text of a journal
+abbrev pub text_answer : JournalFault → Answer
+text_answer journals.NotKept = no_journal
+text_answer journals.OutOfMemory = out_of_memory
 
 -- a verdict, with the wrong line
 abbrev pub verdict_answer : Verdict → Answer

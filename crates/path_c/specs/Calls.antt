@@ -10,21 +10,21 @@ use Rattle.path_model.specs.declared.journal.Activation.{Activation}
 use Rattle.path_model.specs.Declarations.{Declaration}
 use Rattle.path_audit.specs.declared.journals.Verdict.{Verdict}
 use Rattle.path_system.specs.declared.calls.StartRefusal.{StartRefusal}
-use Rattle.path_system.specs.Accounts.{Account}
 use Rattle.path_trace.specs.Traces.{IsReportText}
 use Rattle.path_service.specs.declared.fault.ServiceFault.{ServiceFault}
 use Rattle.path_service.specs.declared.fault.AuditRefusal.{AuditRefusal}
-use Rattle.path_service.specs.Services.{IsServiceFault, IsStep, MayStart}
+use Rattle.path_service.specs.Services.{IsServed, IsServiceFault, MayStart}
+use Rattle.path_service.specs.Serving.{Serving}
 use Rattle.path_service.specs.Verdicts.{IsAuditRefusal, IsVerdictOn}
 use Rattle.path_c.specs.declared.answer.Answer.{Answer}
 use Rattle.path_c.specs.declared.listed.Listed.{Listed}
 use Rattle.path_c.specs.Answers.{fault_answer, may_answer, refusal_answer, reply_answer, too_small, verdict_answer, written}
 
--- an attempt gets the answer of the reply that is owed to it, and the journal its line
-pub record IsAnswered (old : Account) (worker : ℕ) (attempt : Attempt) (answer : Answer) (new : Account) : Type 0 where
+-- an attempt gets the answer of the reply that is owed to it, and the journal, if there is one, its line
+pub record IsAnswered (old : Serving) (worker : ℕ) (attempt : Attempt) (answer : Answer) (new : Serving) : Type 0 where
   pub reply : Reply
   pub told : answer ≡ reply_answer reply
-  pub step : IsStep old worker attempt reply new
+  pub step : IsServed old worker attempt reply new
 
 -- where there is a verb, this holds of it
 abbrev pub IsVerb : Option Verb → (Verb → Type 0) → Type 0

@@ -14,8 +14,8 @@ abbrev pub service_row : RattleType
 service_row = service.the_row
 
 abbrev pub held_owns : Bool → Global → Ptr → service_row.Denot → Fml
-held_owns true alloc at account = box_owns (ghosts.dealloc_token alloc) service_row at account
-held_owns false alloc at account = ftrue
+held_owns true alloc at seen = box_owns (ghosts.dealloc_token alloc) service_row at seen
+held_owns false alloc at seen = ftrue
 
-abbrev pub account_coded : Coded service_row.Denot
-account_coded = service_row.coded
+abbrev pub service_coded : Coded service_row.Denot
+service_coded = service_row.coded

@@ -2,13 +2,13 @@
 
 ghost use Rattle.std.specs.Prelude.{◌≡◌};
 ghost use Rattle.path_c.specs.Answers.{declaration_answer, fault_answer, journal_answer, may_answer, numbered, plain, refusal_answer};
-ghost use Rattle.path_c.specs.Answers.{reply_answer, verdict_answer};
+ghost use Rattle.path_c.specs.Answers.{reply_answer, text_answer, verdict_answer};
 
 use path_audit::Verdict;
 use path_lex::DeclFault;
 use path_lines::TextFault;
 use path_model::Reply;
-use path_service::{AuditRefusal, ServiceFault};
+use path_service::{AuditRefusal, JournalFault, ServiceFault};
 use path_system::StartRefusal;
 
 /// A code of `wanzoche.h`, and the number that it says, or 0.
@@ -37,6 +37,8 @@ pub(crate) const OPENED: u32 = 19;
 pub(crate) const ALREADY_OPEN: u32 = 20;
 /// An allocation failed.
 pub(crate) const OUT_OF_MEMORY: u32 = 22;
+/// The handle keeps no lines.
+pub(crate) const NO_JOURNAL: u32 = 28;
 
 /// An answer without a number.
 pub(crate) fn plainly(code: u32) -> Answer
@@ -138,6 +140,16 @@ pub(crate) fn unopened(fault: ServiceFault) -> Answer
         ServiceFault::Declaration(fault) => undeclared(fault),
         ServiceFault::BadRoom => plainly(21),
         ServiceFault::OutOfMemory => plainly(OUT_OF_MEMORY),
+    }
+}
+
+/// The answer where there is no text of a journal.
+pub(crate) fn no_text(fault: JournalFault) -> Answer
+    ensures { result ≡ text_answer fault }
+{
+    match fault {
+        JournalFault::NotKept => plainly(NO_JOURNAL),
+        JournalFault::OutOfMemory => plainly(OUT_OF_MEMORY),
     }
 }
 

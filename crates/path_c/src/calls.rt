@@ -32,7 +32,7 @@ fn verb_of(code: u32, number: u64) -> Option<Verb>
 fn step(alloc: Global, handle: &mut Handle, worker: u32, attempt: Attempt) -> Answer
     ensures live { handle.new.live ≡ handle.old.live }
     ensures closed { handle.old.live ≡ false → result ≡ closed }
-    ensures stepped { handle.old.live ≡ true → IsAnswered handle.old.held.account worker attempt result handle.new.held.account }
+    ensures stepped { handle.old.live ≡ true → IsAnswered handle.old.held.service worker attempt result handle.new.held.service }
 {
     match handle.take(alloc) {
         None => plainly(CLOSED),
@@ -54,8 +54,8 @@ pub extern "C" fn path_c_start(
 ) -> Answer
     ensures live { handle.new.live ≡ handle.old.live }
     ensures closed { handle.old.live ≡ false → result ≡ closed }
-    ensures stepped { handle.old.live ≡ true → IsAnswered handle.old.held.account worker (Start (record { 0 = operation }))
-        result handle.new.held.account }
+    ensures stepped { handle.old.live ≡ true → IsAnswered handle.old.held.service worker (Start (record { 0 = operation }))
+        result handle.new.held.service }
 {
     step(alloc, handle, worker, Attempt::Start(OpId(operation)))
 }
@@ -75,7 +75,7 @@ pub extern "C" fn path_c_use(
     ensures closed { handle.old.live ≡ false → verb < 4 → result ≡ closed }
     ensures no_verb { 4 ≤ verb → (result ≡ no_verb) × (handle.new ≡ handle.old) }
     ensures stepped { handle.old.live ≡ true → IsVerb (verb_at verb number)
-        (λ v. IsAnswered handle.old.held.account worker (Apply (record { 0 = activation }) v) result handle.new.held.account) }
+        (λ v. IsAnswered handle.old.held.service worker (Apply (record { 0 = activation }) v) result handle.new.held.service) }
 {
     match verb_of(verb, number) {
         None => plainly(NO_VERB),
@@ -98,8 +98,8 @@ pub extern "C" fn path_c_finish(
 ) -> Answer
     ensures live { handle.new.live ≡ handle.old.live }
     ensures closed { handle.old.live ≡ false → result ≡ closed }
-    ensures stepped { handle.old.live ≡ true → IsAnswered handle.old.held.account worker (Finish (record { 0 = activation }))
-        result handle.new.held.account }
+    ensures stepped { handle.old.live ≡ true → IsAnswered handle.old.held.service worker (Finish (record { 0 = activation }))
+        result handle.new.held.service }
 {
     step(alloc, handle, worker, Attempt::Finish(ActId(activation)))
 }
@@ -109,9 +109,9 @@ pub extern "C" fn path_c_finish(
 pub extern "C" fn path_c_can_start(alloc: Global, handle: &mut Handle, operation: u32) -> Answer
     ensures live { handle.new.live ≡ handle.old.live }
     ensures closed { handle.old.live ≡ false → result ≡ closed }
-    ensures kept { handle.old.live ≡ true → handle.new.held.account ≡ handle.old.held.account }
-    ensures told { handle.old.live ≡ true → IsStartable handle.old.held.account.declaration
-        (admitted_history (all_lines handle.old.held.account)) (record { 0 = operation }) result }
+    ensures kept { handle.old.live ≡ true → handle.new.held.service ≡ handle.old.held.service }
+    ensures told { handle.old.live ≡ true → IsStartable handle.old.held.service.account.declaration
+        (admitted_history (all_lines handle.old.held.service.account)) (record { 0 = operation }) result }
 {
     match handle.take(alloc) {
         None => plainly(CLOSED),
@@ -129,32 +129,33 @@ pub extern "C" fn path_c_rotate(alloc: Global, handle: &mut Handle) -> Answer
     ensures live { handle.new.live ≡ handle.old.live }
     ensures closed { handle.old.live ≡ false → result ≡ closed }
     ensures rotated { handle.old.live ≡ true
-        → (result ≡ has_rotated) × (handle.new.held.account ≡ rotated handle.old.held.account) }
+        → (result ≡ has_rotated) × (handle.new.held.service.account ≡ rotated handle.old.held.service.account) }
+    ensures keeps { handle.old.live ≡ true → handle.new.held.service.keeps ≡ handle.old.held.service.keeps }
 {
     match handle.take(alloc) {
         None => plainly(CLOSED),
         Some(mut service) => {
-            service.rotate(alloc);
+            service.rotate();
             handle.put(service);
             plainly(ROTATED)
         }
     }
 }
 
-/// How many lines the journal has; 0 for a closed handle.
+/// How many lines the journal has; 0 if no lines are kept, and for a closed handle.
 #[unsafe(no_mangle)]
 pub extern "C" fn path_c_lines(alloc: Global, handle: &mut Handle) -> usize
     ensures live { handle.new.live ≡ handle.old.live }
     ensures closed { handle.old.live ≡ false → result ≡ 0 }
-    ensures kept { handle.old.live ≡ true → handle.new.held.account ≡ handle.old.held.account }
-    ensures lines { handle.old.live ≡ true → result ≡ length handle.old.held.account.journal }
+    ensures kept { handle.old.live ≡ true → handle.new.held.service ≡ handle.old.held.service }
+    ensures lines { handle.old.live ≡ true → result ≡ length handle.old.held.service.account.journal }
 {
     match handle.take(alloc) {
         None => 0,
         Some(service) => {
-            let lines = service.system().journal().len();
+            let lines = service.controller().lines();
             handle.put(service);
-            lines
+            lines as usize
         }
     }
 }
@@ -164,13 +165,13 @@ pub extern "C" fn path_c_lines(alloc: Global, handle: &mut Handle) -> usize
 pub extern "C" fn path_c_live(alloc: Global, handle: &mut Handle) -> u32
     ensures live { handle.new.live ≡ handle.old.live }
     ensures closed { handle.old.live ≡ false → result ≡ 0 }
-    ensures kept { handle.old.live ≡ true → handle.new.held.account ≡ handle.old.held.account }
-    ensures count { handle.old.live ≡ true → result ≡ length (live (all_lines handle.old.held.account)) }
+    ensures kept { handle.old.live ≡ true → handle.new.held.service ≡ handle.old.held.service }
+    ensures count { handle.old.live ≡ true → result ≡ length (live (all_lines handle.old.held.service.account)) }
 {
     match handle.take(alloc) {
         None => 0,
         Some(service) => {
-            let count = service.system().controller().live_count();
+            let count = service.controller().live_count();
             handle.put(service);
             count
         }
@@ -182,14 +183,14 @@ pub extern "C" fn path_c_live(alloc: Global, handle: &mut Handle) -> u32
 pub extern "C" fn path_c_room_left(alloc: Global, handle: &mut Handle) -> u32
     ensures live { handle.new.live ≡ handle.old.live }
     ensures closed { handle.old.live ≡ false → result ≡ 0 }
-    ensures kept { handle.old.live ≡ true → handle.new.held.account ≡ handle.old.held.account }
-    ensures left { handle.old.live ≡ true → result + taken_behind (joined handle.old.held.account.earlier)
-        handle.old.held.account.journal ≡ handle.old.held.account.room }
+    ensures kept { handle.old.live ≡ true → handle.new.held.service ≡ handle.old.held.service }
+    ensures left { handle.old.live ≡ true → result + taken_behind (joined handle.old.held.service.account.earlier)
+        handle.old.held.service.account.journal ≡ handle.old.held.service.account.room }
 {
     match handle.take(alloc) {
         None => 0,
         Some(service) => {
-            let left = service.system().controller().room_left();
+            let left = service.controller().room_left();
             handle.put(service);
             left
         }

@@ -1,8 +1,8 @@
 //! The handle that C holds.
 
 ghost use Rattle.std.specs.Prelude.{◌≡◌, true, false, Bool, MatchOption};
-ghost use Rattle.path_system.specs.Accounts.{Account};
-ghost use Rattle.path_c.specs.Held.{held_owns, account_coded};
+ghost use Rattle.path_service.specs.Serving.{Serving};
+ghost use Rattle.path_c.specs.Held.{held_owns, service_coded};
 
 use crate::parts::Parts;
 use path_service::Service;
@@ -20,11 +20,11 @@ pub struct Held {
     /// Whether a service is there.
     pub ghost full: { Bool },
     /// What contracts see of it.
-    pub ghost account: { Account } by { account_coded },
+    pub ghost service: { Serving } by { service_coded },
 }
 
 impl Model for Held {
-    ghost also_owns = { λ h. held_owns h.full h.alloc h.at h.account };
+    ghost also_owns = { λ h. held_owns h.full h.alloc h.at h.service };
 }
 
 impl Held {
@@ -38,7 +38,7 @@ impl Held {
     }
 
     fn of_parts(parts: Parts<Service, Global>) -> Held
-        ensures { (result.full ≡ true) × (result.account ≡ parts.value) }
+        ensures { (result.full ≡ true) × (result.service ≡ parts.value) }
     {
         let Parts { ptr, alloc } = parts;
         Held {
@@ -49,7 +49,7 @@ impl Held {
 
     fn into_parts(self) -> Parts<Service, Global>
         requires { self.full ≡ true }
-        ensures { result.value ≡ self.account }
+        ensures { result.value ≡ self.service }
     {
         let Held { at, alloc } = self;
         Parts {
@@ -89,7 +89,7 @@ impl Handle {
     /// A handle of this service.
     pub(crate) fn of(service: Box<Service, Global>) -> Handle
         ensures live { result.live ≡ true }
-        ensures account { result.held.account ≡ service.value }
+        ensures service { result.held.service ≡ service.value }
     {
         Handle {
             held: Held::of_parts(Parts::of(service)),
@@ -106,7 +106,7 @@ impl Handle {
 
     /// The service, if there is one.
     pub(crate) fn into_service(self) -> Option<Box<Service, Global>>
-        ensures { MatchOption result (self.live ≡ false) (λ b. (self.live ≡ true) × (b.value ≡ self.held.account)) }
+        ensures { MatchOption result (self.live ≡ false) (λ b. (self.live ≡ true) × (b.value ≡ self.held.service)) }
     {
         let Handle { held, live } = self;
         if live {
@@ -119,7 +119,7 @@ impl Handle {
     /// The service of an open handle.
     fn into_open(self) -> Box<Service, Global>
         requires { self.live ≡ true }
-        ensures { result.value ≡ self.held.account }
+        ensures { result.value ≡ self.held.service }
     {
         let Handle { held, live: _ } = self;
         held.into_parts().into_box()
@@ -127,7 +127,7 @@ impl Handle {
 
     /// Takes the service out, if there is one: the handle is closed then.
     pub(crate) fn take(&mut self, alloc: Global) -> Option<Box<Service, Global>>
-        ensures result { MatchOption result (self.old.live ≡ false) (λ b. (self.old.live ≡ true) × (b.value ≡ self.old.held.account)) }
+        ensures result { MatchOption result (self.old.live ≡ false) (λ b. (self.old.live ≡ true) × (b.value ≡ self.old.held.service)) }
         ensures closed { self.new.live ≡ false }
     {
         if !self.live {
@@ -140,7 +140,7 @@ impl Handle {
     pub(crate) fn put(&mut self, service: Box<Service, Global>)
         requires { self.old.live ≡ false }
         ensures live { self.new.live ≡ true }
-        ensures account { self.new.held.account ≡ service.value }
+        ensures service { self.new.held.service ≡ service.value }
     {
         mem::forget(mem::replace(self, Handle::of(service)));
     }

@@ -25,8 +25,8 @@ pub struct Listed {
 pub extern "C" fn path_c_operations(alloc: Global, handle: &mut Handle) -> u32
     ensures live { handle.new.live ≡ handle.old.live }
     ensures closed { handle.old.live ≡ false → result ≡ 0 }
-    ensures kept { handle.old.live ≡ true → handle.new.held.account ≡ handle.old.held.account }
-    ensures count { handle.old.live ≡ true → result ≡ length handle.old.held.account.declaration.operations }
+    ensures kept { handle.old.live ≡ true → handle.new.held.service ≡ handle.old.held.service }
+    ensures count { handle.old.live ≡ true → result ≡ length handle.old.held.service.account.declaration.operations }
 {
     match handle.take(alloc) {
         None => 0,
@@ -49,19 +49,14 @@ pub extern "C" fn path_c_live_at(
 ) -> u32
     ensures live { handle.new.live ≡ handle.old.live }
     ensures closed { handle.old.live ≡ false → (result ≡ 0) × (found.new ≡ found.old) }
-    ensures kept { handle.old.live ≡ true → handle.new.held.account ≡ handle.old.held.account }
+    ensures kept { handle.old.live ≡ true → handle.new.held.service ≡ handle.old.held.service }
     ensures listed { handle.old.live ≡ true
-        → IsListed (slice_get (live (all_lines handle.old.held.account)) place) found.old result found.new }
+        → IsListed (slice_get (live (all_lines handle.old.held.service.account)) place) found.old result found.new }
 {
     match handle.take(alloc) {
         None => 0,
         Some(service) => {
-            let live = service
-                .system()
-                .controller()
-                .live()
-                .get(place as usize)
-                .copied();
+            let live = service.controller().live().get(place as usize).copied();
             handle.put(service);
             match live {
                 None => 0,

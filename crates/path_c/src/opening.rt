@@ -16,30 +16,47 @@ use path_model::OpId;
 use path_service::{Service, ServiceFault, audit_text};
 use std::alloc::Global;
 
-/// A boxed service of a declaration's text.
-fn boxed(alloc: Global, text: &[u8], room: u32) -> Result<Box<Service, Global>, ServiceFault>
-    ensures ok { IfOk result (λ b. IsOpened text.now room b.value) }
+/// A service of a declaration's text, which keeps its lines or gives each up.
+fn service_of(alloc: Global, text: &[u8], room: u32, keeps: bool) -> Result<Service, ServiceFault>
+    ensures ok { IfOk result (λ service. (service.keeps ≡ keeps) × IsOpened text.now room service.account) }
     ensures err { IfErr result (IsServiceFault text.now room) }
 {
-    let service = Service::open(alloc, text, room)?;
+    if keeps {
+        Service::open(alloc, text, room)
+    } else {
+        Service::open_without_journal(alloc, text, room)
+    }
+}
+
+/// The same in a box.
+fn boxed(
+    alloc: Global,
+    text: &[u8],
+    room: u32,
+    keeps: bool,
+) -> Result<Box<Service, Global>, ServiceFault>
+    ensures ok { IfOk result (λ b. (b.value.keeps ≡ keeps) × IsOpened text.now room b.value.account) }
+    ensures err { IfErr result (IsServiceFault text.now room) }
+{
+    let service = service_of(alloc, text, room, keeps)?;
     match Box::new(alloc, service) {
         Ok(service) => Ok(service),
         Err(_) => Err(ServiceFault::OutOfMemory),
     }
 }
 
-/// Opens a closed handle: a service of the declaration in this text, with room for so many lines. The message says in words why
-/// nothing was opened, as far as it fits, and ends with a zero byte.
-#[unsafe(no_mangle)]
-pub extern "C" fn path_c_open(
+/// Opens a closed handle: a service of the declaration in this text, with this room, which keeps its lines or not. The message says in
+/// words why nothing was opened, as far as it fits, and ends with a zero byte.
+fn open(
     alloc: Global,
     handle: &mut Handle,
     text: &[u8],
     room: u32,
+    keeps: bool,
     message: &mut [u8],
 ) -> Answer
-    ensures opened { result ≡ opened
-        → (handle.old.live ≡ false) × (handle.new.live ≡ true) × IsOpened text.now room handle.new.held.account }
+    ensures opened { result ≡ opened → (handle.old.live ≡ false) × (handle.new.live ≡ true)
+        × (handle.new.held.service.keeps ≡ keeps) × IsOpened text.now room handle.new.held.service.account }
     ensures already { handle.old.live ≡ true → result ≡ already_open }
     ensures unopened { handle.old.live ≡ false → result ≢ opened → IsUnopened text.now room result }
     ensures kept { result ≢ opened → handle.new ≡ handle.old }
@@ -49,7 +66,7 @@ pub extern "C" fn path_c_open(
         put_front(message, b"already open");
         return plainly(ALREADY_OPEN);
     }
-    match boxed(alloc, text, room) {
+    match boxed(alloc, text, room, keeps) {
         Ok(service) => {
             handle.put(service);
             put_front(message, b"");
@@ -60,6 +77,44 @@ pub extern "C" fn path_c_open(
             unopened(fault)
         }
     }
+}
+
+/// Opens a closed handle: a service of the declaration in this text, with room for so many lines, which it keeps.
+#[unsafe(no_mangle)]
+pub extern "C" fn path_c_open(
+    alloc: Global,
+    handle: &mut Handle,
+    text: &[u8],
+    room: u32,
+    message: &mut [u8],
+) -> Answer
+    ensures opened { result ≡ opened → (handle.old.live ≡ false) × (handle.new.live ≡ true)
+        × (handle.new.held.service.keeps ≡ true) × IsOpened text.now room handle.new.held.service.account }
+    ensures already { handle.old.live ≡ true → result ≡ already_open }
+    ensures unopened { handle.old.live ≡ false → result ≢ opened → IsUnopened text.now room result }
+    ensures kept { result ≢ opened → handle.new ≡ handle.old }
+    ensures message { 0 < length message.old → Contains message.new 0 }
+{
+    open(alloc, handle, text, room, true, message)
+}
+
+/// The same of a service that keeps no lines. Its room is that of what is live.
+#[unsafe(no_mangle)]
+pub extern "C" fn path_c_open_without_journal(
+    alloc: Global,
+    handle: &mut Handle,
+    text: &[u8],
+    room: u32,
+    message: &mut [u8],
+) -> Answer
+    ensures opened { result ≡ opened → (handle.old.live ≡ false) × (handle.new.live ≡ true)
+        × (handle.new.held.service.keeps ≡ false) × IsOpened text.now room handle.new.held.service.account }
+    ensures already { handle.old.live ≡ true → result ≡ already_open }
+    ensures unopened { handle.old.live ≡ false → result ≢ opened → IsUnopened text.now room result }
+    ensures kept { result ≢ opened → handle.new ≡ handle.old }
+    ensures message { 0 < length message.old → Contains message.new 0 }
+{
+    open(alloc, handle, text, room, false, message)
 }
 
 /// A number, or -1.
@@ -77,12 +132,12 @@ fn number_or_less(op: Option<OpId>) -> i64
 #[unsafe(no_mangle)]
 pub extern "C" fn path_c_operation(alloc: Global, handle: &mut Handle, name: &[u8]) -> i64
     ensures live { handle.new.live ≡ handle.old.live }
-    ensures kept { handle.old.live ≡ true → handle.new.held.account ≡ handle.old.held.account }
+    ensures kept { handle.old.live ≡ true → handle.new.held.service ≡ handle.old.held.service }
     ensures closed { handle.old.live ≡ false → (n : ℕ) → result ≢ pos n }
     ensures found { handle.old.live ≡ true → (n : ℕ) → result ≡ pos n
-        → slice_get (map (λ o. o.name) handle.old.held.account.declaration.operations) n ≡ Some name.now }
+        → slice_get (map (λ o. o.name) handle.old.held.service.account.declaration.operations) n ≡ Some name.now }
     ensures missing { handle.old.live ≡ true → IsUtf8 name.now → ((n : ℕ) → result ≢ pos n)
-        → Contains (map (λ o. o.name) handle.old.held.account.declaration.operations) name.now → ⊥ }
+        → Contains (map (λ o. o.name) handle.old.held.service.account.declaration.operations) name.now → ⊥ }
 {
     match handle.take(alloc) {
         None => number_or_less(None),

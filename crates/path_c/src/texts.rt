@@ -4,10 +4,10 @@ ghost use Rattle.std.specs.Prelude.{◌≡◌, ◌≢◌, ◌<◌, ◌≤◌, le
 ghost use Rattle.path_journal.specs.JournalTexts.{lines_text};
 ghost use Rattle.path_print.specs.Printed.{printed};
 ghost use Rattle.path_system.specs.Accounts.{all_lines};
-ghost use Rattle.path_c.specs.Answers.{closed, out_of_memory};
+ghost use Rattle.path_c.specs.Answers.{closed, no_journal, out_of_memory};
 ghost use Rattle.path_c.specs.Calls.{IsGiven, IsReportGiven, with_text};
 
-use crate::answer::{Answer, CLOSED, OUT_OF_MEMORY, TOO_SMALL, WRITTEN, plainly, with};
+use crate::answer::{Answer, CLOSED, OUT_OF_MEMORY, TOO_SMALL, WRITTEN, no_text, plainly, with};
 use crate::handle::Handle;
 use std::alloc::Global;
 use std::fmt::Display;
@@ -54,15 +54,17 @@ fn give(buffer: &mut [u8], text: &[u8]) -> Answer
     with(WRITTEN, length)
 }
 
-/// The text of the lines since the last rotation.
+/// The text of the lines since the last rotation, if they are kept.
 #[unsafe(no_mangle)]
 pub extern "C" fn path_c_journal(alloc: Global, handle: &mut Handle, buffer: &mut [u8]) -> Answer
     ensures live { handle.new.live ≡ handle.old.live }
-    ensures kept { handle.old.live ≡ true → handle.new.held.account ≡ handle.old.held.account }
+    ensures kept { handle.old.live ≡ true → handle.new.held.service ≡ handle.old.held.service }
     ensures closed { handle.old.live ≡ false → (result ≡ closed) × (buffer.new ≡ buffer.old) }
     ensures memory { result ≡ out_of_memory → buffer.new ≡ buffer.old }
-    ensures given { handle.old.live ≡ true → result ≢ out_of_memory → IsGiven
-        (lines_text handle.old.held.account.declaration handle.old.held.account.journal) buffer.old result buffer.new }
+    ensures unkept { handle.old.live ≡ true → handle.old.held.service.keeps ≡ false
+        → (result ≡ no_journal) × (buffer.new ≡ buffer.old) }
+    ensures given { handle.old.live ≡ true → handle.old.held.service.keeps ≡ true → result ≢ out_of_memory → IsGiven
+        (lines_text handle.old.held.service.account.declaration handle.old.held.service.account.journal) buffer.old result buffer.new }
 {
     match handle.take(alloc) {
         None => plainly(CLOSED),
@@ -71,7 +73,7 @@ pub extern "C" fn path_c_journal(alloc: Global, handle: &mut Handle, buffer: &mu
             handle.put(service);
             match text {
                 Ok(text) => give(buffer, text.as_bytes()),
-                Err(_) => plainly(OUT_OF_MEMORY),
+                Err(fault) => no_text(fault),
             }
         }
     }
@@ -81,11 +83,11 @@ pub extern "C" fn path_c_journal(alloc: Global, handle: &mut Handle, buffer: &mu
 #[unsafe(no_mangle)]
 pub extern "C" fn path_c_report(alloc: Global, handle: &mut Handle, buffer: &mut [u8]) -> Answer
     ensures live { handle.new.live ≡ handle.old.live }
-    ensures kept { handle.old.live ≡ true → handle.new.held.account ≡ handle.old.held.account }
+    ensures kept { handle.old.live ≡ true → handle.new.held.service ≡ handle.old.held.service }
     ensures closed { handle.old.live ≡ false → (result ≡ closed) × (buffer.new ≡ buffer.old) }
     ensures memory { result ≡ out_of_memory → buffer.new ≡ buffer.old }
     ensures given { handle.old.live ≡ true → result ≢ out_of_memory → IsReportGiven
-        handle.old.held.account.declaration (all_lines handle.old.held.account) buffer.old result buffer.new }
+        handle.old.held.service.account.declaration (all_lines handle.old.held.service.account) buffer.old result buffer.new }
 {
     match handle.take(alloc) {
         None => plainly(CLOSED),
@@ -108,11 +110,11 @@ pub extern "C" fn path_c_declaration(
     buffer: &mut [u8],
 ) -> Answer
     ensures live { handle.new.live ≡ handle.old.live }
-    ensures kept { handle.old.live ≡ true → handle.new.held.account ≡ handle.old.held.account }
+    ensures kept { handle.old.live ≡ true → handle.new.held.service ≡ handle.old.held.service }
     ensures closed { handle.old.live ≡ false → (result ≡ closed) × (buffer.new ≡ buffer.old) }
     ensures memory { result ≡ out_of_memory → buffer.new ≡ buffer.old }
     ensures given { handle.old.live ≡ true → result ≢ out_of_memory
-        → IsGiven (printed handle.old.held.account.declaration) buffer.old result buffer.new }
+        → IsGiven (printed handle.old.held.service.account.declaration) buffer.old result buffer.new }
 {
     match handle.take(alloc) {
         None => plainly(CLOSED),

@@ -1,4 +1,5 @@
 pub mod Threads
 pub mod ReadFault
 pub mod Refused
+pub mod Served
 pub mod CallerLemmas

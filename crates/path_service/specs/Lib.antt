@@ -1,4 +1,5 @@
 pub mod ReadFaults
+pub mod Serving
 pub mod Services
 pub mod Verdicts
 pub mod Inner

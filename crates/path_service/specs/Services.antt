@@ -21,6 +21,7 @@ use Rattle.path_commands.specs.Audits.{Under}
 use Rattle.path_service.specs.declared.fault.ServiceFault.{ServiceFault}
 use Rattle.path_service.specs.declared.fault.ServiceFault.TheVariants as faults
 use Rattle.path_service.specs.ReadFaults.{IsReadFault}
+use Rattle.path_service.specs.Serving.{Serving, settled}
 
 -- of the declaration in the text, with this room, over new devices, and nothing was attempted
 pub record IsOpened (text : List ℕ) (room : ℕ) (a : Account) : Type 0 where
@@ -39,6 +40,12 @@ pub record IsStep (old : Account) (worker : ℕ) (attempt : Attempt) (reply : Re
   pub line : new ≡ record old { journal = with_line old.journal worker attempt reply; failures = new.failures }
   pub failures : StayBut (resource_asked old.declaration (all_lines old) attempt reply) old.failures new.failures
   pub served : reply ≢ replies.DeviceFailed
+
+-- as a step, behind which the line is kept or given up
+pub record IsServed (old : Serving) (worker : ℕ) (attempt : Attempt) (reply : Reply) (new : Serving) : Type 0 where
+  pub behind : Account
+  pub step : IsStep old.account worker attempt reply behind
+  pub left : new ≡ record { account = settled old.keeps behind; keeps = old.keeps }
 
 -- the operation is declared, and no path forbids its start after the history, or this is the first that does; or it isn't declared
 abbrev pub MayStart : {U : Type 0} → Declaration → List Event → OpId → Result U StartRefusal → Type 0

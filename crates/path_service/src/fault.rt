@@ -2,6 +2,7 @@
 
 ghost use Rattle.std.specs.Prelude.{◌≡◌};
 ghost use Rattle.path_service.specs.declared.fault.ServiceFault.TheVariants as faults;
+ghost use Rattle.path_service.specs.declared.fault.JournalFault.TheVariants as journals;
 
 use path_lex::DeclFault;
 use path_lines::TextFault;
@@ -27,6 +28,25 @@ impl From<OutOfMemory> for ServiceFault {
 
     fn from(_error: OutOfMemory) -> ServiceFault {
         ServiceFault::OutOfMemory
+    }
+}
+
+/// Why there is no text of a journal.
+#[derive(Clone, Copy, Debug, PartialEq, Eq, Error)]
+pub enum JournalFault {
+    /// No lines are kept.
+    #[error("no journal")]
+    NotKept,
+    /// An allocation failed.
+    #[error("out of memory")]
+    OutOfMemory,
+}
+
+impl From<OutOfMemory> for JournalFault {
+    ghost from_gives = { λ _ e. e ≡ journals.OutOfMemory };
+
+    fn from(_error: OutOfMemory) -> JournalFault {
+        JournalFault::OutOfMemory
     }
 }
 

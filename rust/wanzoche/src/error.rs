@@ -33,7 +33,8 @@ pub enum Error {
         /// The first path that forbids it, counted from 0 in the order of the text. [`Paths::path`](crate::Paths::path) has its text.
         path: u32,
     },
-    /// So many operations are in progress that the journal has no line left, or 4,294,967,295 were started. From each call that enters,
+    /// So many operations are in progress that the journal has no line left, or, without a journal, the room no place; or 4,294,967,295
+    /// were started. From each call that enters,
     /// and from those that use a device.
     NoRoom,
     /// There is no memory. From each call that returns a text, from the opening, and, if there is a log, from each call that needs a new
@@ -54,6 +55,9 @@ pub enum Error {
         /// The line of the fault, counted from 1. 1 if the text is too long.
         line: u64,
     },
+    /// No lines are kept: the paths were opened by [`Options::without_journal`](crate::Options::without_journal). From
+    /// [`Paths::journal`](crate::Paths::journal), and from [`Options::open`](crate::Options::open) if there is a log.
+    NoJournal,
     /// The C library gave an answer that this crate doesn't know of the call: it isn't the library that the crate is made for.
     Library {
         /// The answer in words.
@@ -109,13 +113,14 @@ impl fmt::Display for Error {
             Error::UnknownOperation { name } => write!(to, "no operation `{name}` is declared"),
             Error::ForeignOperation => to.write_str("the operation was resolved by other paths"),
             Error::Blocked { path } => write!(to, "path {path} forbids the operation"),
-            Error::NoRoom => to.write_str("the journal has no room for what is in progress"),
+            Error::NoRoom => to.write_str("there is no room for more in progress"),
             Error::OutOfMemory => to.write_str("out of memory"),
             Error::NotOffered => to.write_str("the device doesn't offer this"),
             Error::Empty => to.write_str("the queue is empty"),
             Error::Full => to.write_str("the queue is full"),
             Error::Overflow => write!(to, "the total would be above {}", u64::MAX),
             Error::Journal { fault, line } => write!(to, "journal: {fault} in line {line}"),
+            Error::NoJournal => to.write_str("the paths were opened without a journal"),
             Error::Library { answer } => write!(to, "the C library answered `{answer}`, which isn't an answer to this call"),
         }
     }

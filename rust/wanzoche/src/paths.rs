@@ -58,12 +58,13 @@ pub struct Options {
     room: u32,
     yields: u32,
     log: Option<Log>,
+    journal: bool,
 }
 
 impl Options {
-    /// A room of [`USUAL_ROOM`] lines, [`USUAL_YIELDS`] yields, and no log.
+    /// A room of [`USUAL_ROOM`] lines, [`USUAL_YIELDS`] yields, a journal, and no log.
     pub fn new() -> Options {
-        Options { room: USUAL_ROOM, yields: USUAL_YIELDS, log: None }
+        Options { room: USUAL_ROOM, yields: USUAL_YIELDS, log: None, journal: true }
     }
 
     /// How many lines the journal takes before the paths begin a new one, 1 to [`MOST_LINES`]. Each start, use and finish takes one, and so
@@ -91,14 +92,36 @@ impl Options {
         self
     }
 
+    /// Keeps no lines, for a service that wants no log: to enter and to leave is quicker, and no new journal is ever begun. Then the
+    /// [`room`](Options::room) is that of what is in progress alone, one operation less than it says, and a place takes 32 bytes.
+    /// [`Paths::journal`] says [`Error::NoJournal`], and [`Paths::rotate`] does nothing. All other calls answer as with a journal that
+    /// has room.
+    ///
+    /// ```
+    /// use wanzoche::{Error, Options};
+    /// let paths = Options::new().without_journal().open("resource shelf cell operation take path take end end")?;
+    /// let taken = paths.enter(paths.op("take")?)?;
+    /// assert_eq!(paths.report()?, "startable\nblocked take 0\nlive 0 1 take\nfrozen no\n");
+    /// assert_eq!(paths.journal(), Err(Error::NoJournal));
+    /// # drop(taken); Ok::<(), Error>(())
+    /// ```
+    pub fn without_journal(mut self) -> Options {
+        self.journal = false;
+        self
+    }
+
     /// Opens paths of the declaration in a text. Takes all the memory that entering and leaving will need.
     ///
     /// # Errors
     ///
-    /// [`Error::Declaration`] if the text isn't a declaration, [`Error::BadRoom`], and [`Error::OutOfMemory`].
+    /// [`Error::Declaration`] if the text isn't a declaration, [`Error::BadRoom`], and [`Error::OutOfMemory`]. [`Error::NoJournal`] if
+    /// there is a log, but no journal.
     pub fn open(self, text: &str) -> Result<Paths, Error> {
         static LAST: AtomicU64 = AtomicU64::new(0);
-        let system = System::open(text, self.room).map_err(|answer| Error::of_text(answer, text))?;
+        if self.log.is_some() && !self.journal {
+            return Err(Error::NoJournal);
+        }
+        let system = System::open(text, self.room, self.journal).map_err(|answer| Error::of_text(answer, text))?;
         let monitor = Monitor::new(system, self.log, self.yields)?;
         Ok(Paths { monitor, id: LAST.fetch_add(1, Ordering::Relaxed) })
     }
@@ -113,7 +136,8 @@ impl Default for Options {
 impl fmt::Debug for Options {
     fn fmt(&self, to: &mut fmt::Formatter<'_>) -> fmt::Result {
         let mut fields = to.debug_struct("Options");
-        fields.field("room", &self.room).field("yields", &self.yields).field("has_log", &self.log.is_some()).finish()
+        fields.field("room", &self.room).field("yields", &self.yields).field("has_log", &self.log.is_some());
+        fields.field("journal", &self.journal).finish()
     }
 }
 
@@ -289,12 +313,13 @@ impl Paths {
     ///
     /// # Errors
     ///
-    /// [`Error::OutOfMemory`].
+    /// [`Error::NoJournal`] if no lines are kept ([`Options::without_journal`]), and [`Error::OutOfMemory`].
     pub fn journal(&self) -> Result<String, Error> {
         self.text(Text::Journal)
     }
 
-    /// Hands the lines so far to the log, if there is one, and begins a new journal, as at the end of a file.
+    /// Hands the lines so far to the log, if there is one, and begins a new journal, as at the end of a file. Without a journal it does
+    /// nothing.
     ///
     /// # Errors
     ///

@@ -45,6 +45,7 @@ pub(crate) mod code {
     pub(crate) const JOURNAL_TOO_LONG: u32 = 25;
     pub(crate) const BAD_LINE: u32 = 26;
     pub(crate) const UNDECLARED_LINE: u32 = 27;
+    pub(crate) const NO_JOURNAL: u32 = 28;
     pub(crate) const TOO_LONG: u32 = 32;
     pub(crate) const BAD_BYTE: u32 = 33;
     pub(crate) const TOO_MANY: u32 = 45;
@@ -62,6 +63,14 @@ pub(crate) enum Verb {
 
 extern "C" {
     fn wanzoche_open(handle: *mut Handle, text: *const c_char, length: usize, room: u32, message: *mut c_char, size: usize) -> Answer;
+    fn wanzoche_open_without_journal(
+        handle: *mut Handle,
+        text: *const c_char,
+        length: usize,
+        room: u32,
+        message: *mut c_char,
+        size: usize,
+    ) -> Answer;
     fn wanzoche_close(handle: *mut Handle);
     fn wanzoche_operation(handle: *mut Handle, name: *const c_char, length: usize) -> i64;
     fn wanzoche_start(handle: *mut Handle, worker: u32, operation: u32) -> Answer;
@@ -105,12 +114,14 @@ pub(crate) struct System {
 unsafe impl Send for System {}
 
 impl System {
-    /// Opens a system of the declaration in a text, with a journal of `room` lines. The answer says why not.
-    pub(crate) fn open(text: &str, room: u32) -> Result<System, Answer> {
+    /// Opens a system of the declaration in a text, with a journal of `room` lines or, without one, with room for what is live. The
+    /// answer says why not.
+    pub(crate) fn open(text: &str, room: u32, journal: bool) -> Result<System, Answer> {
         let mut system = System { handle: Handle { at: ptr::null_mut(), live: false } };
+        let call = if journal { wanzoche_open } else { wanzoche_open_without_journal };
         // SAFETY: the handle is closed, and the call's alone. The text is `text.len()` bytes, which the call only reads and doesn't
         // keep. A null message is allowed.
-        let answer = unsafe { wanzoche_open(&mut system.handle, text.as_ptr().cast(), text.len(), room, ptr::null_mut(), 0) };
+        let answer = unsafe { call(&mut system.handle, text.as_ptr().cast(), text.len(), room, ptr::null_mut(), 0) };
         match answer.code {
             code::OPENED => Ok(system),
             _ => Err(answer),
@@ -169,7 +180,7 @@ impl System {
         unsafe { wanzoche_rotate(&mut self.handle) };
     }
 
-    /// A text that the system writes, or [`Error::OutOfMemory`].
+    /// A text that the system writes; else [`Error::OutOfMemory`], or [`Error::NoJournal`] if it is that of a journal which isn't kept.
     pub(crate) fn text(&mut self, which: Text) -> Result<String, Error> {
         let call = match which {
             Text::Journal => wanzoche_journal,
@@ -178,8 +189,10 @@ impl System {
         };
         // SAFETY: the handle is this call's alone. A null buffer of no bytes is allowed, and the answer says how many bytes it takes.
         let answer = unsafe { call(&mut self.handle, ptr::null_mut(), 0) };
-        if answer.code != code::TOO_SMALL {
-            return Err(Error::OutOfMemory);
+        match answer.code {
+            code::TOO_SMALL => {}
+            code::NO_JOURNAL => return Err(Error::NoJournal),
+            _ => return Err(Error::OutOfMemory),
         }
         let length = usize::try_from(answer.number).map_err(|_| Error::OutOfMemory)?;
         let mut buffer = zeroes(length.checked_add(1).ok_or(Error::OutOfMemory)?)?;

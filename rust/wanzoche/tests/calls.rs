@@ -271,6 +271,46 @@ fn room_for_what_is_live_runs_out() {
 }
 
 #[test]
+fn without_a_journal_all_else_is_the_same() {
+    let kept = Paths::open(SLOT).unwrap();
+    let paths = Options::new().room(3).without_journal().open(SLOT).unwrap();
+    for each in [&kept, &paths] {
+        let ops = [each.op("deposit").unwrap(), each.op("remove").unwrap()];
+        for n in 0..100 {
+            let guard = each.enter(ops[n % 2]).unwrap();
+            assert_eq!((guard.activation(), guard.look()), (n as u64, Ok(n.saturating_sub(1) as u64 / 2)));
+            assert_eq!(each.try_enter(ops[n % 2]).unwrap_err(), Error::Blocked { path: 0 });
+            if n % 2 == 0 {
+                assert_eq!(guard.put(n as u64 / 2), Ok((n as u64 / 2).saturating_sub(1)));
+            }
+        }
+        assert_eq!(each.report().unwrap(), "startable deposit\nblocked remove 0\nfrozen no\n");
+        assert_eq!(each.rotate(), Ok(()));
+    }
+    assert_eq!(paths.journal(), Err(Error::NoJournal));
+    assert_eq!(paths.audit("1 start remove: started 0\n"), Ok(Verdict::Wrong { index: 0 }));
+}
+
+#[test]
+fn without_a_journal_the_room_is_that_of_what_is_in_progress() {
+    let paths = Options::new().room(3).without_journal().open("resource r tally operation a path { a } end end").unwrap();
+    let a = paths.op("a").unwrap();
+    let guards = [paths.enter(a).unwrap(), paths.enter(a).unwrap()];
+    assert_eq!(paths.enter(a).unwrap_err(), Error::NoRoom);
+    (1..10).for_each(|total| assert_eq!(guards[1].add(1), Ok(total)));
+    drop(guards);
+    drop([paths.enter(a).unwrap(), paths.enter(a).unwrap()]);
+}
+
+#[test]
+fn a_log_wants_a_journal() {
+    let (log, _) = kept();
+    assert_eq!(Options::new().log(log).without_journal().open(SLOT).unwrap_err(), Error::NoJournal);
+    assert!(matches!(Options::new().without_journal().open("resource"), Err(Error::Declaration { .. })));
+    assert_eq!(Options::new().room(0).without_journal().open(SLOT).unwrap_err(), Error::BadRoom);
+}
+
+#[test]
 fn audits_need_no_paths() {
     assert_eq!(audit(SLOT, ""), Ok(Verdict::Sound));
     assert_eq!(audit(SLOT, "1 start deposit: started 0\n1 start deposit: started 1\n"), Ok(Verdict::Wrong { index: 1 }));
@@ -291,7 +331,8 @@ fn each_error_says_what_it_is() {
         (Error::BadRoom, "the room is 1 to 1048576 lines"),
         (Error::ForeignOperation, "the operation was resolved by other paths"),
         (Error::Blocked { path: 2 }, "path 2 forbids the operation"),
-        (Error::NoRoom, "the journal has no room for what is in progress"),
+        (Error::NoRoom, "there is no room for more in progress"),
+        (Error::NoJournal, "the paths were opened without a journal"),
         (Error::OutOfMemory, "out of memory"),
         (Error::NotOffered, "the device doesn't offer this"),
         (Error::Empty, "the queue is empty"),
@@ -311,7 +352,7 @@ fn debug_texts_are_short() {
     let guard = paths.enter(paths.op("deposit").unwrap()).unwrap();
     assert_eq!(format!("{paths:?}"), "Paths { .. }");
     assert_eq!(format!("{guard:?}"), format!("Guard {{ activation: 0, worker: {} }}", thread_number()));
-    assert_eq!(format!("{:?}", Options::new()), "Options { room: 4096, yields: 30, has_log: false }");
+    assert_eq!(format!("{:?}", Options::new()), "Options { room: 4096, yields: 30, has_log: false, journal: true }");
 }
 
 /// Runs the next test in a process that gets too little memory for the largest room.

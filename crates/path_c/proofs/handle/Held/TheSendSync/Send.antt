@@ -15,12 +15,12 @@ use Rattle.path_service.proofs.CallerLemmas.{service_send}
 use Rattle.path_c.specs.Held.{held_owns, service_row}
 use Rattle.path_c.specs.contracts.handle.Held.{the_row, the_type}
 
-held_keyless : (full : Bool) (alloc : Global) (at : Ptr) (account : service_row.Denot) → Keyless (held_owns full alloc at account)
-held_keyless true alloc at account = (lies service_row service_send at account, heap.frees.frees alloc (raw (lone service_row.mir)) at)
-held_keyless false alloc at account = tt
+held_keyless : (full : Bool) (alloc : Global) (at : Ptr) (seen : service_row.Denot) → Keyless (held_owns full alloc at seen)
+held_keyless true alloc at seen = (lies service_row service_send at seen, heap.frees.frees alloc (raw (lone service_row.mir)) at)
+held_keyless false alloc at seen = tt
 
 pub send : IsSend the_row
 send =
     let all : AllSend (fields the_type) = (search sendable, (handle.the_field_send, tt)) in
-    owning_send the_type all (λ d. held_keyless d.full d.alloc d.at d.account)
+    owning_send the_type all (λ d. held_keyless d.full d.alloc d.at d.service)
     (λ k. quiet (to the_type) (exits_of k (fields the_type)) ((struct_send (shape the_type) all).leaving k))

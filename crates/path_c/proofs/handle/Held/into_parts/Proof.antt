@@ -34,11 +34,11 @@ stayed = (stay_dropped From yes, tt)
 module _ {M : Type 1} {𝓤 : Ura M} (𝓛 : Logic 𝓤) (at_mem : Memory → SProp 𝓤) (run : Routine → Fun 𝓤) (𝓣 : Tables 𝓤 𝓛.H) where
   walk : Walks 𝓛 F.ended stayed (WpFn 𝓤 𝓛.H 𝓣.C 𝓣.Λ code.function) (F.clauses 𝓛 at_mem run)
   walk z =
-      let v : D E = record { ptr = z.0.3.0.at; alloc = z.0.3.0.alloc; value = z.0.3.0.account } in
+      let v : D E = record { ptr = z.0.3.0.at; alloc = z.0.3.0.alloc; value = z.0.3.0.service } in
       let To = type_at (F.signature).result tt in
       let made : To.Denot = record { ptr = v.ptr; alloc = v.alloc; value = v.value } in
       qed 𝓛 ((‵ ftrue ⊛ ‵ (fsep (Held.the_row.own_val z.0.3.0 z.0.4.0) ftrue)) ∷ raw (fact 𝓤 (z.0.3.0.full ≡ true)) ∷ []) ∵ move ! (1 ∷ []) $ heard ! (z.0.3.0.full ≡ true) (λ is. split ! $ drop ! $ fsplit ! $
-      rewrite ! 0 (λ (f : Bool). ‵ (Held.the_row.own_val (record { at = v.ptr; alloc = v.alloc; full = f; account = v.value }) z.0.4.0)) is refl $ use1 𝓛 (‵ ((B E).own_val v z.0.4.0)) (id⊢ 𝓤 _) $ move ! (1 ∷ 2 ∷ []) $ drop ! $ drop ! $
+      rewrite ! 0 (λ (f : Bool). ‵ (Held.the_row.own_val (record { at = v.ptr; alloc = v.alloc; full = f; service = v.value }) z.0.4.0)) is refl $ use1 𝓛 (‵ ((B E).own_val v z.0.4.0)) (id⊢ 𝓤 _) $ move ! (1 ∷ 2 ∷ []) $ drop ! $ drop ! $
       by ! (as_word 𝓛 v z.0.4.0 (λ us. WpFn 𝓤 𝓛.H 𝓣.C 𝓣.Λ code.function (us ++ []) ((walk_of 𝓛 F.ended stayed (F.clauses 𝓛 at_mem run)).post z)) (λ hv b o fa.
       let w = word E hv b o in
       qed 𝓛 (‵ (To.own_val made (w ∷ [])) ∷ []) ∵ enter ! 𝓣.C 𝓣.Λ code.function (w ∷ []) _ $ alloc_all ! (λ ls. pass_all ! refl (box_typed E hv b o fa, tt) $

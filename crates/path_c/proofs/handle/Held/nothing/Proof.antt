@@ -44,7 +44,7 @@ abbrev stayed : Stays (F.ended).signature.params (F.ended).kept
 stayed = (stay_dropped (plain (λ _. Z)) yes, tt)
 
 abbrev made : Z.Denot → Held.the_row.Denot
-made a = record { at = null_ptr; alloc = a; full = false; account = record { declaration = record { resources = []; operations = []; paths = [] }; room = 0; openings = []; earlier = []; journal = []; failures = [] } }
+made a = record { at = null_ptr; alloc = a; full = false; service = record { account = record { declaration = record { resources = []; operations = []; paths = [] }; room = 0; openings = []; earlier = []; journal = []; failures = [] }; keeps = false } }
 
 abbrev word : Val → Val
 word h = vstruct (vcons (vint w64 0) (vcons h vnil))
