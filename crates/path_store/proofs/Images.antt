@@ -1,5 +1,6 @@
 -- What a crash leaves of bytes that were written.
 use Rattle.std.proofs.Common.{◌≡◌, ◌≢◌, ℕ, zero, suc, ◌+◌, ◌-◌, ◌<◌, ◌≤◌, List, [], ◌∷◌, ◌++◌, length, take, get_or, ◌⊎◌, inl, inr, refl, sym, ap, ◌∙◌, arith, append_assoc}
+use Rattle.std.proofs.lemmas.List.{take_all}
 use Rattle.std.proofs.lemmas.Bool.{cases_eq}
 use Rattle.path_fields.specs.Splits.{HasNone}
 use Rattle.path_store.specs.Devices.{IsImage, behind_zeros, Torn, Cut}
@@ -92,5 +93,6 @@ image_from [] (b ∷ t) le each = absurd (omega (arith, le))
 image_from (a ∷ w) (b ∷ t) le each = (each 0 (omega arith), image_from w t (omega (arith, le)) (λ k lt. each (suc k) (omega (arith, lt))))
 
 -- a cut leaves a front
-pub cut_front : (n : ℕ) (b c : List ℕ) → Cut n b c → (m : ℕ) × (n ≤ m) × (c ≡ take m b)
-cut_front n b c cut = (length c, cut.no_shorter, sym cut.front)
+pub cut_front : (n : ℕ) (b c : List ℕ) → n ≤ length b → Cut n b c → (m : ℕ) × (n ≤ m) × (c ≡ take m b)
+cut_front n b c le (inl same) = (length b, le, same ∙ sym (take_all (length b) b (omega arith)))
+cut_front n b c le (inr p) = (length c, p.0, sym p.1)

@@ -4,3 +4,4 @@ mod NoZeros
 mod Left
 mod Crash
 mod Repairs
+mod OneSync

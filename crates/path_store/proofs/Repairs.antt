@@ -154,7 +154,7 @@ module _ {D : Type 0} (holds may_leave : D → List ℕ → Type 0) (d : Declara
         (weaker moment left_since mid new _ (FindsSome d room synced fresh) (λ c p. elim p [
           | inl left ↦ file.left c (crash c left)
           | inr cut ↦ (
-              let q = cut_front 0 file.text c cut in
+              let q = cut_front 0 file.text c (omega arith) cut in
               image_some d room synced fresh c none (subst (IsImage (front_of (Three room))) (sym q.2) (image_front (front_of (Three room)) file.text q.0 image)))
         ]) second)
 
@@ -170,6 +170,7 @@ module _ {D : Type 0} (holds may_leave : D → List ℕ → Type 0) (d : Declara
         (weaker moment left_since mid new _ (FindsSome d room synced fresh) (λ c p. elim p [
           | inl left ↦ file.left c (crash c left)
           | inr cut ↦ (
-              let q = cut_front bytes file.text c cut in
+              let counted = j.counted in
+              let q = cut_front bytes file.text c (omega (arith, counted)) cut in
               some_all d room synced fresh c (cut_again d file.text room (synced ++ fresh) bytes q.0 c j q.1 q.2))
         ]) second)

@@ -17,10 +17,10 @@ behind_zeros (suc n) bytes = 0 ∷ behind_zeros n bytes
 abbrev pub Torn : ℕ → List ℕ → List ℕ → List ℕ → Type 0
 Torn size bytes old new = (left : List ℕ) × (new ≡ old ++ left) × IsImage (behind_zeros (size - length old) bytes) left
 
--- what a crash leaves where a file was cut to n bytes: some length between
-pub record Cut (n : ℕ) (old new : List ℕ) : Type 0 where
-  pub no_shorter : n ≤ length new
-  pub front : take (length new) old ≡ new
+-- what a crash leaves where a file was cut to n bytes, if before it would have left the old ones: these, or a front of them of some length
+-- between
+abbrev pub Cut : ℕ → List ℕ → List ℕ → Type 0
+Cut n old new = (new ≡ old) ⊎ ((n ≤ length new) × (take (length new) old ≡ new))
 
 -- each outcome of a crash is an outcome before, after this step
 abbrev pub Follows : (List ℕ → List ℕ → Type 0) → (List ℕ → Type 0) → (List ℕ → Type 0) → Type 0

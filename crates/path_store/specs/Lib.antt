@@ -1,3 +1,4 @@
 pub mod Devices
 pub mod Stores
 pub mod Faults
+pub mod AnyBytes

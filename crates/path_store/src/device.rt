@@ -1,6 +1,7 @@
 //! A file as a store sees it.
 
 ghost use Rattle.std.specs.Prelude.{◌≡◌, ◌≤◌, ◌++◌, List, ℕ, length, take, IfOk, OnOk, IsErrOf};
+ghost use Rattle.path_store.specs.declared.device.DeviceFault.TheVariants.{OutOfMemory};
 ghost use Rattle.path_store.specs.Devices.{Torn, Cut, Follows, Only, Elapses};
 
 use std::alloc::{AllocError, AllocFailed, Allocator};
@@ -21,12 +22,16 @@ pub enum DeviceFault {
 }
 
 impl From<AllocError> for DeviceFault {
+    ghost from_gives = { λ _ fault. fault ≡ OutOfMemory };
+
     fn from(_error: AllocError) -> DeviceFault {
         DeviceFault::OutOfMemory
     }
 }
 
 impl<T: Drop> From<AllocFailed<T>> for DeviceFault {
+    ghost from_gives = { λ _ fault. fault ≡ OutOfMemory };
+
     fn from(_error: AllocFailed<T>) -> DeviceFault {
         DeviceFault::OutOfMemory
     }

@@ -5,6 +5,7 @@ mod device;
 mod fault;
 mod recovery;
 mod store;
+pub mod theorems;
 
 pub use device::{Device, DeviceFault};
 pub use fault::StoreFault;

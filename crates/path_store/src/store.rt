@@ -150,7 +150,11 @@ impl<D: Device + Drop, B: Allocator + Copy> Store<D, B> {
     /// Writes lines behind the last one, each as `append` does, and then syncs once.
     ///
     /// Fails as `append` and `sync` do; the lines before the one that failed are written.
-    pub fn commit<A: Allocator + Copy>(&mut self, decl: &Decl<A>, lines: &[Line]) -> Result<(), StoreFault>
+    pub fn commit<A: Allocator + Copy>(
+        &mut self,
+        decl: &Decl<A>,
+        lines: &[Line],
+    ) -> Result<(), StoreFault>
         ensures stored { (synced fresh : List Line) → IsStored D.holds D.may_leave decl.now.declaration self.old synced fresh
             → OnOk result (IsStored D.holds D.may_leave decl.now.declaration self.new (synced ++ (fresh ++ lines.now)) []) }
         // A crash at any moment of the call leaves all that were synced, and of the others those up to one of them.

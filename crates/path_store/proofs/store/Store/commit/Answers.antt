@@ -1,5 +1,5 @@
 -- Each line is written behind those before it, and then all are synced.
-use Rattle.std.proofs.Common.{◌++◌, [], take, length, refl, sym, ap, ◌∙◌, subst, arith}
+use Rattle.std.proofs.Common.{◌++◌, [], take, refl, sym, ◌∙◌, subst}
 use Rattle.std.specs.Result.{OnOk}
 use Rattle.std.proofs.lemmas.List.{append-nil, take_all}
 use Rattle.path_store.specs.Stores.{IsStored}

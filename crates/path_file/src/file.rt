@@ -1,0 +1,161 @@
+//! Files of the operating system.
+//!
+//! No contract can say what a file gives or keeps, so those of [`Device`] say nothing of these: nothing is known of what a
+//! [`FileDevice`] holds. That a file is as a device has to be is the premise under which a store keeps its lines.
+
+ghost use Rattle.std.specs.Prelude.{◌≡◌, true, IsErrOf};
+
+use path_store::{Device, DeviceFault};
+use std::alloc::Allocator;
+use std::fs::{File, Files, OpenOptions, TryLockError};
+use std::io::{self, ErrorKind, Write};
+use std::os::unix::fs::FileExt;
+use std::path::Path;
+use thiserror::Error;
+
+/// How many bytes are read at once.
+const CHUNK: usize = 65536;
+
+/// Why a file isn't opened.
+#[derive(Debug, Drop, Error)]
+pub enum FileFault {
+    /// Another process, or another part of this one, has it open as a store.
+    #[error("the file is in use")]
+    InUse,
+    /// It can't be opened, made, locked or synced.
+    #[error("{0}")]
+    Io(io::Error),
+}
+
+impl From<io::Error> for FileFault {
+    fn from(error: io::Error) -> FileFault {
+        FileFault::Io(error)
+    }
+}
+
+/// A file of the operating system that is open and locked.
+#[derive(Drop)]
+pub struct FileDevice {
+    file: File,
+    failed: bool,
+    error: Option<io::Error>,
+}
+
+impl FileDevice {
+    /// Opens the file at a path, or makes an empty one, and locks it until this is dropped or the process ends, however it ends. The
+    /// file and its entry in its folder are on the disk then.
+    ///
+    /// Fails with `InUse` if the file is locked, and with `Io` if it can't be opened for reading and writing, locked or synced.
+    pub fn open<R: Files<File = File>>(rt: &R, path: &str) -> Result<FileDevice, FileFault> {
+        let file = OpenOptions::new()
+            .read(true)
+            .append(true)
+            .create(true)
+            .open(rt, path)?;
+        match file.try_lock() {
+            Ok(()) => {}
+            Err(TryLockError::WouldBlock) => return Err(FileFault::InUse),
+            Err(TryLockError::Error(error)) => return Err(FileFault::Io(error)),
+        }
+        file.sync_all()?;
+        sync_folder(rt, path)?;
+        Ok(FileDevice {
+            file,
+            failed: false,
+            error: None,
+        })
+    }
+
+    /// The error of the last call that failed.
+    pub fn error(&self) -> Option<io::Error> {
+        self.error
+    }
+
+    // What a call answers whose result this is.
+    fn answer(&mut self, outcome: io::Result<()>) -> Result<(), DeviceFault>
+        ensures failed { IsErrOf result DeviceFault.Failed → self.new.failed ≡ true }
+    {
+        let Err(error) = outcome else {
+            return Ok(());
+        };
+        self.failed = true;
+        self.error = Some(error);
+        Err(fault_of(error))
+    }
+}
+
+// Writes the entry of the file in its folder to the disk.
+fn sync_folder<R: Files<File = File>>(rt: &R, path: &str) -> io::Result<()> {
+    let folder = match Path::new(path).parent() {
+        Some(folder) if !folder.as_str().is_empty() => folder,
+        _ => Path::new("."),
+    };
+    File::open(rt, folder)?.sync_all()
+}
+
+// The fault that an error is told as.
+fn fault_of(error: io::Error) -> DeviceFault {
+    match error.kind() {
+        ErrorKind::OutOfMemory => DeviceFault::OutOfMemory,
+        ErrorKind::StorageFull | ErrorKind::QuotaExceeded | ErrorKind::FileTooLarge =>
+            DeviceFault::Full,
+        _ => DeviceFault::Failed,
+    }
+}
+
+// All bytes of a file.
+fn read_all<B: Allocator + Copy>(file: &File, alloc: B) -> io::Result<Vec<u8, B>> {
+    let mut chunk = vec![in alloc; 0u8; CHUNK]?;
+    let mut bytes = Vec::new(alloc);
+    for _ in 0..u64::MAX {
+        match file.read_at(&mut chunk, bytes.len() as u64) {
+            Ok(0) => break,
+            Ok(count) => bytes.extend_from_slice(&chunk[..count])?,
+            Err(error) if error.kind() == ErrorKind::Interrupted => {}
+            Err(error) => return Err(error),
+        }
+    }
+    Ok(bytes)
+}
+
+impl Device for FileDevice {
+    ghost holds = { λ f b. ⊥ };
+
+    ghost may_leave = { λ f c. Unit {0} };
+
+    ghost moment = { λ f. 0 };
+
+    ghost left_since = { λ f t c. Unit {0} };
+
+    ghost has_failed = { λ f. f.failed ≡ true };
+
+    ghost counts_now = { λ f t c le now. tt };
+
+    ghost only_now = { λ f c left. tt };
+
+    fn read<B: Allocator + Copy>(&mut self, alloc: B) -> Result<Vec<u8, B>, DeviceFault> {
+        match read_all(&self.file, alloc) {
+            Ok(bytes) => Ok(bytes),
+            Err(error) => {
+                self.failed = true;
+                self.error = Some(error);
+                Err(fault_of(error))
+            }
+        }
+    }
+
+    fn append(&mut self, bytes: &[u8]) -> Result<(), DeviceFault> {
+        let outcome = (&self.file).write_all(bytes);
+        self.answer(outcome)
+    }
+
+    fn cut(&mut self, size: usize) -> Result<(), DeviceFault> {
+        let outcome = self.file.set_len(size as u64);
+        self.answer(outcome)
+    }
+
+    fn sync(&mut self) -> Result<(), DeviceFault> {
+        let outcome = self.file.sync_data();
+        self.answer(outcome)
+    }
+}

@@ -1,0 +1,6 @@
+//! Files of the operating system, as stores see them.
+#![tactic(auto)]
+
+mod file;
+
+pub use file::{FileDevice, FileFault};

@@ -1,0 +1,7 @@
+//! Tests of public calls.
+
+mod crashes;
+mod cuts;
+mod declaration;
+mod failing;
+mod stores;
