@@ -333,9 +333,10 @@ async function testDrafts() {
   await shows("each draft stays", async () => (await listedCases()).slice(0, 3), ["slot, changed", "pool, changed", "slot, changed (2)"]);
   await size(390, 600, false);
   await choose("pool");
-  const places = await value(`(() => { scrollTo(0, document.getElementById("live").offsetTop); const before = scrollY;
-    document.querySelector("#live button").click(); return [before, scrollY]; })()`);
-  same("the page stays where a button is pressed", places[1], places[0]);
+  const moved = await value(`(() => { const top = () => document.getElementById("live").getBoundingClientRect().top;
+    scrollTo(0, document.getElementById("live").offsetTop); const before = top();
+    document.querySelector("#live button").click(); return Math.abs(top() - before); })()`);
+  same("the buttons stay where one is pressed", moved < 2, true);
   await size(1280, 1100, false);
   await openPage();
 }
@@ -393,7 +394,7 @@ async function testAddress() {
 
 async function testPicture() {
   await choose("philosophers");
-  const { runs, ticks } = await value(`({ runs: document.querySelectorAll("#picture rect").length, ticks: document.querySelectorAll("#picture .tick").length })`);
+  const { runs, ticks } = await value(`({ runs: document.querySelectorAll("#picture .bar").length, ticks: document.querySelectorAll("#picture .tick").length })`);
   const trace = read("philosophers/trace");
   same("a bar for each start", runs, trace.match(/: started/g).length);
   same("a tick for each refused start", ticks, trace.match(/: blocked/g).length);
@@ -401,7 +402,9 @@ async function testPicture() {
   await shows("its file", () => value(`new DOMParser().parseFromString(pictureFile().replace(/<style>[^]*<.style>/, ""), "image/svg+xml").querySelector("parsererror") === null`), true);
 }
 
-const MANY = `Array.from({ length: 10000 }, (_, i) => i % 2 ? (i % 7) + " finish " + (i - 1) / 2 : ((i + 1) % 7) + (i % 4 ? " start remove" : " start deposit")).join("\\n") + "\\n"`;
+// So many attempts, each of which is admitted.
+const attempts = number => `Array.from({ length: ${number} }, (_, i) => i % 2 ? (i % 7) + " finish " + (i - 1) / 2 : ((i + 1) % 7) + (i % 4 ? " start remove" : " start deposit")).join("\\n") + "\\n"`;
+const MANY = attempts(10000);
 
 const sorted = times => [...times].sort((a, b) => a - b);
 const inShort = times => `${sorted(times)[0].toFixed(1)} ms at least, ${sorted(times)[times.length >> 1].toFixed(1)} by the median`;
@@ -434,6 +437,64 @@ async function measureKeystrokes(inPage) {
   const alone = await keystrokes("alone");
   console.log("keystrokes in a text of 10,000 attempts");
   for (const kind in alone) console.log(`${kind}: ${inShort(inPage[kind])}; in a text area alone ${inShort(alone[kind])}`);
+}
+
+// The time of a click on a button, with all that follows from it at once, and the layout.
+const timedClick = selector => value(`(began => {
+  document.querySelector('${selector}').click();
+  document.body.getBoundingClientRect();
+  return performance.now() - began;
+})(performance.now())`);
+
+// Prints what a click takes, with the buttons of a slot in turn.
+async function measureClicks() {
+  const times = [];
+  for (let i = 0; i < 20; i++) {
+    const before = await value("answered.length");
+    times.push(await timedClick(i % 2 ? `#live [data-key^="finish"]` : `#starts button:not(.forbidden)`));
+    await until(`answered.length === ${before + 1} && state.lines === answered.length && ($("live").firstChild !== null) === ${i % 2 === 0}`);
+  }
+  console.log(`a click in a text of 10,000 attempts: ${inShort(times)}`);
+}
+
+const PAINTED = "new Promise(done => requestAnimationFrame(() => requestAnimationFrame(done)))";
+
+// Prints what it takes until 100,000 attempts are shown, and in a text area alone.
+async function measureOpening() {
+  const [inPage, alone] = [[], []];
+  for (let i = 0; i < 3; i++) {
+    await openPage();
+    inPage.push(await value(`(async (text, began) => {
+      began = performance.now();
+      open({ declaration: examples[0].declaration, attempts: text, journal: "" });
+      await ${PAINTED};
+      return performance.now() - began;
+    })(${attempts(100000)})`));
+    await shows("100,000 attempts are counted", () => text("attempts-said"), "100000 attempts: 50000 started, 50000 finished.");
+    await visit("about:blank");
+    await value(`document.body.innerHTML = '<textarea id="alone" wrap="off" spellcheck="false" style="width: 18rem; height: 19rem"></textarea>'`);
+    alone.push(await value(`(async (text, began) => {
+      began = performance.now();
+      document.getElementById("alone").value = text;
+      await ${PAINTED};
+      return performance.now() - began;
+    })(${attempts(100000)})`));
+  }
+  console.log(`100,000 attempts are shown: ${inShort(inPage)}; in a text area alone ${inShort(alone)}`);
+}
+
+// Prints what a keystroke takes under a declaration of 256 operations and 128 paths.
+async function measureDeclaration() {
+  const names = Array.from({ length: 256 }, (_, i) => "o" + i);
+  const paths = Array.from({ length: 128 }, (_, i) => `path o${2 * i} ; o${2 * i + 1} end\n`).join("");
+  await openPage();
+  await write("declaration", `resource r cell\noperation ${names.join(", ")}\n${paths}end\n`);
+  await write("attempts", "");
+  const [declaring, attempting] = [[], []];
+  for (let i = 0; i < 20; i++) declaring.push(await keystroke("declaration", " "));
+  await value(`document.getElementById("attempts").focus()`);
+  for (let i = 0; i < 20; i++) attempting.push(await keystroke("attempts", `1 start o${i}\n`));
+  console.log(`256 operations: a keystroke in the declaration ${inShort(declaring)}; an attempt ${inShort(attempting)}`);
 }
 
 // The numbers beside the lines of a text.
@@ -490,6 +551,170 @@ async function testWorkers() {
   await shows("of which one is chosen", async () => (await field("attempts")).trim().split("\n").at(-1), "17 start eat2");
 }
 
+// The cells of the tables in an element, row by row.
+const cells = id => value(`[...document.querySelectorAll("#${id} tbody tr")].map(row => [...row.cells].map(it => it.innerText.replaceAll("\\n", " / ")))`);
+
+async function testFirstScreen() {
+  const inView = height => value(`["lead", "legend", "choice", "picture", "moment", "sheet"].filter(it =>
+    document.querySelector("." + it).getBoundingClientRect().bottom > ${height})`);
+  for (const [width, height] of [[1600, 900], [1440, 900], [1024, 768]]) {
+    await size(width, height, false);
+    await openPage();
+    await shows(`${width} wide, the picture is on the first screen`, () => inView(height), []);
+    await shows("beside the texts", () => on("#picture", `it.getBoundingClientRect().left > document.querySelector("#declaration-sheet").getBoundingClientRect().right`), true);
+    same("and nothing is wider than the window", await value("document.documentElement.scrollWidth <= innerWidth"), true);
+  }
+  await size(1280, 1100, false);
+  same("each sign has a line", await value(`[...document.querySelectorAll(".legend dt")].map(it => it.textContent)`),
+    ["a ; b", "a , b", "{ a }", "{ a : 3 }", "1 start a", "1 use 0 look", "1 finish 0"]);
+  for (const name of ["readers_and_writers", "two_locks", "slot"]) {
+    await click(`#problems [data-example="${name}"]`);
+    await shows("a problem opens its example", () => field("example"), name);
+    same("and is marked", await value(`[...document.querySelectorAll("#problems [aria-pressed=true]")].map(it => it.dataset.example)`), [name]);
+  }
+  same("there is a link to the project", await on("#project", "it.getAttribute('href')"), "../README.md");
+}
+
+// Puts the caret into a line of the attempts, from 1.
+const caretInto = line => value(`(it => { it.focus(); const at = attemptsSheet.lines.endOf(${line} - 1); it.setSelectionRange(at, at); })(document.getElementById("attempts"))`);
+const starts = () => value(`[...document.querySelectorAll("#starts button")].map(it => it.textContent)`);
+const liveOnes = () => value(`[...document.querySelectorAll("#live span")].map(it => it.textContent)`);
+// After how many lines the picture has its mark.
+const markedMoment = () => on("#picture .now", "Number(it.getAttribute('x1')) / pictureStep");
+
+async function testMoment() {
+  await choose("pool");
+  await shows("at first all lines are answered", () => text("moment-said"), "after line 12 of 12");
+  await caretInto(4);
+  await shows("the caret's line is the moment", () => text("moment-said"), "after line 4 of 12");
+  await shows("what can start then", starts, ["start query path 0", "start backup path 0"]);
+  await shows("what is live then", liveOnes, [0, 1, 2].map(it => `activation ${it}: query, worker ${it + 1}`));
+  await shows("the path that forbids it is marked", () => marked("declaration"), [["path", "path { query : 3 } , backup end"]]);
+  await shows("the report is that of the lines so far", () => text("report"), "startable\nblocked query 0\nblocked backup 0\nlive 0 1 query\nlive 1 2 query\nlive 2 3 query\nfrozen no\n");
+  await shows("the picture is marked there", markedMoment, 4);
+  await on("#moment", `(it.focus(), it.value = 1, it.dispatchEvent(new Event("input")))`);
+  await shows("the slider goes to a moment", () => text("selected"), "Line 1, 1 start query: started 0. Worker 1 has started query: activation 0.");
+  await shows("with its state", async () => [await starts(), await liveOnes(), await markedMoment()],
+    [["start query", "start backup path 0"], ["activation 0: query, worker 1"], 1]);
+  same("and keeps the focus", await value("document.activeElement.id"), "moment");
+  await click("#earlier");
+  await shows("before the first line nothing is live", async () => [await text("moment-said"), await starts(), await liveOnes()],
+    ["before line 1", ["start query", "start backup"], []]);
+  await click("#later");
+  await shows("one line later", () => text("moment-said"), "after line 1 of 12");
+  const bar = `#picture g[data-line="6"]`;
+  await click(bar + " rect");
+  await shows("a click on a bar goes to its start", () => text("selected"), "Line 7, 4 start query: started 3. Worker 4 has started query: activation 3.");
+  await click(bar + " rect");
+  await shows("another one to its finish", () => text("selected"), "Line 10, 4 finish 3: finished. Activation 3 has ended.");
+  await click(`#picture g[data-line="4"] .path`);
+  await shows("a click on a tick goes to its line", () => text("moment-said"), "after line 5 of 12");
+  await value(`document.getElementById("picture").focus()`);
+  for (const [key, line] of [["ArrowLeft", 4], ["ArrowRight", 5], ["End", 12]]) {
+    await press(key);
+    await shows(`${key} in the picture`, () => text("moment-said"), `after line ${line} of 12`);
+  }
+  await click(`#attempts-sheet .replies [data-line="0"]`);
+  await shows("a click on a reply goes to its line", () => text("moment-said"), "after line 1 of 12");
+  await click(`#starts [data-key="start query"]`);
+  await shows("an attempt is written at the moment", async () => (await field("attempts")).split("\n").slice(0, 3), ["1 start query", "1 start query", "2 start query"]);
+  await shows("which goes on by a line", () => text("moment-said"), "after line 2 of 13");
+  same("and Ctrl+Z takes it back", await undone("attempts"), read("pool/attempts"));
+  await write("attempts", "");
+  await shows("without lines there is no moment to choose", () => text("moment-said"), "no line yet");
+}
+
+async function testTables() {
+  await choose("readers_and_writers");
+  await shows("what can happen next is a table", () => cells("next"),
+    [["read", "blocked", "path 0: { read }, write"], ["write", "blocked", "path 0: { read }, write"], ["2", "write", "3", "7"], ["book", "no"]]);
+  await shows("so are the semaphores", () => cells("semaphores"), [
+    ["read", "PP(c0,P(s0)) / adds 1 to c0; the first in takes 1 from s0", "VV(c0,V(s0)) / takes 1 from c0; the last out gives 1 to s0"],
+    ["write", "P(s0) / takes 1 from s0", "V(s0) / gives 1 to s0"]]);
+  await shows("with what was trimmed", () => on("#semaphores .faint", "it.textContent"), "semaphore s0 opens with 1, counter c0 opens with 0; trimmed: m0");
+  await caretInto(1);
+  await shows("the table is that of the moment", () => cells("next"), [["read", "can start", ""], ["write", "blocked", "path 0: { read }, write"], ["0", "read", "1", "1"], ["book", "no"]]);
+  await choose("knot");
+  await shows("nothing can happen any more", () => on("#next > .no", "it.textContent"), "Nothing is live and nothing can start: nothing is ever admitted again.");
+  await write("declaration", "resource r cell operation a, b path a, b end path a, b end path { a } end end");
+  await shows("a path that says the same as another", () => value(`[...document.querySelectorAll("#semaphores h3, #semaphores h3 + p")].map(it => it.textContent)`),
+    ["Path 0 of r: a, b", "semaphore s0 opens with 1", "Path 1 of r: a, b", "It says the same as path 0, which is asked first.", "Path 2 of r: { a }", "trimmed: s2, c0, m0"]);
+}
+
+const items = id => value(`[...document.querySelectorAll("#${id} li")].map(it => it.textContent)`);
+
+async function testWhy() {
+  await choose("slot");
+  await caretInto(2);
+  await shows("why a start is refused", () => items("why"), ["in progress: deposit (activation 0, worker 1); may begin next: nothing"]);
+  await caretInto(3);
+  await shows("of what isn't refused nothing is said", () => items("why"), []);
+  await shows("a resource isn't stuck", async () => (await cells("next")).at(-1), ["slot", "no"]);
+  await choose("knot");
+  await shows("or it is", async () => (await cells("next")).at(-1), ["r", "yes, nothing of it is live, and none of its operations can start"]);
+  await choose("two_locks");
+  await shows("who waits for whom", () => value(`[...document.querySelectorAll("#next .why li")].map(it => it.textContent)`),
+    ["worker 1 holds left and was refused right", "worker 2 holds right and was refused left", "none of these starts before something finishes"]);
+  await caretInto(3);
+  await shows("before that nobody did", () => value(`document.querySelectorAll("#next .why li").length`), 0);
+  await click("#explaining summary");
+  await shows("why, line by line", () => text("explained"), read("two_locks/explained").split("\n").slice(0, 5).join("\n"));
+  await click("#explaining summary");
+  await choose("visitors");
+  await caretInto(4);
+  await shows("why it is another's", () => items("why"), ["activation 1 is worker 1's: write"]);
+  await choose("slot");
+  await write("attempts", "1 start deposit\n1 start remvoe\n");
+  await value(`document.getElementById("attempts").blur()`);
+  await shows("what was expected, and the likely name", () => items("why"),
+    ["this isn't a declared operation", "expected the name of a declared operation", "nearest name: remove"]);
+  await shows("of the line at fault", () => text("selected"), "Line 2, 1 start remvoe: undeclared.");
+  await caretInto(1);
+  await shows("above the fault there is none", () => items("why"), []);
+  await write("declaration", "resource slot cell operation deposit, remove path deposit ; remvoe end end");
+  await value(`document.getElementById("declaration").blur()`);
+  await shows("what was expected in a declaration", () => items("declaration-why"),
+    ["this isn't an operation of the path's resource", "expected an operation that the resource declares", "nearest name: remove"]);
+  await choose("till");
+  await shows("what was owed to a wrong line", () => items("journal-why"),
+    ["owed: used 420", "till: can start: sale; blocked: count by path 0; live: sale (activation 0, worker 1), sale (activation 1, worker 2); stuck for ever: no"]);
+  await write("journal", "1 start sale\n");
+  await shows("what was expected in a journal", () => items("journal-why"), ["this line can't be read", "expected `: ` and the reply"]);
+}
+
+async function testFiles() {
+  await choose("pool");
+  await value(`navigator.clipboard.writeText = text => { window.copied = text; return Promise.resolve(); }`);
+  await click("#link");
+  await shows("the link is copied", async () => [await text("files-said"), (await value("copied")).split("#")[1]], ["The link is copied.", "example=pool"]);
+  await value(`navigator.clipboard.writeText = () => Promise.reject(new Error("not allowed"))`);
+  await click("#link");
+  await shows("or not", () => text("files-said"), "The browser doesn't let this page copy. Copy the address of the tab: it is the link.");
+  const { root } = await send("DOM.getDocument");
+  const { nodeId } = await send("DOM.querySelector", { nodeId: root.nodeId, selector: "#files" });
+  const choosing = files => send("DOM.setFileInputFiles", { nodeId, files: files.map(it => resolve(join(examples, it))) });
+  await choosing(["till/journal", "till/declaration"]);
+  await shows("files are opened", async () => [await field("declaration"), await field("attempts"), await field("journal")],
+    [read("till/declaration"), read("pool/attempts"), read("till/journal")]);
+  await shows("and named", () => text("files-said"), "Opened: journal, journal; declaration, declaration.");
+  await choosing(["slot/declaration", "slot/attempts"]);
+  await shows("so are attempts", () => field("attempts"), read("slot/attempts"));
+  await value(`URL.createObjectURL = blob => { blob.text().then(it => { window.saved = it; }); return "#"; }`);
+  const saving = { declaration: read("slot/declaration"), attempts: read("slot/attempts"), journal: read("slot/trace") };
+  for (const [kind, wanted] of Object.entries(saving)) {
+    await value("window.saved = null, HTMLAnchorElement.prototype.click = function () { window.savedAs = this.download; }");
+    await click("#save-" + kind);
+    await shows(`${kind} is saved`, () => value("[savedAs, saved]"), [kind, wanted]);
+  }
+  await value(`dispatchEvent(new Event("beforeprint"))`);
+  await send("Emulation.setEmulatedMedia", { media: "print" });
+  await shows("on paper all lines of the texts", () => on("#attempts-printed", "[it.textContent, it.offsetHeight > 0]"),
+    [read("slot/explained").split("\n\n")[0], true]);
+  same("and no buttons", await value(`[...document.querySelectorAll("button, textarea")].filter(it => it.offsetHeight > 0).length`), 0);
+  await send("Emulation.setEmulatedMedia", { media: "" });
+  await openPage();
+}
+
 // The contrast of two of the page's colours, by their names in the style.
 const contrasts = pairs => value(`(${JSON.stringify(pairs)}).map(pair => {
   const light = name => {
@@ -537,8 +762,9 @@ async function spokenAs(selector) {
 async function testSpoken() {
   await choose("slot");
   await shows("a button's name has its activation", () => spokenAs(`#live [data-key="finish 1"]`), ["button", "finish activation 1, remove"]);
-  await shows("the report has a name", () => spokenAs("#report"), ["region", "What can happen next"]);
-  await shows("so have the semaphores", () => spokenAs("#compiled"), ["region", "The semaphores"]);
+  await shows("what can happen next has a name", () => spokenAs("#next"), ["region", "What can happen next"]);
+  await shows("so have the semaphores", () => spokenAs("#semaphores"), ["region", "The semaphores"]);
+  await shows("the slider says where it is", () => on("#moment", "it.getAttribute('aria-valuetext')"), "after line 6 of 6");
   const changes = await value(`new Promise(done => {
     let changes = 0;
     const observer = new MutationObserver(records => { changes += records.length; });
@@ -592,7 +818,12 @@ async function testMany() {
   await shows("what is drawn is what was answered", () => value(`(({ first, last, numbers, replies }) =>
     [...numbers.element.children].map(it => it.textContent).join() === Array.from({ length: last - first }, (_, i) => first + i + 1).join()
     && [...replies.element.children].every((it, i) => it.textContent === "line " + (first + i + 1) + ": " + answered.entry(first + i)?.reply))(attemptsSheet)`), true);
+  await value(`(it => { it.focus(); it.value = ${MANY}; it.setSelectionRange(it.value.length, it.value.length); it.dispatchEvent(new Event("input")); })(document.getElementById("attempts"))`);
+  await until("state.lines === 10000");
+  await measureClicks();
   await measureKeystrokes(inPage);
+  await measureOpening();
+  await measureDeclaration();
   await openPage();
 }
 
@@ -603,7 +834,7 @@ try {
   await openPage();
   console.log((await text("about")).split(". ")[0]);
   for (const test of [testExamples, testTyping, testHalfTyped, testClicking, testDrafts, testSlips, testAudit, testAddress, testPicture,
-    testNumbers, testScrolling, testWorkers, testContrast, testSpoken, testWithout, testMany]) await test();
+    testNumbers, testScrolling, testWorkers, testFirstScreen, testMoment, testTables, testWhy, testFiles, testContrast, testSpoken, testWithout, testMany]) await test();
   await choose("philosophers");
   await shoot("wide");
   await size(800, 1100, false);

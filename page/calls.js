@@ -112,6 +112,11 @@ function callsOf(module) {
     compile: declaration => call("compile", [declaration], 16 * declaration.length + PAGE, MEBIBYTE),
     // Whether a journal is sound, in the room that it names, else in this one.
     audit: (declaration, journal, room = MOST_LINES) => call("audit", [declaration, room, journal], 256, MEBIBYTE + 8 * journal.length),
+    // The attempts with their replies, why each refused one is, and how each resource stands behind them.
+    explain: (declaration, attempts, room = roomFor(attempts)) =>
+      call("explain", [declaration, room, attempts], 16 * attempts.length + PAGE, MEBIBYTE + 64 * attempts.length),
+    // Whether a journal is sound, and if not, its first wrong line and what was owed; and how each resource stands behind that.
+    judge: (declaration, journal, room = MOST_LINES) => call("judge", [declaration, room, journal], PAGE, MEBIBYTE + 16 * journal.length),
     // The attempts as an SVG.
     picture: (declaration, attempts, room = roomFor(attempts)) =>
       call("picture", [declaration, room, attempts], 32 * attempts.length + PAGE, MEBIBYTE + 64 * attempts.length),

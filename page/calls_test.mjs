@@ -7,8 +7,8 @@ import { existsSync, readdirSync, readFileSync } from "node:fs";
 const [file, examples] = process.argv.slice(2);
 const page = readFileSync(file, "utf8");
 const element = id => new RegExp(`<script id="${id}"[^>]*>([^]*?)</script>`).exec(page)[1];
-const names = "{ callsOf, callOnce, answersTo, verdictOn, declaredIn, pathPlaces, lanesOf, Lines }";
-const code = ["calls-code", "texts-code", "lanes-code"].map(element).join("\n");
+const names = "{ callsOf, callOnce, answersTo, verdictOn, declaredIn, pathPlaces, lanesOf, Lines, standingIn, whyLast, faultWords, trimmedIn }";
+const code = ["calls-code", "texts-code", "lanes-code", "tables-code"].map(element).join("\n");
 const its = new Function(`${code}\nreturn ${names};`)();
 const module = await WebAssembly.compile(Buffer.from(element("module"), "base64"));
 const calls = its.callsOf(module);
@@ -30,7 +30,7 @@ function same(what, is, wanted) {
 
 same("imports", WebAssembly.Module.imports(module), []);
 const exported = WebAssembly.Module.exports(module).map(it => it.name).sort();
-same("exports", exported, ["__heap_base", "memory", ...["audit", "check", "compile", "picture", "trace"].map(it => "path_page_" + it)]);
+same("exports", exported, ["__heap_base", "memory", ...["audit", "check", "compile", "explain", "judge", "picture", "trace"].map(it => "path_page_" + it)]);
 
 // ---- the examples
 
@@ -51,6 +51,15 @@ for (const name of readdirSync(examples)) {
     same(`${name}: paths`, its.pathPlaces(declaration).length, its.declaredIn(read("printed")).paths.length);
   }
   if (read("picture.svg") !== null) same(`${name}: picture`, calls.picture(declaration, attempts), done(read("picture.svg")));
+  if (read("explained") !== null) same(`${name}: explained`, calls.explain(declaration, attempts), done(read("explained")));
+  if (read("judged") !== null) {
+    const status = read("judged").startsWith("sound") ? 0 : 5;
+    same(`${name}: judged`, calls.judge(declaration, read("journal") ?? read("trace"), 4096), { status, out: read("judged"), err: "" });
+  }
+  if (read("listing") !== null) {
+    const paths = its.trimmedIn(read("listing"));
+    same(`${name}: semaphores`, paths.map(it => it.path), its.declaredIn(read("printed")).paths.map((_, i) => i));
+  }
   if (report !== null) same(`${name}: report`, calls.trace(declaration, attempts, true), done(trace + report));
   if (read("verdict") !== null) {
     const verdict = read("verdict");
@@ -70,6 +79,16 @@ same("no room", calls.trace(SLOT, "", false, 0), refused(2, "open: bad room"));
 same("a bad line", calls.trace(SLOT, "1 start deposit\n1 strat", false), refused(4, "text: bad line 1"));
 same("a picture of a bad line", calls.picture(SLOT, "1 strat"), refused(4, "text: bad line 0"));
 same("a wrong line", calls.audit(SLOT, "1 start remove: started 0\n"), { status: 5, out: "wrong line 0\n", err: "" });
+const placed = (err, says) => same("words of a fault", its.faultWords(err), says);
+placed(calls.explain(SLOT, "1 start deposit\n1 start remvoe\n").err,
+  ["this isn't a declared operation", "expected the name of a declared operation", "nearest name: remove"]);
+placed(calls.explain("resource r cell operation a, a end", "").err, ["an earlier operation has this name", "expected a name of its own"]);
+placed(calls.judge(SLOT, "1 start deposit\n").err, ["this line can't be read", "expected `: ` and the reply"]);
+placed(calls.explain(SLOT, "", 0).err, []);
+const why = attempts => its.whyLast(its.standingIn(calls.explain(SLOT, attempts).out).front, attempts.split("\n").length - 1);
+same("why the last attempt is refused", why("1 start deposit\n2 start remove\n"), ["in progress: deposit (activation 0, worker 1); may begin next: nothing"]);
+same("why not another one", why("1 start deposit\n2 start remove\n1 finish 0\n"), []);
+same("without attempts", [why(""), its.standingIn(calls.explain(SLOT, "").out).resources.map(it => [it.name, it.isStuck])], [[], [["slot", false]]]);
 const half = its.answersTo(calls, SLOT, "1 start deposit\n1 start insert\n");
 same("lines before a fault are answered", [half.entries.map(it => it.reply), half.fault],
   [["started 0"], { says: "text: undeclared in line 2", line: 1, name: "insert" }]);

@@ -47,8 +47,8 @@ function lanesOf(entries) {
 // The width of the workers' names.
 const labelWidth = ({ lanes }) => Math.max(LANE.label, 8 + LANE.letter * Math.max(0, ...lanes.map(lane => `worker ${lane.worker}`.length)));
 
-// The width of a line, so that a short picture fills the page and a long one can be read.
-const stepFor = lines => Math.max(10, Math.min(44, Math.floor(1000 / Math.max(1, lines))));
+// The width of a line, so that a short picture fills its place and a long one can be read.
+const stepFor = (lines, width) => Math.max(10, Math.min(44, Math.floor(width / Math.max(1, lines))));
 
 // The part of the picture in a window of it, as SVG: lines [from, to), and lanes between two heights.
 function drawn(picture, step, window) {
@@ -73,24 +73,32 @@ function drawn(picture, step, window) {
     const says = `activation ${run.activation}: ${run.name}, ${lines}`;
     const letters = Math.floor((width - 8) / LANE.letter);
     const name = run.name.length <= letters ? run.name : letters > 1 ? run.name.slice(0, letters - 1) + "…" : "";
-    out.push(`<g><title>${escaped(says)}</title><rect class="bar${isLive ? " live" : ""}" x="${left}" y="${top}" width="${width}" height="${LANE.bar}" rx="3"/>`);
+    out.push(`<g data-line="${run.from}"${isLive ? "" : ` data-end="${end}"`}><title>${escaped(says)}</title><rect class="bar${isLive ? " live" : ""}" x="${left}" y="${top}" width="${width}" height="${LANE.bar}" rx="3"/>`);
     if (name) out.push(`<text class="name${isLive ? " live" : ""}" x="${left + 5}" y="${top + 15}">${escaped(name)}</text>`);
     out.push("</g>");
   }
   for (const { run, line, says } of picture.uses) {
     if (line < window.from || line >= window.to || !isSeen(run.lane)) continue;
-    out.push(`<circle class="use${run.to === Infinity ? " live" : ""}" cx="${x(line) + step / 2}" cy="${run.lane.top + run.row * LANE.row + LANE.bar - 3}" r="2"><title>${escaped(says)}</title></circle>`);
+    out.push(`<circle data-line="${line}" class="use${run.to === Infinity ? " live" : ""}" cx="${x(line) + step / 2}" cy="${run.lane.top + run.row * LANE.row + LANE.bar - 3}" r="2"><title>${escaped(says)}</title></circle>`);
   }
   for (const { lane, line, path, name } of picture.ticks) {
     if (line < window.from || line >= window.to || !isSeen(lane)) continue;
     const at = x(line) + Math.min(step / 2, 8);
     const low = lane.top + lane.height - LANE.ticks + 5;
     const ends = `x1="${at}" x2="${at}" y1="${lane.top - 1}" y2="${low}"`;
-    out.push(`<g><title>${escaped(`line ${line + 1}: ${name} blocked by path ${path}`)}</title>`);
+    out.push(`<g data-line="${line}"><title>${escaped(`line ${line + 1}: ${name} blocked by path ${path}`)}</title>`);
     out.push(`<line class="halo" ${ends}/><line class="tick" ${ends}/>`);
     out.push(`<text class="path" x="${at + 3}" y="${low}">${path}</text></g>`);
   }
   return out.join("");
+}
+
+// The moment behind so many lines, as SVG: a line, and a veil over what comes later.
+function momentMark(picture, step, lines) {
+  const x = lines * step;
+  const later = (picture.lines - lines) * step + LANE.margin * 2;
+  return `<rect class="veil" x="${x}" y="${LANE.head - 5}" width="${lines < picture.lines ? later : 0}" height="${picture.height - LANE.head + 5}"/>`
+    + `<line class="now" x1="${x}" x2="${x}" y1="0" y2="${picture.height}"/>`;
 }
 
 // The names of the lanes between two heights, as SVG.
@@ -101,10 +109,12 @@ function labels(picture, window) {
     .join("");
 }
 
+// A number of things.
+const counted = (number, what) => `${number} ${what}${number === 1 ? "" : "s"}`;
+
 // The picture in one sentence.
 function summaryOf(picture) {
   const live = picture.runs.filter(run => run.to === Infinity).length;
-  const counted = (number, what) => `${number} ${what}${number === 1 ? "" : "s"}`;
   return `${counted(picture.lines, "line")}: ${counted(picture.lanes.length, "worker")}, ${counted(picture.runs.length, "activation")} of which ${live} live, `
     + `${counted(picture.ticks.length, "refused start")}.`;
 }

@@ -193,6 +193,31 @@ function verdictOn(calls, declaration, journal) {
   return { says: fromOne(says, head + 1), isSound: told.status === 0, line: wrong ? Number(wrong[1]) + head : undefined };
 }
 
+// What `explain` says behind attempts or a journal, of which `front` is what is said of the lines themselves: { front, resources, waits };
+// of each resource its name, lines on how it stands, and whether it is stuck; and lines on who waits, if all that is live does.
+function standingIn(text) {
+  const [front, ...blocks] = ("\n" + text).split("\n\n");
+  const read = blocks.map(block => linesOf(block).map(it => it.trim()));
+  const resources = read.filter(([head]) => !head.includes(" "))
+    .map(([name, ...says]) => ({ name, says, isStuck: says.includes("stuck for ever: yes") }));
+  const waits = read.filter(([head]) => head.includes(" ")).flatMap(([, ...says]) => says);
+  return { front: front.slice(1), resources, waits };
+}
+
+// What `explain` says below the last line of so many, each in a line. That a path forbids it is left out, unless others do, too: it is
+// what the reply says.
+function whyLast(front, lines) {
+  const last = front.slice(front.lastIndexOf(`\n${lines}: `) + 1);
+  return linesOf(last).slice(1).map(it => it.trim()).filter(it => !/^forbidden by path \d+:/.test(it));
+}
+
+// What `explain` says of a text's fault, each in a line: what it is, what was expected, and what is likely meant. Its place isn't there.
+function faultWords(err) {
+  const [place, , , ...more] = linesOf(err);
+  const said = /^\w+:\d+:\d+: (.*)$/.exec(place);
+  return said ? [said[1], ...more] : [];
+}
+
 // The attempts so far as one more line makes them.
 function withLine(attempts, line) {
   return attempts + (attempts === "" || attempts.endsWith("\n") ? "" : "\n") + line + "\n";

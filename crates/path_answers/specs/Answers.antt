@@ -10,6 +10,8 @@ use Rattle.path_commands.specs.Prints.{IsPrintOf}
 use Rattle.path_commands.specs.Compiles.{IsCompiledOf}
 use Rattle.path_commands.specs.Audits.{IsBadJournal, LacksRoom, TellsSound, TellsVerdict, TellsWrong, Under}
 use Rattle.path_model.specs.Rooms.{IsBadRoom}
+use Rattle.path_explain.specs.Explanations.{IsExplanationOfTexts}
+use Rattle.path_explain.specs.Judgements.{IsJudgedText, TellsJudgement}
 use Rattle.path_picture.specs.Pictures.{HasAttemptsUnder, IsPicture, IsUndrawn}
 
 -- nothing was written, for this cause
@@ -53,6 +55,26 @@ IsAuditAnswer declaration room journal StreamFailed out = ⊥
 IsAuditAnswer declaration room journal TextRefused out = Refused (Under declaration (λ d. IsBadJournal d journal)) out
 IsAuditAnswer declaration room journal Unsound out = Under declaration (λ d. TellsWrong d room journal out)
 IsAuditAnswer declaration room journal NoMemory out = IsFrontOf (λ all. Under declaration (λ d. TellsVerdict d room journal all)) out
+
+-- how explaining attempts ends, and what it writes
+abbrev pub IsExplainAnswer : List ℕ → ℕ → List ℕ → Status → List ℕ → Type 0
+IsExplainAnswer declaration room attempts Done out = IsExplanationOfTexts declaration room attempts out
+IsExplainAnswer declaration room attempts DeclarationRefused out = Refused (IsNoDeclaration declaration) out
+IsExplainAnswer declaration room attempts CommandRefused out = Refused (LacksRoomUnder declaration room attempts) out
+IsExplainAnswer declaration room attempts StreamFailed out = ⊥
+IsExplainAnswer declaration room attempts TextRefused out = Refused (IsBadTextUnder declaration attempts) out
+IsExplainAnswer declaration room attempts Unsound out = ⊥
+IsExplainAnswer declaration room attempts NoMemory out = IsFrontOf (IsExplanationOfTexts declaration room attempts) out
+
+-- how explaining a journal ends, and what it writes
+abbrev pub IsJudgeAnswer : List ℕ → ℕ → List ℕ → Status → List ℕ → Type 0
+IsJudgeAnswer declaration room journal Done out = Under declaration (λ d. IsJudgedText d room journal Done out)
+IsJudgeAnswer declaration room journal DeclarationRefused out = Refused (IsNoDeclaration declaration) out
+IsJudgeAnswer declaration room journal CommandRefused out = Refused (Under declaration (λ d. LacksRoom d room journal)) out
+IsJudgeAnswer declaration room journal StreamFailed out = ⊥
+IsJudgeAnswer declaration room journal TextRefused out = Refused (Under declaration (λ d. IsBadJournal d journal)) out
+IsJudgeAnswer declaration room journal Unsound out = Under declaration (λ d. IsJudgedText d room journal Unsound out)
+IsJudgeAnswer declaration room journal NoMemory out = IsFrontOf (λ all. Under declaration (λ d. TellsJudgement d room journal all)) out
 
 -- how drawing attempts ends, and what it writes: a picture
 abbrev pub IsPictureAnswer : List ℕ → ℕ → List ℕ → Status → List ℕ → Type 0

@@ -6,7 +6,7 @@ ghost use Rattle.path_answers.specs.Buffers.{IsShort, overlaid};
 use path_streams::Status;
 use std::alloc::Allocator;
 
-/// The bytes that are set aside for the line of a fault before anything else is allocated. None is longer.
+/// The bytes that are set aside for the line of a fault before anything else is allocated. No line of a fault alone is longer.
 const LONGEST_FAULT: usize = 64;
 
 /// How a command ended, and the two texts that it wrote.
@@ -16,7 +16,7 @@ pub struct Answer<A: Allocator> {
     pub status: Status,
     /// What the program writes on standard output.
     pub out: Vec<u8, A>,
-    /// What the program writes on standard error: a fault in one line, or nothing.
+    /// What the program writes on standard error: a fault in one line or with its place, or nothing.
     pub err: Vec<u8, A>,
 }
 

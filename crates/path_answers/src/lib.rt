@@ -5,4 +5,4 @@ mod answer;
 mod commands;
 
 pub use answer::{Answer, TooShort};
-pub use commands::{audit, check, compile, picture, trace};
+pub use commands::{audit, check, compile, explain, judge, picture, trace};

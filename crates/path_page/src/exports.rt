@@ -7,10 +7,11 @@
 //! also for an empty text; and 0 or 1 for a `bool`.
 
 ghost use Rattle.path_answers.specs.Answers.{IsAuditAnswer, IsCheckAnswer, IsCompileAnswer, IsPictureAnswer, IsTraceAnswer};
+ghost use Rattle.path_answers.specs.Answers.{IsExplainAnswer, IsJudgeAnswer};
 ghost use Rattle.path_page.specs.Told.{IsTold};
 
 use crate::tell::{Lengths, tell};
-use path_answers::{audit, check, compile, picture, trace};
+use path_answers::{audit, check, compile, explain, judge, picture, trace};
 use path_arena::{Arena, Memory};
 
 /// The trace of attempts in a journal with room for so many lines, and behind it the report if `report` is set.
@@ -81,6 +82,46 @@ pub extern "C" fn path_page_audit(
 {
     let arena = Arena::new(memory);
     let answer = audit(&arena, declaration, room, journal);
+    tell(&answer, out, err, lengths)
+}
+
+/// The attempts with their replies and why each refused one is refused, in a journal with room for so many lines, and how each resource
+/// stands behind them.
+#[unsafe(no_mangle)]
+pub extern "C" fn path_page_explain(
+    memory: Memory,
+    declaration: &[u8],
+    room: u32,
+    attempts: &[u8],
+    out: &mut [u8],
+    err: &mut [u8],
+    lengths: &mut Lengths,
+) -> u32
+    ensures { IsTold (IsExplainAnswer declaration.now room attempts.now) result lengths.new.out lengths.new.err
+        out.old out.new err.old err.new }
+{
+    let arena = Arena::new(memory);
+    let answer = explain(&arena, declaration, room, attempts);
+    tell(&answer, out, err, lengths)
+}
+
+/// Whether the text of a journal is sound, in the room that it names, else in this one, and if not, its first wrong line and the reply
+/// that was owed; and how each resource stands behind that.
+#[unsafe(no_mangle)]
+pub extern "C" fn path_page_judge(
+    memory: Memory,
+    declaration: &[u8],
+    room: u32,
+    journal: &[u8],
+    out: &mut [u8],
+    err: &mut [u8],
+    lengths: &mut Lengths,
+) -> u32
+    ensures { IsTold (IsJudgeAnswer declaration.now room journal.now) result lengths.new.out lengths.new.err
+        out.old out.new err.old err.new }
+{
+    let arena = Arena::new(memory);
+    let answer = judge(&arena, declaration, room, journal);
     tell(&answer, out, err, lengths)
 }
 

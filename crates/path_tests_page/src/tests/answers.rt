@@ -1,6 +1,6 @@
 //! Each command once, and each with every request for memory refused in turn.
 
-use path_answers::{Answer, audit, check, compile, picture, trace};
+use path_answers::{Answer, audit, check, compile, explain, judge, picture, trace};
 use path_streams::Status;
 use std::alloc::{Allocator, Global};
 use std::process::Abort;
@@ -14,6 +14,8 @@ enum Command {
     Trace,
     Audit,
     Picture,
+    Explain,
+    Judge,
 }
 
 /// A command, its declaration and its other text, how it ends, and its two texts.
@@ -85,6 +87,58 @@ const ROWS: &[Row] = &[
     ),
 ];
 
+/// What is explained: the words are those of the program.
+const EXPLAINED: &[Row] = &[
+    (
+        Command::Explain,
+        "resource r cell operation a, b path a ; b end path b ; a end end",
+        "1 start a\n",
+        Status::Done,
+        "1: 1 start a: blocked 1\n   forbidden by path 1: path b; a end\n   in progress: nothing; may begin next: b\n\n\
+            r\n   can start: nothing\n   blocked: a by path 1, b by path 0\n   live: nothing\n   stuck for ever: yes\n",
+        "",
+    ),
+    (
+        Command::Judge,
+        "resource slot cell operation deposit end",
+        "1 start deposit: started 1\n",
+        Status::Unsound,
+        "line 1 is wrong: 1 start deposit: started 1\n   owed: started 0\n\n\
+            slot\n   can start: deposit\n   blocked: nothing\n   live: deposit (activation 0, worker 1)\n   stuck for ever: no\n",
+        "",
+    ),
+];
+
+/// Faults that are told with their place. Where there is no memory for that, one line is told.
+const PLACED: &[Row] = &[
+    (
+        Command::Explain,
+        "resource r cell operation add end",
+        "1 start ad\n",
+        Status::TextRefused,
+        "",
+        "attempts:1:9: this isn't a declared operation\n1 start ad\n        ^^\nexpected the name of a declared operation\n\
+            nearest name: add\n",
+    ),
+    (
+        Command::Explain,
+        "resource r cell operation a, a end",
+        "",
+        Status::DeclarationRefused,
+        "",
+        "declaration:1:30: an earlier operation has this name\nresource r cell operation a, a end\n\
+            \u{20}                            ^\nexpected a name of its own\n",
+    ),
+    (
+        Command::Judge,
+        "resource r cell operation a end",
+        "1 start a\n",
+        Status::TextRefused,
+        "",
+        "journal:1:10: this line can't be read\n1 start a\n         ^\nexpected `: ` and the reply\n",
+    ),
+];
+
 fn answer<A: Allocator + Copy>(alloc: A, row: &Row) -> Answer<A> {
     let (declaration, text) = (row.1.as_bytes(), row.2.as_bytes());
     match row.0 {
@@ -93,6 +147,8 @@ fn answer<A: Allocator + Copy>(alloc: A, row: &Row) -> Answer<A> {
         Command::Trace => trace(alloc, declaration, 9, true, text),
         Command::Audit => audit(alloc, declaration, 9, text),
         Command::Picture => picture(alloc, declaration, 9, text),
+        Command::Explain => explain(alloc, declaration, 9, text),
+        Command::Judge => judge(alloc, declaration, 9, text),
     }
 }
 
@@ -113,6 +169,8 @@ fn check_answers(rt: &impl Abort, heap: Global, rows: &[Row]) {
 #[test]
 fn each_command_answers(rt: HostRuntime) {
     check_answers(&rt, rt.alloc(), ROWS);
+    check_answers(&rt, rt.alloc(), EXPLAINED);
+    check_answers(&rt, rt.alloc(), PLACED);
 }
 
 // Whether a command answers as its row says, or that memory ran out because this allocator refused a request: then in words, or in no
@@ -144,4 +202,5 @@ fn refuse_each_request(rt: &impl Abort, heap: Global, rows: &[Row]) {
 #[test]
 fn wanting_memory_is_never_another_answer(rt: HostRuntime) {
     refuse_each_request(&rt, rt.alloc(), ROWS);
+    refuse_each_request(&rt, rt.alloc(), EXPLAINED);
 }
