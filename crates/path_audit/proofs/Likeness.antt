@@ -38,7 +38,7 @@ module _ (d : Declaration) (old new : Present) (before after : Held) (w : ℕ) (
   like_start a (Started n) is m = like_plain before.fails reply (Started n) is (λ x e. cc) (λ e. cc)
   like_start a (Blocked p) is m = like_plain before.fails reply (Blocked p) is (λ x e. cc) (λ e. cc)
   like_start a UnknownOperation is m = like_plain before.fails reply UnknownOperation is (λ x e. cc) (λ e. cc)
-  like_start a r is m = absurd m
+  like_start a r is m = absurd m.0
 
   like_use : (verb : Verb) (o : Option Activation) → MovesUse (λ (h : Held). h.contents) asked d w verb o before reply after → IsLike before.fails reply
   like_use verb None m = like_plain before.fails reply Stale m.0 (λ x e. cc) (λ e. cc)

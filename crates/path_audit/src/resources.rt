@@ -213,4 +213,12 @@ impl<A: Allocator + Copy> Devices for Resources<A> {
             &mut self.contents[resource.0 as usize],
         )
     }
+
+    /// Takes constant time.
+    fn foretell(&self, law: Law, resource: ResId, verb: Verb) -> Reply {
+        match answer(law, verb, &self.contents[resource.0 as usize]) {
+            Ok(number) => Reply::Used(number),
+            Err(refusal) => refusal,
+        }
+    }
 }

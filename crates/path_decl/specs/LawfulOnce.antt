@@ -6,7 +6,7 @@ use mathlib.Core.HLevel.{⊥_prop, ¬_prop}
 use mathlib.Core.Bool.{Bool-set}
 use Rattle.path_model.specs.declared.resource.Law.{Law}
 use Rattle.path_model.specs.declared.resource.Law.TheVariants.{Cell, Tally, Queue}
-use Rattle.path_model.specs.Trees.{Tree, op, seq, alt, burst, any, most, Bound, Room}
+use Rattle.path_model.specs.Trees.{Tree, op, seq, alt, burst, any, most, Bound, BoundAdmits}
 use Rattle.path_model.specs.Trees.{Apart, NoRepeats, NoBraces, NoNesting, FewAtOnce, WellFormed}
 use Rattle.path_model.specs.Legal.{Every}
 use Rattle.path_model.specs.Declarations.{Path, Declaration}
@@ -31,15 +31,15 @@ NoBraces-prop (seq s t) = ×_prop (NoBraces-prop s) (NoBraces-prop t)
 NoBraces-prop (alt s t) = ×_prop (NoBraces-prop s) (NoBraces-prop t)
 NoBraces-prop (burst b s) = ⊥_prop
 
-Room-prop : (b : Bound) (n : ℕ) → IsProp (Room b n)
-Room-prop any n = Unit-prop
-Room-prop (most m) n = le_prop
+BoundAdmits-prop : (b : Bound) (n : ℕ) → IsProp (BoundAdmits b n)
+BoundAdmits-prop any n = Unit-prop
+BoundAdmits-prop (most m) n = le_prop
 
 NoNesting-prop : (s : Tree) → IsProp (NoNesting s)
 NoNesting-prop (op a) = Unit-prop
 NoNesting-prop (seq s t) = ×_prop (NoNesting-prop s) (NoNesting-prop t)
 NoNesting-prop (alt s t) = ×_prop (NoNesting-prop s) (NoNesting-prop t)
-NoNesting-prop (burst b s) = ×_prop (NoBraces-prop s) (Room-prop b 0)
+NoNesting-prop (burst b s) = ×_prop (NoBraces-prop s) (BoundAdmits-prop b 0)
 
 pub FewAtOnce-prop : (s : Tree) → IsProp (FewAtOnce s)
 FewAtOnce-prop (op a) = Unit-prop

@@ -10,7 +10,7 @@ use Rattle.path_trim.specs.LawfulTrees.{LawfulTrees}
 use Rattle.path_trim.specs.LeanTable.{LeanRow, lean_table}
 use Rattle.path_trim.specs.Rows.{row_of}
 use Rattle.path_gate.specs.declared.gate.Term.{Term}
-use Rattle.path_gate.specs.Inner.Opening.{put_all, at_zero, rows_of, terms_for, ops_terms, rows_terms, semaphores_put, counters_put, IsBelow}
+use Rattle.path_gate.specs.Inner.Initial.{put_all, at_zero, rows_of, terms_for, ops_terms, rows_terms, semaphores_put, counters_put, IsBelow}
 use Rattle.path_gate.proofs.Runs.{drop_more}
 use Rattle.path_gate.proofs.Opened.{table_low}
 

@@ -2,7 +2,7 @@
 use Rattle.std.proofs.Common.{◌≡◌, ◌+◌, ◌-◌, ◌<◌, ◌++◌, ◌∷◌, ℕ, List, [], length, map, get_or, drop, replicate, sym, ap, ◌∙◌, arith}
 use Rattle.std.proofs.Math.Seq.{set-append_seam}
 use Rattle.std.specs.Prelude.{slice_set}
-use Rattle.path_gate.specs.Inner.Opening.{put_value, put_all, at_zero}
+use Rattle.path_gate.specs.Inner.Initial.{put_value, put_all, at_zero}
 use Rattle.path_gate.proofs.Runs.{drop_more}
 
 pub put_next : (values new : List ℕ) (i x : ℕ) → i ≡ length values → new ≡ values ++ x ∷ [] → new ≡ put_value values i x

@@ -20,7 +20,7 @@ use Rattle.path_gate.specs.Sites.{unlike, kept_paths}
 use Rattle.path_gate.specs.Standings.{Standing, IsAt}
 use Rattle.path_gate.specs.Inner.Terms.{term_at, terms_at}
 use Rattle.path_gate.specs.Inner.Soundness.{IsSound}
-use Rattle.path_gate.specs.Inner.Opening.{ops_terms, rows_terms, semaphores_put, counters_put, IsBelow}
+use Rattle.path_gate.specs.Inner.Initial.{ops_terms, rows_terms, semaphores_put, counters_put, IsBelow}
 use Rattle.path_gate.proofs.KeptPaths.{rising_kept, every_kept}
 use Rattle.path_gate.proofs.OpeningValues.{zeros, SemaphoresOpen, CountersOpen, semaphores_opened, counters_opened, shows_opened, places_opened}
 

@@ -14,7 +14,7 @@ use Rattle.path_trim.specs.LeanTable.{lean_row, semaphores_left, counters_left}
 use Rattle.path_gate.specs.Levels.{levels}
 use Rattle.path_gate.specs.Sites.{Shows}
 use Rattle.path_gate.specs.Inner.Soundness.{HasPlaces}
-use Rattle.path_gate.specs.Inner.Opening.{put_value, put_all, at_zero, semaphores_put, counters_put}
+use Rattle.path_gate.specs.Inner.Initial.{put_value, put_all, at_zero, semaphores_put, counters_put}
 use Rattle.path_gate.proofs.Passes.{Rising}
 
 true_false : true ≡ false → ⊥

@@ -10,7 +10,7 @@ use Rattle.path_model.specs.declared.ids.PathId.{PathId}
 use Rattle.path_trim.specs.declared.table.LeanOp.{LeanOp}
 use Rattle.path_gate.specs.declared.gate.Term.{Term}
 use Rattle.path_gate.specs.Inner.Soundness.{IsLaidOut, runs_of}
-use Rattle.path_gate.specs.Inner.Opening.{ops_terms}
+use Rattle.path_gate.specs.Inner.Initial.{ops_terms}
 
 -- one list among several with one term more
 pub pushed : {V : Type 0} (f : V → List Term) (xs : List V) (i : ℕ) (old new : V) (t : Term) (a : OpId) → i < length xs → old ≡ get_or xs i old → f new ≡ f old ++ t ∷ []

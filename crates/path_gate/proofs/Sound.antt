@@ -20,7 +20,7 @@ use Rattle.path_trim.specs.LeanTable.{prologue_left}
 use Rattle.path_gate.specs.declared.gate.Term.{Term}
 use Rattle.path_gate.specs.Levels.{Levels, can_pass}
 use Rattle.path_gate.specs.Sites.{kept_paths, Shows}
-use Rattle.path_gate.specs.Standings.{Standing, IsNamed, IsAt, Judges, Admitted, BlocksStay, Released}
+use Rattle.path_gate.specs.Standings.{Standing, IsNamed, IsAt, Judges, Admitted, BlocksStay, Released, SamePlaces, having, CanHave, Restored}
 use Rattle.path_gate.specs.Inner.Terms.{term_at, terms_at, blocking, all_started, all_finished, CanStartAll, CanFinishAll, IsWithin, one_more, one_less}
 use Rattle.path_gate.specs.Inner.Soundness.{HasPlaces, IsSound}
 use Rattle.path_gate.proofs.OnePath.{StartFits, FinishFits, passes_to}
@@ -223,6 +223,9 @@ module _ (g : Standing) (by_op : List (List Term)) (S : IsSound g by_op) (a : Op
   pub admits : Admitted g a (begun_from g terms a.0)
   admits = record { paths = refl; admitted = refl; moved = begun_at }
 
+  pub begun_places : SamePlaces g (begun_from g terms a.0)
+  begun_places = let L = (begun_moved S.history.0 S.history.2).1 in record { semaphores = L.places.0; counters = L.places.1 }
+
   pub begun_sound : blocking terms g.levels ≡ None → IsSound (begun_from g terms a.0) by_op
   begun_sound free = record {
     well_formed = S.well_formed;
@@ -275,6 +278,9 @@ module _ (g : Standing) (by_op : List (List Term)) (S : IsSound g by_op) (a : Op
     pub releases : Released g a (ended_from g terms a.0)
     releases = record { paths = refl; admitted = refl; moved = ended_at }
 
+    pub ended_places : SamePlaces g (ended_from g terms a.0)
+    ended_places = let L = (ended_moved S.history.0 S.history.2).1 in record { semaphores = L.places.0; counters = L.places.1 }
+
     pub ended_sound : IsSound (ended_from g terms a.0) by_op
     ended_sound = record {
       well_formed = S.well_formed;
@@ -290,3 +296,42 @@ module _ (g : Standing) (by_op : List (List Term)) (S : IsSound g by_op) (a : Op
         (let e = S.history.3 in let s = starts_snoc S.history.0 (Ended a) in let o : starts_in (Ended a ∷ []) ≡ 0 = refl in omega arith),
       );
     }
+
+-- values that the gate may have, and counts that were written over the first ones of its own
+module _ (g : Standing) (by_op : List (List Term)) (S : IsSound g by_op) (semaphores counters counts : List ℕ) (admitted : ℕ) (can : CanHave g semaphores counters counts admitted)
+    (new : List ℕ) (long : length new ≡ length g.in_progress) (here : (i : ℕ) → i < length g.in_progress → i < length counts → get_or new i 0 ≡ get_or counts i 0)
+    (past : (i : ℕ) → length counts ≤ i → get_or new i 0 ≡ get_or g.in_progress i 0) where
+  -- an operation that a path names is counted
+  named_counted : (a : OpId) → IsNamed g.paths a → a.0 < length g.in_progress
+  named_counted a n = counted g by_op S a (get_or by_op a.0 []) refl (λ e. n (none_terms a g.paths (sym (S.terms a) ∙ e)))
+
+  pub restored_at : (h : List Event) → IsAt (having g semaphores counters counts admitted) h → IsAt (having g semaphores counters new admitted) h
+  restored_at h at = record {
+    values = at.values;
+    progress = λ a n. (let e = here a.0 (named_counted a n) (can.named a n) in let p = at.progress a n in omega (arith, e, p));
+  }
+
+  still_idle : (a : OpId) → legal.NoneOf (λ s. Names s a) g.paths → get_or new a.0 0 ≡ 0
+  still_idle a none = elim (cases_lt a.0 (length counts)) [
+    | inl within ↦ elim (cases_lt a.0 (length g.in_progress)) [
+      | inl l ↦ here a.0 l within ∙ can.idle a none
+      | inr l ↦ get_or_past new a.0 0 (omega (arith, l, long))
+    ]
+    | inr l ↦ past a.0 l ∙ S.idle a none
+  ]
+
+  pub restored_sound : IsSound (having g semaphores counters new admitted) by_op
+  restored_sound = record {
+    well_formed = S.well_formed;
+    few_at_once = S.few_at_once;
+    terms = S.terms;
+    counts = long ∙ S.counts;
+    places =
+        subst (λ n. legal.Every (λ y. HasPlaces n (length counters) y) (kept_paths g.paths)) (sym can.semaphores)
+        (subst (λ m. legal.Every (λ y. HasPlaces (length g.levels.semaphores) m y) (kept_paths g.paths)) (sym can.counters) S.places);
+    idle = still_idle;
+    history = (can.history.0, can.history.1, restored_at can.history.0 can.history.2, can.history.3);
+  }
+
+  pub restores : Restored g semaphores counters counts admitted (having g semaphores counters new admitted)
+  restores = record { paths = refl; values = refl; admitted = refl; at = restored_at }

@@ -1,5 +1,5 @@
 -- How values are stored, and what loops and private functions know. What a public call promises is in the files beside this one.
 pub mod Terms
 pub mod Soundness
-pub mod Opening
+pub mod Initial
 pub mod Inside

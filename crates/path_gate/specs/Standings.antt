@@ -1,12 +1,12 @@
 -- What contracts see of a gate, and at which history a gate is.
-use Rattle.std.specs.Prelude.{◌≡◌, ◌+◌, ◌↔◌, ℕ, Bool, IsTrue, List, [], ◌∷◌, ◌++◌, slice_index, MatchResult, Result, refl}
+use Rattle.std.specs.Prelude.{◌≡◌, ◌+◌, ◌<◌, ◌≤◌, ◌^◌, ◌↔◌, ℕ, Bool, IsTrue, List, [], ◌∷◌, ◌++◌, length, All, slice_index, MatchResult, Result, refl}
 use Rattle.std.specs.Coded.{Coded, code_by, coded×, coded_ℕ, coded_list}
 use Rattle.path_model.specs.declared.ids.OpId.{OpId}
 use Rattle.path_model.specs.declared.ids.PathId.{PathId}
 use Rattle.path_model.specs.declared.history.Event.{Event}
 use Rattle.path_model.specs.declared.history.Event.TheVariants.{Began, Ended}
 use Rattle.path_model.specs.Trees.{Tree, Names}
-use Rattle.path_model.specs.Histories.{begun, ended}
+use Rattle.path_model.specs.Histories.{begun, ended, starts_in}
 use Rattle.path_model.specs.Legal as legal
 use Rattle.path_model.specs.Machine.{opening}
 use Rattle.path_model.specs.Trimmed.{kept, lean_among}
@@ -75,3 +75,30 @@ pub record Released (old : Standing) (a : OpId) (new : Standing) : Type 0 where
   pub paths : new.paths ≡ old.paths
   pub admitted : new.admitted ≡ old.admitted
   pub moved : (h : List Event) → IsAt old h → IsAt new (h ++ Ended a ∷ [])
+
+-- as many semaphores and counters
+pub record SamePlaces (old new : Standing) : Type 0 where
+  pub semaphores : length new.levels.semaphores ≡ length old.levels.semaphores
+  pub counters : length new.levels.counters ≡ length old.levels.counters
+
+-- the gate with these values and counts, and so many admitted starts
+abbrev pub having : Standing → List ℕ → List ℕ → List ℕ → ℕ → Standing
+having g semaphores counters counts admitted =
+    record { paths = g.paths; levels = levels semaphores counters; in_progress = counts; admitted = admitted }
+
+-- with these values ss and cs and counts ns the gate is at a legal history of n starts: there are as many values as it has, a count for
+-- each operation that a path names, and 0 for the others
+pub record CanHave (g : Standing) (ss cs ns : List ℕ) (n : ℕ) : Type 0 where
+  pub semaphores : length ss ≡ length g.levels.semaphores
+  pub counters : length cs ≡ length g.levels.counters
+  pub small : All (λ k. k < 2 ^ 32) ns
+  pub named : (a : OpId) → IsNamed g.paths a → a.0 < length ns
+  pub idle : (a : OpId) → legal.NoneOf (λ s. Names s a) g.paths → slice_index ns a.0 ≡ 0
+  pub history : (h : List Event) × legal.Legal g.paths h × IsAt (having g ss cs ns n) h × (starts_in h ≡ n)
+
+-- the gate has them
+pub record Restored (old : Standing) (ss cs ns : List ℕ) (n : ℕ) (new : Standing) : Type 0 where
+  pub paths : new.paths ≡ old.paths
+  pub values : new.levels ≡ levels ss cs
+  pub admitted : new.admitted ≡ n
+  pub at : (h : List Event) → IsAt (having old ss cs ns n) h → IsAt new h

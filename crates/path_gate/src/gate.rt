@@ -4,10 +4,11 @@
 //! Those of all paths are in one table. A start does its prologue in each path that names its operation, and is refused if one of
 //! these can't pass; a finish does its epilogues. `specs/Standings.antt` says at which histories a gate is, and what it decides there.
 
-ghost use Rattle.std.specs.Prelude.{◌≡◌, ◌≢◌, ◌+◌, ◌<◌, length, All, IfOk, OnOk, OnErr, MatchResult, slice_index, slice_index_or, []};
+ghost use Rattle.std.specs.Prelude.{◌≡◌, ◌≢◌, ◌+◌, ◌<◌, ◌≤◌, ℕ, length, All, IfOk, OnOk, OnErr, MatchResult, slice_index, slice_index_or, []};
 ghost use Rattle.path_model.specs.Trees.{Names};
 ghost use Rattle.path_model.specs.Legal as legal;
-ghost use Rattle.path_gate.specs.Standings.{IsNamed, IsAt, Judges, Tells, Admitted, BlocksStay, Released};
+ghost use Rattle.path_gate.specs.Standings.{IsNamed, IsAt, Judges, Tells, Admitted, BlocksStay, Released, SamePlaces};
+ghost use Rattle.path_gate.specs.Standings.{CanHave, Restored};
 ghost use Rattle.path_gate.specs.Levels.{levels_in};
 ghost use Rattle.path_gate.specs.Inner.Terms.{IsWithin, blocking, is_blocked_at, all_started, all_finished};
 ghost use Rattle.path_gate.specs.Inner.Terms.{CanStartAll, CanFinishAll, one_more, one_less};
@@ -105,6 +106,18 @@ fn count_finish(in_progress: &mut [u32], terms: &[Term], op: OpId)
 {
     if !terms.is_empty() {
         in_progress[op.0 as usize] -= 1;
+    }
+}
+
+/// Writes counts over the first ones of a list. Those past its end are left out.
+fn write_counts(places: &mut [u32], counts: &[u64])
+    requires { All (λ n. n < 4294967296) counts.now }
+    ensures length { length places.new ≡ length places.old }
+    ensures written { (i : ℕ) → i < length places.old → i < length counts.now → slice_index places.new i ≡ slice_index counts.now i }
+    ensures others { (i : ℕ) → length counts.now ≤ i → slice_index places.new i ≡ slice_index places.old i }
+{
+    for i in 0..places.len().min(counts.len()) {
+        places[i] = counts[i] as u32;
     }
 }
 
@@ -217,6 +230,7 @@ impl<A: Allocator + Copy> Gate<A> {
         ensures ok { OnOk result (Admitted self.old op self.new) }
         ensures blocks { OnOk result (BlocksStay self.old op) }
         ensures err { OnErr result (self.new ≡ self.old) }
+        ensures places { OnOk result (SamePlaces self.old self.new) }
     {
         let terms = run_of(&self.terms, &self.ranges, op);
         match first_blocked(&self.levels, terms) {
@@ -238,6 +252,7 @@ impl<A: Allocator + Copy> Gate<A> {
         requires { IsNamed self.old.paths op → 0 < slice_index self.old.in_progress op.0 }
         ensures moves { Released self.old op self.new }
         ensures unnamed { legal.NoneOf (λ s. Names s op) self.old.paths → self.new ≡ self.old }
+        ensures places { SamePlaces self.old self.new }
     {
         let terms = run_of(&self.terms, &self.ranges, op);
         finish_all(&mut self.levels, terms);
@@ -260,5 +275,39 @@ impl<A: Allocator + Copy> Gate<A> {
             Some(count) => *count,
             None => 0,
         }
+    }
+
+    /// The values of the semaphores, by their numbers in the file. Takes constant time.
+    pub fn semaphores(&self) -> &[u64]
+        ensures { result.now ≡ self.now.levels.semaphores }
+    {
+        &self.levels.semaphores
+    }
+
+    /// The values of the counters, by their numbers in the file. Takes constant time.
+    pub fn counters(&self) -> &[u64]
+        ensures { result.now ≡ self.now.levels.counters }
+    {
+        &self.levels.counters
+    }
+
+    /// Puts back values that a gate of the same paths had at a legal history: those of the semaphores and the counters, and how often
+    /// each of the first operations was in progress, with all that a path names among them. So many starts were admitted in it.
+    ///
+    /// Allocates nothing. The cost is that of copying them.
+    pub fn restore(
+        &mut self,
+        semaphores: &[u64],
+        counters: &[u64],
+        in_progress: &[u64],
+        admitted: u32,
+    )
+        requires { CanHave self.old semaphores.now counters.now in_progress.now admitted }
+        ensures { Restored self.old semaphores.now counters.now in_progress.now admitted self.new }
+    {
+        self.levels.semaphores.copy_from_slice(semaphores);
+        self.levels.counters.copy_from_slice(counters);
+        write_counts(&mut self.in_progress, in_progress);
+        self.admitted = admitted;
     }
 }

@@ -9,7 +9,9 @@ use Rattle.path_lines.specs.LineTexts.{operation_names}
 use Rattle.path_lines.specs.AttemptTexts.{fault_of}
 use Rattle.path_journal.specs.declared.version.Version.{Version}
 use Rattle.path_journal.specs.declared.version.Version.TheVariants.{One, Two, Three}
-use Rattle.path_journal.specs.CutTexts.{Kept, KeptFits, kept_text, lines_of, AreLinesRead, BeginsNoLine, HasLineBehind, BeginsUndeclared, IsTornEnd, AreCutLines, IsDamage}
+use Rattle.path_journal.specs.JournalTexts.{Kept, KeptFits, kept_text, lines_of}
+use Rattle.path_journal.specs.JournalFaults.{BeginsNoLine, BeginsUndeclared}
+use Rattle.path_journal.specs.CutTexts.{AreLinesRead, HasLineBehind, IsTornEnd, AreCutLines, IsDamage}
 use Rattle.path_journal.specs.CutTexts.{front_of, VersionFits, has_marks, heads, HasNoHead, IsCutJournal, IsDamagedAt, IsCutFault, IsNoCutJournal}
 use Rattle.path_journal.proofs.CutLemmas.{reads_once}
 use Rattle.path_journal.proofs.KeptHeads.{one_front}

@@ -24,9 +24,10 @@ use Rattle.path_lines.specs.declared.entry.LineFault.TheVariants as line_faults
 use Rattle.path_lines.specs.LineTexts.{operation_names, operation_text, name_or_number, attempt_text, line_text, reply_text, journal_line_text, AttemptFits}
 use Rattle.path_lines.specs.AttemptTexts.{IsFirstLine, StartsUndeclared}
 use Rattle.path_lines.proofs.CallerLemmas.{named, ends_first, line_clean, undeclared_clean, name_without}
-use Rattle.path_journal.specs.JournalTexts.{LineFits, journal_line}
+use Rattle.path_journal.specs.JournalTexts.{LineFits, journal_line, Kept, KeptFits, mark, kept_line, kept_text}
 use Rattle.path_journal.specs.JournalFaults.{IsUndeclared, IsRecordFault, IsFirstRecordFault}
-use Rattle.path_journal.specs.CutTexts.{Kept, KeptFits, mark, kept_line, kept_text, AreLinesRead, BeginsNoLine, HasLineBehind, HasUndeclaredFirst, BeginsUndeclared}
+use Rattle.path_journal.specs.JournalFaults.{BeginsNoLine, HasUndeclaredFirst, BeginsUndeclared}
+use Rattle.path_journal.specs.CutTexts.{AreLinesRead, HasLineBehind}
 use Rattle.path_journal.proofs.ReplyLemmas.{reply_is_line}
 use Rattle.path_journal.proofs.RecordLemmas.{record_is_line, record_once}
 

@@ -15,8 +15,8 @@ use Rattle.path_lines.specs.declared.texts.TextFault.TheVariants as faults
 use Rattle.path_lines.specs.LineTexts.{operation_names, attempt_text, reply_text, journal_line_text}
 use Rattle.path_lines.specs.AttemptTexts.{IsFirstLine, fault_of}
 use Rattle.path_lines.proofs.CallerLemmas.{ReadLines, first_line, is_first, ends_first, whole_parts, lines_more, all_read, first_of_text, ends_in_feed, refuted, nothing_spelled, spells_once}
-use Rattle.path_journal.specs.JournalTexts.{LineFits, lines_text, head_text, journal_text, AreLinesOf, IsJournalText, AreNoLines, IsNoJournalText}
-use Rattle.path_journal.specs.JournalFaults.{IsUndeclared, IsFirstRecordFault, AreLinesAtFault, IsLinesFault, IsFaultAt, IsJournalFault}
+use Rattle.path_journal.specs.JournalTexts.{LineFits, lines_text, head_text, kept_head, journal_text, AreLinesOf, IsPlainText, AreNoLines, IsNoPlainText}
+use Rattle.path_journal.specs.JournalFaults.{IsUndeclared, IsFirstRecordFault, AreLinesAtFault, IsLinesFault, IsPlainFaultAt, IsPlainFault}
 use Rattle.path_journal.proofs.HeadLemmas.{one_head}
 use Rattle.path_journal.proofs.RecordLemmas.{record_is_line, record_is_some, record_once}
 
@@ -99,10 +99,10 @@ module _ (d : Declaration) (names : AreDistinctNames (operation_names d)) where
     | inr s ↦ lines_first ls (rest ++ 10 ∷ []) t.fits (sym s ∙ ap (λ x. x ++ 10 ∷ []) e)
   ]
 
-  pub of_lines : (text : List ℕ) (ls : List Line) → AreLinesOf d text ls → IsJournalText d text None ls
+  pub of_lines : (text : List ℕ) (ls : List Line) → AreLinesOf d text ls → IsPlainText d text None ls
   of_lines text ls t = record { room_fits = tt; fits = t.fits; spelled = t.spelled }
 
-  pub to_lines : (text : List ℕ) (ls : List Line) → IsJournalText d text None ls → AreLinesOf d text ls
+  pub to_lines : (text : List ℕ) (ls : List Line) → IsPlainText d text None ls → AreLinesOf d text ls
   to_lines text ls t = record { fits = t.fits; spelled = t.spelled }
 
   -- a head begins with a letter
@@ -110,22 +110,22 @@ module _ (d : Declaration) (names : AreDistinctNames (operation_names d)) where
   short_head [] xs e = let i = same_byte e in absurd (omega (arith, i))
   short_head (b ∷ bs) xs e = (bs, let i : b ≡ 106 = cc in ap (λ x. x ∷ bs) i)
 
-  head_first : (text : List ℕ) (m : ℕ) (ls : List Line) → IsJournalText d text (Some m) ls → (rest : List ℕ) × (text ≡ 106 ∷ rest)
+  head_first : (text : List ℕ) (m : ℕ) (ls : List Line) → IsPlainText d text (Some m) ls → (rest : List ℕ) × (text ≡ 106 ∷ rest)
   head_first text m ls t = elim t.spelled [
     | inl s ↦ (_, s)
     | inr s ↦ short_head text _ s
   ]
 
   -- what begins with no such letter is of version 1
-  pub old_once : (text : List ℕ) (ls : List Line) → ((rest : List ℕ) → text ≢ 106 ∷ rest) → AreLinesOf d text ls → (room : Option ℕ) (ms : List Line) → IsJournalText d text room ms → (room ≡ None) × (ms ≡ ls)
+  pub old_once : (text : List ℕ) (ls : List Line) → ((rest : List ℕ) → text ≢ 106 ∷ rest) → AreLinesOf d text ls → (room : Option ℕ) (ms : List Line) → IsPlainText d text room ms → (room ≡ None) × (ms ≡ ls)
   old_once text ls plain t None ms u = (refl, one_list text ls t ms (to_lines text ms u))
   old_once text ls plain t (Some m) ms u = let p = head_first text m ms u in absurd (plain p.0 p.1)
 
-  pub old_none : (text : List ℕ) → ((rest : List ℕ) → text ≢ 106 ∷ rest) → AreNoLines d text → IsNoJournalText d text
+  pub old_none : (text : List ℕ) → ((rest : List ℕ) → text ≢ 106 ∷ rest) → AreNoLines d text → IsNoPlainText d text
   old_none text plain none None ms u = none ms (to_lines text ms u)
   old_none text plain none (Some m) ms u = let p = head_first text m ms u in plain p.0 p.1
 
-  old_at : (text : List ℕ) (n k : ℕ) (f : LineFault) → ((rest : List ℕ) → text ≢ 106 ∷ rest) → n ≡ 0 + k → AreLinesAtFault d text k f → IsFaultAt d text n f
+  old_at : (text : List ℕ) (n k : ℕ) (f : LineFault) → ((rest : List ℕ) → text ≢ 106 ∷ rest) → n ≡ 0 + k → AreLinesAtFault d text k f → IsPlainFaultAt d text n f
   old_at text n k f plain is at = (
     at.line,
     record {
@@ -139,23 +139,23 @@ module _ (d : Declaration) (names : AreDistinctNames (operation_names d)) where
       more = at.faulty.more;
       first = at.faulty.first;
       none = at.faulty.none;
-      no_head = λ zero m room e. (
+      no_head = λ zero m room. (
           let none : at.before ≡ [] = nil_from_length at.before (let c = at.count in omega (arith, is, c, zero)) in
           let p = ends_first at.line at.faulty.rest at.faulty.first in
-          let whole : text ≡ head_text m ++ p.0 = at.faulty.parts ∙ ap (λ x. lines_text d x ++ at.faulty.rest) none ∙ p.2 ∙ ap (λ x. x ++ p.0) e in
-          plain _ whole);
+          let whole : text ≡ at.line ++ p.0 = at.faulty.parts ∙ ap (λ x. lines_text d x ++ at.faulty.rest) none ∙ p.2 in
+          (λ e. plain _ (whole ∙ ap (λ x. x ++ p.0) e), λ e. plain _ (whole ∙ ap (λ x. x ++ p.0) e)));
     },
     at.fault,
   )
 
-  pub old_fault : (text : List ℕ) (e : TextFault) → ((rest : List ℕ) → text ≢ 106 ∷ rest) → IsLinesFault d text 0 e → IsJournalFault d text e
+  pub old_fault : (text : List ℕ) (e : TextFault) → ((rest : List ℕ) → text ≢ 106 ∷ rest) → IsLinesFault d text 0 e → IsPlainFault d text e
   old_fault text faults.TooLong plain at = absurd at
   old_fault text (faults.BadLine n) plain at = old_at text n at.0 line_faults.Bad plain at.1 at.2
   old_fault text (faults.Undeclared n) plain at = old_at text n at.0 line_faults.Undeclared plain at.1 at.2
   old_fault text faults.OutOfMemory plain at = tt
 
   -- a text with a head has the lines that stand behind it
-  pub new_text : (text r : List ℕ) (m : ℕ) (ls : List Line) → text ≡ head_text m ++ r → EndsAt 10 r → IsRoom m → AreLinesOf d (drop 1 r) ls → IsJournalText d text (Some m) ls
+  pub new_text : (text r : List ℕ) (m : ℕ) (ls : List Line) → text ≡ head_text m ++ r → EndsAt 10 r → IsRoom m → AreLinesOf d (drop 1 r) ls → IsPlainText d text (Some m) ls
   new_text text [] m ls e end room t =
       let none : ls ≡ [] = nothing_told ls t in
       record { room_fits = room; fits = t.fits; spelled = inr (ap (λ x. x ++ 10 ∷ []) (e ∙ append-nil (head_text m)) ∙ sym (append-nil (head_text m ++ 10 ∷ [])) ∙ ap (λ x. (head_text m ++ 10 ∷ []) ++ lines_text d x) (sym none)) }
@@ -181,7 +181,7 @@ module _ (d : Declaration) (names : AreDistinctNames (operation_names d)) where
   room_small : (m : ℕ) → IsRoom m → m < 2 ^ 64
   room_small m h = let few = h.1 in omega (arith, few)
 
-  pub under_head : (text r : List ℕ) (m n : ℕ) (ls : List Line) → text ≡ head_text m ++ r → EndsAt 10 r → IsRoom m → IsJournalText d text (Some n) ls → (n ≡ m) × AreLinesOf d (drop 1 r) ls
+  pub under_head : (text r : List ℕ) (m n : ℕ) (ls : List Line) → text ≡ head_text m ++ r → EndsAt 10 r → IsRoom m → IsPlainText d text (Some n) ls → (n ≡ m) × AreLinesOf d (drop 1 r) ls
   under_head text r m n ls e end room t = elim t.spelled [
     | inl s ↦ (
         let p = one_head m n r (10 ∷ lines_text d ls) (room_small m room) end (room_small n t.room_fits) refl (sym e ∙ s ∙ append_assoc (head_text n) (10 ∷ []) (lines_text d ls)) in
@@ -191,13 +191,13 @@ module _ (d : Declaration) (names : AreDistinctNames (operation_names d)) where
         (sym p.0, behind_feed r ls t.fits p.1))
   ]
 
-  pub new_once : (text rest r : List ℕ) (m : ℕ) (ls : List Line) → text ≡ 106 ∷ rest → text ≡ head_text m ++ r → EndsAt 10 r → IsRoom m → AreLinesOf d (drop 1 r) ls → (room : Option ℕ) (ms : List Line) → IsJournalText d text room ms → (room ≡ Some m) × (ms ≡ ls)
+  pub new_once : (text rest r : List ℕ) (m : ℕ) (ls : List Line) → text ≡ 106 ∷ rest → text ≡ head_text m ++ r → EndsAt 10 r → IsRoom m → AreLinesOf d (drop 1 r) ls → (room : Option ℕ) (ms : List Line) → IsPlainText d text room ms → (room ≡ Some m) × (ms ≡ ls)
   new_once text rest r m ls first e end room t None ms u = absurd (letter_no_lines text rest ms first (to_lines text ms u))
   new_once text rest r m ls first e end room t (Some n) ms u =
       let p = under_head text r m n ms e end room u in
       (ap (λ x. Some x) p.0, one_list (drop 1 r) ls t ms p.1)
 
-  pub new_none : (text rest r : List ℕ) (m : ℕ) → text ≡ 106 ∷ rest → text ≡ head_text m ++ r → EndsAt 10 r → IsRoom m → AreNoLines d (drop 1 r) → IsNoJournalText d text
+  pub new_none : (text rest r : List ℕ) (m : ℕ) → text ≡ 106 ∷ rest → text ≡ head_text m ++ r → EndsAt 10 r → IsRoom m → AreNoLines d (drop 1 r) → IsNoPlainText d text
   new_none text rest r m first e end room none None ms u = letter_no_lines text rest ms first (to_lines text ms u)
   new_none text rest r m first e end room none (Some n) ms u = none ms (under_head text r m n ms e end room u).1
 
@@ -211,7 +211,7 @@ module _ (d : Declaration) (names : AreDistinctNames (operation_names d)) where
       let is : bs ≡ lines_text d before ++ rest = parts in
       e ∙ ap (λ x. head_text m ++ x ∷ bs) end ∙ sym (append_assoc (head_text m) (10 ∷ []) bs) ∙ ap (λ x. (head_text m ++ 10 ∷ []) ++ x) is ∙ sym (append_assoc (head_text m ++ 10 ∷ []) (lines_text d before) rest)
 
-  new_at : (text r : List ℕ) (m n k : ℕ) (f : LineFault) → text ≡ head_text m ++ r → EndsAt 10 r → IsRoom m → n ≡ 1 + k → AreLinesAtFault d (drop 1 r) k f → IsFaultAt d text n f
+  new_at : (text r : List ℕ) (m n k : ℕ) (f : LineFault) → text ≡ head_text m ++ r → EndsAt 10 r → IsRoom m → n ≡ 1 + k → AreLinesAtFault d (drop 1 r) k f → IsPlainFaultAt d text n f
   new_at text r m n k f e end room is at = (
     at.line,
     record {
@@ -230,7 +230,7 @@ module _ (d : Declaration) (names : AreDistinctNames (operation_names d)) where
     at.fault,
   )
 
-  pub new_fault : (text r : List ℕ) (m : ℕ) (e : TextFault) → text ≡ head_text m ++ r → EndsAt 10 r → IsRoom m → IsLinesFault d (drop 1 r) 1 e → IsJournalFault d text e
+  pub new_fault : (text r : List ℕ) (m : ℕ) (e : TextFault) → text ≡ head_text m ++ r → EndsAt 10 r → IsRoom m → IsLinesFault d (drop 1 r) 1 e → IsPlainFault d text e
   new_fault text r m faults.TooLong is end room at = absurd at
   new_fault text r m (faults.BadLine n) is end room at = new_at text r m n at.0 line_faults.Bad is end room at.1 at.2
   new_fault text r m (faults.Undeclared n) is end room at = new_at text r m n at.0 line_faults.Undeclared is end room at.1 at.2
@@ -243,8 +243,9 @@ module _ (d : Declaration) (names : AreDistinctNames (operation_names d)) where
   same_first (b ∷ line) after text rest e end f = let i : b ∷ (line ++ after) ≡ 106 ∷ rest = sym f ∙ e in let j : b ≡ 106 = cc in (line, ap (λ x. x ∷ line) j)
 
   -- a first line that begins so and is no head is bad
-  pub bad_head : (text rest : List ℕ) → text ≡ 106 ∷ rest → ((m : ℕ) (r : List ℕ) → IsRoom m → EndsAt 10 r → text ≢ head_text m ++ r) → IsJournalFault d text (faults.BadLine 0)
-  bad_head text rest e none =
+  pub bad_head : (text rest : List ℕ) → text ≡ 106 ∷ rest → ((m : ℕ) (r : List ℕ) → IsRoom m → EndsAt 10 r → text ≢ head_text m ++ r) → ((m : ℕ) (r : List ℕ) → IsRoom m → EndsAt 10 r → text ≢ kept_head m ++ r)
+      → IsPlainFault d text (faults.BadLine 0)
+  bad_head text rest e none other =
       let p = first_line text in
       let q = same_first p.0 p.1 text rest e p.3 p.4 in (
         p.0,
@@ -259,7 +260,7 @@ module _ (d : Declaration) (names : AreDistinctNames (operation_names d)) where
           more = λ i. (let j : 106 ∷ rest ≡ [] = sym e ∙ i in cc);
           first = is_first p.0 p.1 text p.2 p.3 p.4;
           none = λ l fits is. line_first l [] q.0 fits (append-nil (journal_line_text d l) ∙ sym is ∙ q.1);
-          no_head = λ zero m room is. none m p.1 room p.3 (p.4 ∙ ap (λ x. x ++ p.1) is);
+          no_head = λ zero m room. (λ is. none m p.1 room p.3 (p.4 ∙ ap (λ x. x ++ p.1) is), λ is. other m p.1 room p.3 (p.4 ∙ ap (λ x. x ++ p.1) is));
         },
         undeclared_first p.0 q.0 q.1,
       )
@@ -271,7 +272,7 @@ module _ (d : Declaration) (names : AreDistinctNames (operation_names d)) where
       let p = ends_in_feed Line (journal_line_text d) LineFits l ls in
       (10 ∷ p.0, refl, append_cancel_right text (head_text m ++ 10 ∷ p.0) (10 ∷ []) (e ∙ ap (λ x. head_text m ++ 10 ∷ x) p.1 ∙ sym (append_assoc (head_text m) (10 ∷ p.0) (10 ∷ []))))
 
-  pub bad_head_none : (text rest : List ℕ) → text ≡ 106 ∷ rest → ((m : ℕ) (r : List ℕ) → IsRoom m → EndsAt 10 r → text ≢ head_text m ++ r) → IsNoJournalText d text
+  pub bad_head_none : (text rest : List ℕ) → text ≡ 106 ∷ rest → ((m : ℕ) (r : List ℕ) → IsRoom m → EndsAt 10 r → text ≢ head_text m ++ r) → IsNoPlainText d text
   bad_head_none text rest e none None ls u = letter_no_lines text rest ls e (to_lines text ls u)
   bad_head_none text rest e none (Some m) ls u = elim u.spelled [
     | inl s ↦ none m (10 ∷ lines_text d ls) u.room_fits refl (s ∙ append_assoc (head_text m) (10 ∷ []) (lines_text d ls))

@@ -4,8 +4,8 @@ use Rattle.path_model.specs.Rooms.{IsRoom}
 use Rattle.path_journal.specs.declared.version.Version.{Version}
 use Rattle.path_journal.specs.declared.version.Version.TheVariants.{One, Two, Three}
 use Rattle.path_fields.specs.Splits.{EndsAt}
-use Rattle.path_journal.specs.JournalTexts.{head_text}
-use Rattle.path_journal.specs.CutTexts.{kept_head, front_of, VersionFits, HasNoHead}
+use Rattle.path_journal.specs.JournalTexts.{head_text, kept_head}
+use Rattle.path_journal.specs.CutTexts.{front_of, VersionFits, HasNoHead}
 use Rattle.path_journal.proofs.HeadLemmas.{one_number, one_head}
 
 kept_tail : {xs ys : List ℕ} → codes "journal 3 room " ++ xs ≡ codes "journal 3 room " ++ ys → xs ≡ ys
@@ -21,7 +21,7 @@ room_small : (m : ℕ) → IsRoom m → m < 2 ^ 64
 room_small m h = let few = h.1 in omega (arith, few)
 
 -- the two kinds of heads differ in their number
-other_number : (m n : ℕ) (x y : List ℕ) → head_text m ++ x ≡ kept_head n ++ y → ⊥
+pub other_number : (m n : ℕ) (x y : List ℕ) → head_text m ++ x ≡ kept_head n ++ y → ⊥
 other_number m n x y e = let i : 50 ≡ 51 = ap (λ (l : List ℕ). get_or l 8 0) e in absurd (omega (arith, i))
 
 feed_behind : (front after : List ℕ) → (front ++ 10 ∷ []) ++ after ≡ front ++ 10 ∷ after

@@ -6,3 +6,4 @@ pub mod JournalLemmas
 mod KeptHeads
 mod CutLemmas
 mod CutJournals
+mod KeptJournals

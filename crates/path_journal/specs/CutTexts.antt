@@ -1,6 +1,5 @@
 -- Journals in texts that may end anywhere: cut off within a line, or with what a crash left behind the last whole line.
-use Rattle.std.specs.Prelude.{◌≡◌, ◌≢◌, ℕ, ◌+◌, ◌<◌, Bool, true, false, List, [], ◌∷◌, ◌++◌, length, map, codes, decimal, All}
-use Rattle.std.specs.List.{flat_map}
+use Rattle.std.specs.Prelude.{◌≡◌, ◌≢◌, ℕ, ◌+◌, ◌<◌, Bool, true, false, List, [], ◌∷◌, ◌++◌, length, All, Option, Some, None}
 use Rattle.path_model.specs.declared.journal.Line.{Line}
 use Rattle.path_model.specs.Declarations.{Declaration}
 use Rattle.path_model.specs.Rooms.{IsRoom}
@@ -10,34 +9,8 @@ use Rattle.path_lines.specs.declared.texts.TextFault.{TextFault}
 use Rattle.path_lines.specs.declared.texts.TextFault.TheVariants as faults
 use Rattle.path_journal.specs.declared.version.Version.{Version}
 use Rattle.path_journal.specs.declared.version.Version.TheVariants.{One, Two, Three}
-use Rattle.path_journal.specs.JournalTexts.{LineFits, journal_line, head_text}
-use Rattle.path_journal.specs.JournalFaults.{IsUndeclared}
-
--- a line of version 3: whether it was written while the line before it may not have been on the disk, and the line itself
-abbrev pub Kept : Type 0
-Kept = Bool × Line
-
--- such a line begins with a plus sign
-abbrev pub mark : Bool → List ℕ
-mark true = 43 ∷ []
-mark false = []
-
--- a line with its mark and its line feed
-abbrev pub kept_line : Declaration → Kept → List ℕ
-kept_line d k = mark k.0 ++ journal_line d k.1
-
--- the texts of all lines, in order
-abbrev pub kept_text : Declaration → List Kept → List ℕ
-kept_text d ks = flat_map (kept_line d) ks
-
--- the lines without their marks
-abbrev pub lines_of : List Kept → List Line
-lines_of ks = map (λ k. k.1) ks
-
--- a line is in range, and has a mark only where lines may have one
-pub record KeptFits (marks : Bool) (k : Kept) : Type 0 where
-  pub line : LineFits k.1
-  pub marked : k.0 ≡ true → marks ≡ true
+use Rattle.path_journal.specs.JournalTexts.{LineFits, journal_line, head_text, Kept, KeptFits, kept_text, lines_of, kept_head}
+use Rattle.path_journal.specs.JournalFaults.{BeginsNoLine, BeginsUndeclared}
 
 -- the text is these lines, and then the rest
 pub record AreLinesRead (d : Declaration) (marks : Bool) (text : List ℕ) (ls : List Line) (rest : List ℕ) : Type 0 where
@@ -46,10 +19,6 @@ pub record AreLinesRead (d : Declaration) (marks : Bool) (text : List ℕ) (ls :
   pub fits : All (KeptFits marks) kept
   pub parts : text ≡ kept_text d kept ++ rest
 
--- the text doesn't begin with a line that has its line feed
-abbrev pub BeginsNoLine : Declaration → Bool → List ℕ → Type 0
-BeginsNoLine d marks text = (k : Kept) (after : List ℕ) → KeptFits marks k → text ≢ kept_line d k ++ after
-
 -- somewhere in the text stands a line without a mark, behind a line feed and with its own
 pub record HasLineBehind (d : Declaration) (text : List ℕ) : Type 0 where
   pub before : List ℕ
@@ -57,18 +26,6 @@ pub record HasLineBehind (d : Declaration) (text : List ℕ) : Type 0 where
   pub after : List ℕ
   pub fits : LineFits line
   pub parts : text ≡ before ++ 10 ∷ (journal_line d line ++ after)
-
--- the text begins with a line without a mark that has its line feed, and is right except for the name that it starts
-abbrev pub HasUndeclaredFirst : Declaration → List ℕ → Type 0
-HasUndeclaredFirst d text = (line : List ℕ) × (after : List ℕ) × IsUndeclared d line × (text ≡ line ++ 10 ∷ after)
-
--- the same of a text that may begin with a mark
-pub record BeginsUndeclared (d : Declaration) (marks : Bool) (text : List ℕ) : Type 0 where
-  pub marked : Bool
-  pub allowed : marked ≡ true → marks ≡ true
-  pub behind : List ℕ
-  pub first : HasUndeclaredFirst d behind
-  pub parts : text ≡ mark marked ++ behind
 
 -- what a cut or a crash may leave behind the last whole line. A line without a mark says that all before it was on the disk, so
 -- where one stands behind a broken line, that line isn't a torn end
@@ -98,10 +55,6 @@ pub record AreDamagedLines (d : Declaration) (marks : Bool) (text : List ℕ) (n
   pub first : BeginsNoLine d marks rest
   pub damage : IsDamage d marks rest fault
 
--- the first line of version 3
-abbrev pub kept_head : ℕ → List ℕ
-kept_head room = codes "journal 3 room " ++ decimal room
-
 -- what precedes the lines, with its line feed
 abbrev pub front_of : Version → List ℕ
 front_of One = []
@@ -113,6 +66,12 @@ abbrev pub VersionFits : Version → Type 0
 VersionFits One = Unit {0}
 VersionFits (Two room) = IsRoom room
 VersionFits (Three room) = IsRoom room
+
+-- the room that is named
+abbrev pub room_of : Version → Option ℕ
+room_of One = None
+room_of (Two room) = Some room
+room_of (Three room) = Some room
 
 -- only version 3 marks lines
 abbrev pub has_marks : Version → Bool

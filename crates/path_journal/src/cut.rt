@@ -1,31 +1,37 @@
 //! Texts of journals that may end anywhere.
 
-ghost use Rattle.std.specs.Prelude.{◌≡◌, ◌≢◌, ℕ, ◌+◌, ◌<◌, ◌≤◌, ◌↔◌, ◌++◌, ◌∷◌, Bool, true, false, List, length, vec_len, IfOk, IfErr, IfSome, IfNone, IsErrOf, All};
+ghost use Rattle.std.specs.Prelude.{◌≡◌, ◌≢◌, ℕ, ◌+◌, ◌<◌, ◌≤◌, ◌↔◌, ◌++◌, ◌∷◌, Bool, true, false, List, length, vec_len};
+ghost use Rattle.std.specs.Prelude.{IfOk, IfErr, IfSome, IfNone, IsErrOf, All};
 ghost use Rattle.std.specs.Bool.{OnTrue, OnFalse};
 ghost use Rattle.path_model.specs.declared.journal.Line.{Line};
 ghost use Rattle.path_lines.specs.declared.texts.TextFault.TheVariants as faults;
 ghost use Rattle.path_journal.specs.declared.version.Version.{Version};
 ghost use Rattle.path_journal.specs.declared.version.Version.TheVariants.{One};
-ghost use Rattle.path_journal.specs.JournalTexts.{LineFits, journal_line};
-ghost use Rattle.path_journal.specs.CutTexts.{Kept, KeptFits, kept_line, kept_text, AreLinesRead, HasUndeclaredFirst, BeginsNoLine, HasLineBehind, BeginsUndeclared};
-ghost use Rattle.path_journal.specs.CutTexts.{IsDamage, front_of, VersionFits, HasNoHead, IsCutJournal, IsCutFault, IsNoCutJournal};
+ghost use Rattle.path_journal.specs.JournalTexts.{LineFits, journal_line, Kept, KeptFits, kept_line, kept_text};
+ghost use Rattle.path_journal.specs.JournalFaults.{HasUndeclaredFirst, BeginsNoLine, BeginsUndeclared};
+ghost use Rattle.path_journal.specs.CutTexts.{AreLinesRead, HasLineBehind, IsDamage};
+ghost use Rattle.path_journal.specs.CutTexts.{front_of, VersionFits, HasNoHead, IsCutJournal, IsCutFault, IsNoCutJournal};
 
 use crate::head::{read_head, read_kept_head};
-use crate::record::first_record;
+use crate::record::{first_record, next_record};
 use crate::version::{CutText, Version};
 use path_decl::Decl;
 use path_fields::{cut, strip};
-use path_lines::{LIMIT, LineFault, TextFault, fault_at};
+use path_lines::{LIMIT, LineFault, Recent, TextFault, fault_at};
 use path_model::Line;
 use std::alloc::Allocator;
 
 /// The line without a mark that a text begins with, and what follows its line feed; `None` if it begins with none.
-fn plain_line<'a, A: Allocator + Copy>(decl: &Decl<A>, text: &'a [u8]) -> Option<(Line, &'a [u8])>
+fn plain_line<'a, A: Allocator + Copy>(
+    decl: &Decl<A>,
+    recent: &mut Recent,
+    text: &'a [u8],
+) -> Option<(Line, &'a [u8])>
     ensures fits { IfSome result (λ p. LineFits p.0) }
     ensures parts { IfSome result (λ p. text.now ≡ journal_line decl.now.declaration p.0 ++ p.1.now) }
     ensures none { IfNone result ((l : Line) (after : List ℕ) → LineFits l → text.now ≢ journal_line decl.now.declaration l ++ after) }
 {
-    let Ok((line, length)) = first_record(decl, text) else {
+    let Ok((line, length)) = next_record(decl, recent, text) else {
         return None;
     };
     let Some(after) = strip(&text[length..], b"\n") else {
@@ -37,23 +43,25 @@ fn plain_line<'a, A: Allocator + Copy>(decl: &Decl<A>, text: &'a [u8]) -> Option
 /// The line that a text begins with, and what follows its line feed; `None` if it begins with none. With marks, a `+` may precede it.
 fn whole_line<'a, A: Allocator + Copy>(
     decl: &Decl<A>,
+    recent: &mut Recent,
     text: &'a [u8],
     marks: bool,
 ) -> Option<(Line, &'a [u8])>
-    ensures some { IfSome result (λ p. (m : Bool) × KeptFits marks (m, p.0) × (text.now ≡ kept_line decl.now.declaration (m, p.0) ++ p.1.now)) }
+    ensures some { IfSome result (λ p. (m : Bool) × KeptFits marks (m, p.0)
+        × (text.now ≡ kept_line decl.now.declaration (m, p.0) ++ p.1.now)) }
     ensures shorter { IfSome result (λ p. length p.1.now < length text.now) }
     ensures none { IfNone result (BeginsNoLine decl.now.declaration marks text.now) }
 {
     if marks {
         if let Some(behind) = strip(text, b"+") {
-            return plain_line(decl, behind);
+            return plain_line(decl, recent, behind);
         }
     }
-    plain_line(decl, text)
+    plain_line(decl, recent, text)
 }
 
 /// The lines that a text begins with, each with its line feed, and what follows the last.
-fn whole_lines<'a, A: Allocator + Copy, B: Allocator + Copy>(
+pub fn whole_lines<'a, A: Allocator + Copy, B: Allocator + Copy>(
     alloc: B,
     decl: &Decl<A>,
     text: &'a [u8],
@@ -65,8 +73,9 @@ fn whole_lines<'a, A: Allocator + Copy, B: Allocator + Copy>(
     ensures end { IfOk result (λ p. BeginsNoLine decl.now.declaration marks p.1.now) }
 {
     let mut lines = Vec::new(alloc);
+    let mut recent = Recent::new();
     let mut rest = text;
-    while let Some((line, after)) = whole_line(decl, rest, marks) {
+    while let Some((line, after)) = whole_line(decl, &mut recent, rest, marks) {
         lines.push(line)?;
         rest = after;
     }
@@ -78,9 +87,10 @@ fn has_line_behind<A: Allocator + Copy>(decl: &Decl<A>, text: &[u8]) -> bool
     ensures yes { OnTrue result (HasLineBehind decl.now.declaration text.now) }
     ensures no { OnFalse result (HasLineBehind decl.now.declaration text.now → ⊥) }
 {
+    let mut recent = Recent::new();
     let mut rest = text;
     while let Some((_, after)) = cut(rest, b'\n') {
-        if plain_line(decl, after).is_some() {
+        if plain_line(decl, &mut recent, after).is_some() {
             return true;
         }
         rest = after;
@@ -103,7 +113,7 @@ fn plain_undeclared<A: Allocator + Copy>(decl: &Decl<A>, text: &[u8]) -> bool
 }
 
 /// Whether the text begins with a line that has its line feed, and is right except for the name that it starts.
-fn begins_undeclared<A: Allocator + Copy>(decl: &Decl<A>, text: &[u8], marks: bool) -> bool
+pub fn begins_undeclared<A: Allocator + Copy>(decl: &Decl<A>, text: &[u8], marks: bool) -> bool
     ensures yes { OnTrue result (BeginsUndeclared decl.now.declaration marks text.now) }
     ensures no { OnFalse result (BeginsUndeclared decl.now.declaration marks text.now → ⊥) }
 {
@@ -164,6 +174,17 @@ fn version_of(text: &[u8]) -> (Version, &[u8])
         Some(found) => found,
         None => (Version::One, text),
     }
+}
+
+/// The version of a text, by its first line if that has its line feed; a text that begins with no whole head is of version 1. Whoever opens
+/// a file again finds the room of its journal so. A few passes over the first line; allocates nothing.
+pub fn version_in(text: &[u8]) -> Version
+    ensures fits { VersionFits result }
+    ensures no_head { result ≡ One → HasNoHead text.now }
+    ensures head { (body : List ℕ) × (text.now ≡ front_of result ++ body) }
+{
+    let (version, _) = version_of(text);
+    version
 }
 
 /// Reads a journal, of any version, in a text that may end anywhere: it may be cut, or end with what a crash left there, as zeros or an

@@ -5,7 +5,7 @@ ghost use Rattle.std.specs.String.{string_bytes};
 ghost use Rattle.path_fields.specs.Splits.{EndsAt};
 ghost use Rattle.path_model.specs.Rooms.{IsRoom};
 ghost use Rattle.path_journal.specs.JournalTexts.{head_text};
-ghost use Rattle.path_journal.specs.CutTexts.{kept_head};
+ghost use Rattle.path_journal.specs.JournalTexts.{kept_head};
 
 use path_lines::{Stop, Wanted, after, last, stop_at};
 use path_model::{MOST_LINES, OutOfMemory};

@@ -1,4 +1,4 @@
-//! The texts of journals: lines with their replies, and in version 2 a first line that names the room.
+//! The texts of journals: lines with their replies, and in versions 2 and 3 a first line that names the room.
 #![tactic(auto)]
 
 mod cut;
@@ -9,7 +9,7 @@ mod reply;
 mod version;
 mod writer;
 
-pub use cut::read_cut;
+pub use cut::{read_cut, version_in};
 pub use head::{write_head, write_kept_head};
 pub use journal::{read_journal, stop_in};
 pub use version::{CutText, Version};

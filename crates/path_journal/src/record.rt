@@ -2,16 +2,16 @@
 //!
 //! A line with a wrong reply is bad, whatever its attempt.
 
-ghost use Rattle.std.specs.Prelude.{◌≡◌, ◌≢◌, length, IfOk, IfErr, OnErr};
+ghost use Rattle.std.specs.Prelude.{◌≡◌, ◌≢◌, length, IfOk, IfErr, IfSome, OnErr};
 ghost use Rattle.path_lines.specs.LineTexts.{line_text, journal_line_text};
 ghost use Rattle.path_lines.specs.AttemptTexts.{EntryFits, IsFirstLine, IsLineFault, IsNoEntry};
 ghost use Rattle.path_journal.specs.JournalTexts.{LineFits};
 ghost use Rattle.path_journal.specs.JournalFaults.{IsFirstRecordFault};
 
-use crate::reply::read_told;
+use crate::reply::{read_told, usual_told};
 use path_decl::Decl;
-use path_fields::{cut, until};
-use path_lines::{LineFault, Stop, Wanted, first_entry, stop_at};
+use path_fields::{at_end, cut, until};
+use path_lines::{LineFault, Recent, Stop, Wanted, first_entry, stop_at, usual_front};
 use path_model::{Attempt, Line};
 use std::alloc::Allocator;
 
@@ -85,4 +85,46 @@ pub fn first_record<A: Allocator + Copy>(decl: &Decl<A>, text: &[u8]) -> Result<
         reply,
     };
     Ok((line, text.len() - rest.len()))
+}
+
+/// The same, if the line is in the form that nearly all have.
+#[inline(always)]
+fn usual_record<A: Allocator + Copy>(
+    decl: &Decl<A>,
+    recent: &Recent,
+    text: &[u8],
+) -> Option<(Line, usize)>
+    ensures line { IfSome result (λ p. IsFirstLine (journal_line_text decl.now.declaration p.0) text.now) }
+    ensures fits { IfSome result (λ p. LineFits p.0) }
+    ensures length { IfSome result (λ p. p.1 ≡ length (journal_line_text decl.now.declaration p.0)) }
+{
+    let (worker, attempt, told) = usual_front(decl, recent, text, b':')?;
+    let (reply, rest) = usual_told(told)?;
+    let rest = at_end(rest)?;
+    let line = Line {
+        worker,
+        attempt,
+        reply,
+    };
+    Some((line, text.len() - rest.len()))
+}
+
+/// The same as [`first_record`], and quicker where the line is in the usual form. Names that were read are noted.
+#[inline(always)]
+pub fn next_record<A: Allocator + Copy>(
+    decl: &Decl<A>,
+    recent: &mut Recent,
+    text: &[u8],
+) -> Result<(Line, usize), Stop>
+    ensures line { IfOk result (λ p. IsFirstLine (journal_line_text decl.now.declaration p.0) text.now) }
+    ensures fits { IfOk result (λ p. LineFits p.0) }
+    ensures length { IfOk result (λ p. p.1 ≡ length (journal_line_text decl.now.declaration p.0)) }
+    ensures err { IfErr result (λ stop. IsFirstRecordFault decl.now.declaration text.now stop.fault) }
+{
+    if let Some(record) = usual_record(decl, recent, text) {
+        return Ok(record);
+    }
+    let (line, length) = first_record(decl, text)?;
+    recent.note(decl, line.attempt);
+    Ok((line, length))
 }

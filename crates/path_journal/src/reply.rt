@@ -1,13 +1,16 @@
 //! From a text to the reply that it begins with.
 
-ghost use Rattle.std.specs.Prelude.{◌≡◌, ◌≢◌, ◌++◌, ◌≤◌, ◌^◌, ◌<◌, codes, IfOk, OnErr, List, ℕ};
+ghost use Rattle.std.specs.Prelude.{◌≡◌, ◌≢◌, ◌++◌, ◌≤◌, ◌^◌, ◌<◌, codes, IfOk, IfSome, OnErr, List, ℕ};
 ghost use Rattle.path_model.specs.declared.journal.Reply.{Reply};
 ghost use Rattle.path_fields.specs.Splits.{EndsAt};
 ghost use Rattle.path_lines.specs.LineTexts.{reply_text};
 ghost use Rattle.path_journal.specs.JournalTexts.{ReplyFits};
 ghost use Rattle.path_journal.specs.Replies as replies;
 
-use path_lines::{REPLIES, Stop, Wanted, after, end, keyword, last, spelled, stop_at};
+use path_fields::strip;
+use path_lines::{
+    REPLIES, Stop, Wanted, after, end, keyword, last, short_number, spelled, stop_at,
+};
 use path_model::{ActId, PathId, Reply};
 
 /// The greatest number that a path can have.
@@ -82,4 +85,23 @@ pub fn read_told(text: &[u8]) -> Result<(Reply, &[u8]), Stop>
 {
     let rest = after(text, b": ", Wanted::Colon)?;
     read_reply(rest)
+}
+
+/// One of the replies that most attempts get, with a short number, after a colon and a space; and what follows.
+#[inline(always)]
+pub fn usual_told(text: &[u8]) -> Option<(Reply, &[u8])>
+    ensures text { IfSome result (λ p. text.now ≡ codes ": " ++ (reply_text p.0 ++ p.1.now)) }
+    ensures fits { IfSome result (λ p. ReplyFits p.0) }
+{
+    let text = strip(text, b": ")?;
+    if let Some(rest) = strip(text, b"finished") {
+        return Some((Reply::Finished, rest));
+    }
+    if let Some(rest) = strip(text, b"started") {
+        let (number, rest) = short_number(strip(rest, b" ")?)?;
+        return Some((Reply::Started(ActId(number)), rest));
+    }
+    let rest = strip(text, b"used")?;
+    let (number, rest) = short_number(strip(rest, b" ")?)?;
+    Some((Reply::Used(number), rest))
 }

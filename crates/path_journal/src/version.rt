@@ -1,7 +1,7 @@
 //! The versions of journals' texts.
 
 ghost use Rattle.std.specs.Prelude.{◌≡◌};
-ghost use Rattle.path_journal.specs.CutTexts.{has_marks, heads};
+ghost use Rattle.path_journal.specs.CutTexts.{has_marks, heads, room_of};
 
 use path_model::Line;
 use std::alloc::{Allocator, Global};
@@ -19,6 +19,16 @@ pub enum Version {
 }
 
 impl Version {
+    /// The room that the first line names; `None` in version 1.
+    pub fn room(self) -> Option<u32>
+        ensures { result ≡ room_of self }
+    {
+        match self {
+            Version::One => None,
+            Version::Two(room) | Version::Three(room) => Some(room),
+        }
+    }
+
     /// Whether lines may have marks.
     pub(crate) fn has_marks(self) -> bool
         ensures { result ≡ has_marks self }

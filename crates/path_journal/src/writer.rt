@@ -3,7 +3,7 @@
 ghost use Rattle.std.specs.Prelude.{◌≡◌, ◌++◌, ◌∷◌, [], IfOk, OnOk};
 ghost use Rattle.std.specs.String.{string_bytes};
 ghost use Rattle.path_journal.specs.JournalTexts.{RoomFits, front_text, lines_text, journal_text};
-ghost use Rattle.path_journal.specs.CutTexts.{kept_line};
+ghost use Rattle.path_journal.specs.JournalTexts.{kept_line};
 
 use crate::head::write_head;
 use path_decl::Decl;
@@ -56,7 +56,7 @@ pub fn write_journal<A: Allocator + Copy, B: Allocator + Copy>(
     Ok(text)
 }
 
-/// Appends a line of a text of version 3, with its line feed; with a mark, `+` precedes it. If allocation fails, what the text contains then
+/// Appends a line of a text of version 3, with its line feed; with a mark, `+` precedes it. If allocation fails, what the text contains
 /// isn't specified. Allocates only if the capacity of the text isn't enough.
 pub fn push_kept_line<A: Allocator + Copy, B: Allocator + Copy>(
     out: &mut String<A>,

@@ -5,3 +5,4 @@ pub mod EntryLemmas
 pub mod WholeTexts
 pub mod AttemptLemmas
 pub mod OneReading
+mod FrontLemmas

@@ -21,7 +21,7 @@ use path_model::{ActId, Attempt, OpId, Verb};
 use std::alloc::Allocator;
 
 /// The greatest number of a worker.
-const LAST_WORKER: u64 = 4_294_967_295;
+pub(crate) const LAST_WORKER: u64 = 4_294_967_295;
 
 /// Why a line isn't an attempt.
 #[derive(Clone, Copy, Debug, PartialEq, Eq)]

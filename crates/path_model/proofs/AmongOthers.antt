@@ -5,7 +5,7 @@ use Rattle.std.proofs.lemmas.Bool.{cond-true, cond-false}
 use Rattle.path_model.specs.declared.ids.OpId.{OpId}
 use Rattle.path_model.specs.declared.history.Event.{Event}
 use Rattle.path_model.specs.declared.history.Event.TheVariants.{Began, Ended}
-use Rattle.path_model.specs.Trees.{Room, Tree, op, seq, alt, burst, Names, NoRepeats, NoNesting, has, WellFormed}
+use Rattle.path_model.specs.Trees.{BoundAdmits, Tree, op, seq, alt, burst, Names, NoRepeats, NoNesting, has, WellFormed}
 use Rattle.path_model.specs.Histories.{op_of, InProgress}
 use Rattle.path_model.proofs.Counts.{count, inn, out, May, ins-append, count-append, opens-append, May-names, Foreign}
 use Rattle.path_model.proofs.Same.{May_same, inn_before, Same_before, Starts, May_split}
@@ -49,7 +49,7 @@ still_may (alt s t) nr nn h a b f (inr m) (inl x) =
 still_may (alt s t) nr nn h a b f (inr m) (inr x) = inr (still_may t nr.1 nn.1 h a b f m x)
 still_may (burst bd s) nr nn h a b {p} {q} f m x = still_may s nr (flat_fits s nn.0) h a b g m x
   where
-    split : May s h (Began a) ⊥ ⊎ (((p ⊎ (0 < count s 0 h)) × Room bd (count s 0 h)) × Starts s (Began a))
+    split : May s h (Began a) ⊥ ⊎ (((p ⊎ (0 < count s 0 h)) × BoundAdmits bd (count s 0 h)) × Starts s (Began a))
     split = May_split s h (Began a) m
 
     fewer : count s 0 h ≤ count s 0 (h ++ Began a ∷ [])
@@ -62,7 +62,7 @@ still_may (burst bd s) nr nn h a b {p} {q} f m x = still_may s nr (flat_fits s n
       | inr k ↦ k.0.0
     ]
 
-    g : ((q ⊎ (0 < count s 0 (h ++ Began a ∷ []))) × Room bd (count s 0 (h ++ Began a ∷ []))) → ((p ⊎ (0 < count s 0 h)) × Room bd (count s 0 h))
+    g : ((q ⊎ (0 < count s 0 (h ++ Began a ∷ []))) × BoundAdmits bd (count s 0 (h ++ Began a ∷ []))) → ((p ⊎ (0 < count s 0 h)) × BoundAdmits bd (count s 0 h))
     g (y, r) = (one y, room_less bd _ _ r fewer)
 
 pub project_named : (s : Tree) (h : List Event) (e : Event) → Names s (op_of e) → projection s (h ++ e ∷ []) ≡ projection s h ++ e ∷ []

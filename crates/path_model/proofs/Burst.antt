@@ -4,7 +4,7 @@ use Rattle.std.proofs.lemmas.List.{append-nil, append_assoc}
 use Rattle.std.proofs.lemmas.Bool.{eqb-true, eq-eqb, ne_eqb, cond-true, cond-false, cond_both}
 use Rattle.path_model.specs.declared.history.Event.{Event}
 use Rattle.path_model.specs.declared.history.Event.TheVariants.{Began, Ended}
-use Rattle.path_model.specs.Trees.{Tree, op, seq, alt, burst, Names, NoRepeats, NoBraces, Bound, Room}
+use Rattle.path_model.specs.Trees.{Tree, op, seq, alt, burst, Names, NoRepeats, NoBraces, Bound, BoundAdmits}
 use Rattle.path_model.specs.Histories.{op_of}
 use Rattle.path_model.specs.Words.{IsWord}
 use Rattle.path_model.specs.Behaviour.{IsFront}
@@ -17,7 +17,7 @@ use Rattle.path_model.proofs.Solo.{Solo, alone, on, Stage, Meets, word_some}
 use Rattle.path_model.proofs.Crowd.{Merge, empty, merge_swap, merge_append, inn_merge, out_merge, inn_more, sane_out, stay_entry, start_entry, start_exit, Crowd, idle, more, crowd_front, crowd_sane, crowd_count, crowd_last, Balanced_merge, Mix, nothing, adding, crowd_mix, mix_crowd}
 use Rattle.path_model.proofs.Labels.{labels_mix, mix_labels}
 use Rattle.path_model.proofs.Rooms.{Fits, room_fits, fits_room, fits_less}
-use Rattle.path_model.proofs.Underway.{within, fits_within}
+use Rattle.path_model.proofs.RunsAcross.{within, fits_within}
 
 exit_names : (s : Tree) (e : Event) → 0 < exit s e → Names s (op_of e)
 exit_names (op b) (Began a) h = absurd (omega (arith, h))
@@ -112,7 +112,7 @@ module _ (bd : Bound) (s : Tree) (f : NoBraces s) (n : NoRepeats s) (ms : Meets 
     pub before : (x y : List Event) → w ≡ x ++ y → x ≢ [] → y ≢ [] → 0 < count s 0 x
     pub fits : (x y : List Event) → w ≡ x ++ y → Fits bd (count s 0 x)
 
-  first_event : (e : Event) → Starts s e → Room bd 0 → Lasting (e ∷ [])
+  first_event : (e : Event) → Starts s e → BoundAdmits bd 0 → Lasting (e ∷ [])
   first_event e h room = record {
     some = cons_nil e [];
     crowd = more [] e idle (start_may s f [] e h tt) refl;
@@ -195,25 +195,25 @@ module _ (bd : Bound) (s : Tree) (f : NoBraces s) (n : NoRepeats s) (ms : Meets 
   fits_stay : (w : List Event) (e : Event) → Fits bd (count s 0 w) → entry s e ≡ 0 → Fits bd (count s 0 (w ++ e ∷ []))
   fits_stay w e k z = fits_less bd _ _ k (omega (arith, count-append s 0 w (e ∷ []), z))
 
-  fits_start : (w : List Event) (e : Event) → Room bd (count s 0 w) → Starts s e → Fits bd (count s 0 (w ++ e ∷ []))
+  fits_start : (w : List Event) (e : Event) → BoundAdmits bd (count s 0 w) → Starts s e → Fits bd (count s 0 (w ++ e ∷ []))
   fits_start w e k h = room_fits bd _ _ k (omega (arith, count-append s 0 w (e ∷ []), start_entry s n e h))
 
-  burst_step : (w v : List Event) (e : Event) → v ≡ w ++ e ∷ [] → May s w e (((w ≡ []) ⊎ (0 < count s 0 w)) × Room bd (count s 0 w)) → (w ≡ []) ⊎ Lasting w → Lasting v
+  burst_step : (w v : List Event) (e : Event) → v ≡ w ++ e ∷ [] → May s w e (((w ≡ []) ⊎ (0 < count s 0 w)) × BoundAdmits bd (count s 0 w)) → (w ≡ []) ⊎ Lasting w → Lasting v
   burst_step w v e h m (inl z) = go (May_split s w e m)
     where
-      go : (May s w e ⊥ ⊎ ((((w ≡ []) ⊎ (0 < count s 0 w)) × Room bd (count s 0 w)) × Starts s e)) → Lasting v
+      go : (May s w e ⊥ ⊎ ((((w ≡ []) ⊎ (0 < count s 0 w)) × BoundAdmits bd (count s 0 w)) × Starts s e)) → Lasting v
       go (inl k) = absurd (balanced_stuck s w e (subst (Balanced s) (sym z) (Balanced_nil s)) k)
-      go (inr ((x, r), k)) = subst Lasting (sym (h ∙ ap (λ u. u ++ e ∷ []) z)) (first_event e k (subst (λ u. Room bd (count s 0 u)) z r))
+      go (inr ((x, r), k)) = subst Lasting (sym (h ∙ ap (λ u. u ++ e ∷ []) z)) (first_event e k (subst (λ u. BoundAdmits bd (count s 0 u)) z r))
   burst_step w v e h m (inr a) = elim a.state [
     | inl k ↦ subst Lasting (sym h) (next_event w e a k.0 (more w e a.crowd (May_weaken s w e (λ _. tt) m) refl) (fit (May_split s w e m)))
-    | inr k ↦ absurd (balanced_stuck s w e (mix_balanced (even_mix a.crowd k.0)) (May_weaken s w e (λ (x : ((w ≡ []) ⊎ (0 < count s 0 w)) × Room bd (count s 0 w)). no k.0 x.0) m))
+    | inr k ↦ absurd (balanced_stuck s w e (mix_balanced (even_mix a.crowd k.0)) (May_weaken s w e (λ (x : ((w ≡ []) ⊎ (0 < count s 0 w)) × BoundAdmits bd (count s 0 w)). no k.0 x.0) m))
   ]
     where
       no : count s 0 w ≡ 0 → (w ≡ []) ⊎ (0 < count s 0 w) → ⊥
       no z (inl x) = a.some x
       no z (inr l) = omega (arith, l, z)
 
-      fit : (May s w e ⊥ ⊎ ((((w ≡ []) ⊎ (0 < count s 0 w)) × Room bd (count s 0 w)) × Starts s e)) → Fits bd (count s 0 (w ++ e ∷ []))
+      fit : (May s w e ⊥ ⊎ ((((w ≡ []) ⊎ (0 < count s 0 w)) × BoundAdmits bd (count s 0 w)) × Starts s e)) → Fits bd (count s 0 (w ++ e ∷ []))
       fit (inl k) = fits_stay w e (a.fits w [] (sym (append-nil w))) (stay_entry s f n w e k)
       fit (inr ((x, r), k)) = fits_start w e r k
 
@@ -258,7 +258,7 @@ module _ (bd : Bound) (s : Tree) (f : NoBraces s) (n : NoRepeats s) (ms : Meets 
       go rec (inl k) = let (u, hu) = rec k.0 in (e ∷ u, subst (IsWord (burst bd s)) (append_assoc w (e ∷ []) u) hu)
       go rec (inr k) = (e ∷ [], closed_word (w ++ e ∷ []) a' k.0)
 
-  pub from_nothing : Room bd 0 → IsFront (IsWord (burst bd s)) []
+  pub from_nothing : BoundAdmits bd 0 → IsFront (IsWord (burst bd s)) []
   from_nothing room = go one.0 one.1
     where
       one : IsFront (IsWord s) []
@@ -286,7 +286,7 @@ module _ (bd : Bound) (s : Tree) (f : NoBraces s) (n : NoRepeats s) (ms : Meets 
           now : Starts s e → 0 < count s 0 (e ∷ [])
           now k = omega (arith, start_entry s n e k, start_exit s e k)
 
-  pub burst_finish : Room bd 0 → (w : List Event) → Solo (burst bd s) w → (w ≡ []) ⊎ Lasting w → IsFront (IsWord (burst bd s)) w
+  pub burst_finish : BoundAdmits bd 0 → (w : List Event) → Solo (burst bd s) w → (w ≡ []) ⊎ Lasting w → IsFront (IsWord (burst bd s)) w
   burst_finish room w r (inl z) = subst (IsFront (IsWord (burst bd s))) (sym z) (from_nothing room)
   burst_finish room w r (inr a) = go a.state (mix_finish (crowd_mix s f a.crowd))
     where
@@ -307,7 +307,7 @@ module _ (bd : Bound) (s : Tree) (f : NoBraces s) (n : NoRepeats s) (ms : Meets 
       is_open : (w ≡ []) ⊎ (0 < count s 0 w)
       is_open = elim (nil_or w) [ inl z ↦ inl z | inr z ↦ inr (before w (e ∷ []) h z (cons_nil e [])) ]
 
-      go : (May s w e ⊥ ⊎ (Unit {0} × Starts s e)) → May s w e (((w ≡ []) ⊎ (0 < count s 0 w)) × Room bd (count s 0 w))
+      go : (May s w e ⊥ ⊎ (Unit {0} × Starts s e)) → May s w e (((w ≡ []) ⊎ (0 < count s 0 w)) × BoundAdmits bd (count s 0 w))
       go (inl k) = May_weaken s w e absurd k
       go (inr k) = start_may s f w e k.1 (is_open, fits_room bd _ _ (fits v [] (sym (append-nil v))) (omega (arith, ap (count s 0) h, count-append s 0 w (e ∷ []), start_entry s n e k.1, start_exit s e k.1)))
 
@@ -336,7 +336,7 @@ module _ (bd : Bound) (s : Tree) (f : NoBraces s) (n : NoRepeats s) (ms : Meets 
       go (inl k) = absurd (h.some k)
       go (inr a) = elim a.state [ inl k ↦ absurd (omega (arith, k.0, z)) | inr k ↦ (a, z, k.1) ]
 
-  pub burst_meets : Room bd 0 → Meets (burst bd s)
+  pub burst_meets : BoundAdmits bd 0 → Meets (burst bd s)
   burst_meets room = record {
     whole = burst_whole;
     balanced = λ w h. let b = burst_lasting w h in (mix_balanced (even_mix b.0.crowd b.1), b.1);

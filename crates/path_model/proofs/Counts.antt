@@ -4,7 +4,7 @@ use Rattle.std.proofs.lemmas.Bool.{ne_eqb, cond-false, cond_both}
 use Rattle.path_model.specs.declared.ids.OpId.{OpId}
 use Rattle.path_model.specs.declared.history.Event.{Event}
 use Rattle.path_model.specs.declared.history.Event.TheVariants.{Began, Ended}
-use Rattle.path_model.specs.Trees.{Room, Tree, op, seq, alt, burst, Names}
+use Rattle.path_model.specs.Trees.{BoundAdmits, Tree, op, seq, alt, burst, Names}
 use Rattle.path_model.specs.Histories.{op_of}
 pub use Rattle.path_model.specs.Executions.{entry, exit, count, opens, closes}
 
@@ -36,7 +36,7 @@ May (op b) w (Began a) p = (a ≡ b) × p
 May (op b) w (Ended a) p = (a ≡ b) × (outs (op b) w < ins (op b) w)
 May (seq s t) w e p = May s w e p ⊎ May t w e (inn t w < out s w)
 May (alt s t) w e p = May s w e p ⊎ May t w e p
-May (burst bd s) w e p = May s w e ((p ⊎ (0 < count s 0 w)) × Room bd (count s 0 w))
+May (burst bd s) w e p = May s w e ((p ⊎ (0 < count s 0 w)) × BoundAdmits bd (count s 0 w))
 
 pub ins-append : (s : Tree) (x y : List Event) → ins s (x ++ y) ≡ ins s x + ins s y
 ins-append s [] y = omega arith

@@ -8,7 +8,7 @@ use Rattle.path_model.specs.Trees.{any, most, Tree, op, seq, alt, burst, WellFor
 use Rattle.path_model.specs.Histories.{begun, ended, InProgress}
 use Rattle.path_model.specs.Projection.{LegalOn}
 use Rattle.path_model.specs.Legal.{Forbids}
-use Rattle.path_model.specs.Executions.{Underway}
+use Rattle.path_model.specs.Executions.{TreeInProgress}
 use Rattle.path_model.specs.Machine.{opening}
 use Rattle.path_model.specs.AmongOthers.{values_among}
 use Rattle.path_model.proofs.Examples.{o, differ, slot}
@@ -159,7 +159,7 @@ store_formed : WellFormed store
 store_formed = (well_formed_trees_pass store).0 refl
 
 module _ (h : List Event) (l : LegalOn store h) where
-  within : Underway (seq (op put) (op get)) h → InProgress clear h → ⊥
+  within : TreeInProgress (seq (op put) (op get)) h → InProgress clear h → ⊥
   within u c = elim ((each_part_outside_braces_is_alone store store_formed h l (burst any (seq (op put) (op get))) (inr (inl refl))).1 u clear (inr refl) c) [
     | inl e ↦ let n = ap (λ x. x.0) e in omega (arith, n)
     | inr e ↦ let n = ap (λ x. x.0) e in omega (arith, n)

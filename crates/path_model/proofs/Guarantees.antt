@@ -10,8 +10,8 @@ use Rattle.path_model.specs.Behaviour.{IsRepeated}
 use Rattle.path_model.specs.Projection.{projection, LegalOn}
 use Rattle.path_model.specs.BurstCounts.{Spare}
 use Rattle.path_model.specs.Machine.{Values, opening, values_after}
-use Rattle.path_model.specs.Executions.{entered, left, begun_in, ended_in, Underway}
-use Rattle.path_model.specs.Guarantees.{PartOf, OutsideBraces, FitsBound, PartsKeep, Keeps, PartsCount, ValuesCount, EachFrontIsLegal, EachFrontIsLegalOnAll, CountsAddUp, EachPathKeepsItsCounts, EachValueIsACount, EnteredPartsAreUnderway, EachEndWasBegun, EachPartOutsideBracesIsAlone, ProgressIsUnderway, BoundsHold, SequencesKeepTheirOrder, SequencesGoRoundByRound}
+use Rattle.path_model.specs.Executions.{entered, left, begins_within, ends_within, TreeInProgress}
+use Rattle.path_model.specs.Guarantees.{PartOf, OutsideBraces, FitsBound, PartsKeep, Keeps, PartsCount, ValuesCount, EachFrontIsLegal, EachFrontIsLegalOnAll, CountsAddUp, EachPathKeepsItsCounts, EachValueIsACount, EnteredPartsAreInProgress, EachEndWasBegun, EachPartOutsideBracesIsAlone, TreesOfOperationsAreInProgress, BoundsHold, SequencesKeepTheirOrder, SequencesGoRoundByRound}
 use Rattle.path_model.proofs.Counts.{count}
 use Rattle.path_model.proofs.Path.{flat_fits, meets, Live, behaves_live}
 use Rattle.path_model.proofs.Steady.{Steady, live_steady}
@@ -101,7 +101,7 @@ module _ (h : List Event) where
   left_entered (alt p q) k = omega (arith, left_entered p k.0, left_entered q k.1)
   left_entered (burst bd t) k = elim k.2 [ inl x ↦ omega (arith, x.1) | inr x ↦ omega (arith, x.1) ]
 
-  pub underway_to : (t : Tree) → PartsKeep t h → left t h < entered t h → Underway t h
+  pub underway_to : (t : Tree) → PartsKeep t h → left t h < entered t h → TreeInProgress t h
   underway_to (op b) k l = l
   underway_to (seq p q) k l = elim (cases_lt (left p h) (entered p h)) [
     | inl x ↦ inl (underway_to p k.0 x)
@@ -113,7 +113,7 @@ module _ (h : List Event) where
   ]
   underway_to (burst bd t) k l = elim k.2 [ inl x ↦ absurd (omega (arith, x.1, l)) | inr x ↦ underway_to t k.0 x.0 ]
 
-  pub underway_from : (t : Tree) → PartsKeep t h → Underway t h → left t h < entered t h
+  pub underway_from : (t : Tree) → PartsKeep t h → TreeInProgress t h → left t h < entered t h
   underway_from (op b) k u = u
   underway_from (seq p q) k (inl u) = omega (arith, underway_from p k.0 u, left_entered q k.1, k.2)
   underway_from (seq p q) k (inr (inl u)) = omega (arith, u, left_entered p k.0, left_entered q k.1)
@@ -123,7 +123,7 @@ module _ (h : List Event) where
   underway_from (burst bd t) k u = let l = underway_from t k.0 u in elim k.2 [ inl x ↦ absurd (omega (arith, x.0, l)) | inr x ↦ omega (arith, x.1) ]
 
   -- what is in progress is underway
-  pub progress_underway : (t : Tree) (a : OpId) → Names t a → InProgress a h → Underway t h
+  pub progress_underway : (t : Tree) (a : OpId) → Names t a → InProgress a h → TreeInProgress t h
   progress_underway (op b) a k l = subst (λ x. InProgress x h) k l
   progress_underway (seq p q) a (inl k) l = inl (progress_underway p a k l)
   progress_underway (seq p q) a (inr k) l = inr (inr (progress_underway q a k l))
@@ -182,7 +182,7 @@ module _ (h : List Event) where
   apart t (burst bd x) p k o l a n i = subst (λ x. Names x a) (sym p) n
 
   -- within braces each operation in progress is in an execution of its own
-  pub one_each : (t : Tree) → NoBraces t → PartsKeep t h → begun_in t h + left t h ≤ ended_in t h + entered t h
+  pub one_each : (t : Tree) → NoBraces t → PartsKeep t h → begins_within t h + left t h ≤ ends_within t h + entered t h
   one_each (op b) f k = omega arith
   one_each (seq p q) f k = omega (arith, one_each p f.0 k.0, one_each q f.1 k.1, k.2)
   one_each (alt p q) f k = omega (arith, one_each p f.0 k.0, one_each q f.1 k.1)
@@ -218,7 +218,7 @@ part_fits t (burst bd x) (inl p) f = subst NoNesting (sym p) f
 part_fits t (burst bd x) (inr p) f = part_fits t x p (flat_fits x f.0)
 
 -- the laws
-pub entered_parts_are_underway : EnteredPartsAreUnderway
+pub entered_parts_are_underway : EnteredPartsAreInProgress
 entered_parts_are_underway s wf h l t p =
     let k = part_keeps h t s p (path_keeps s wf h l).parts in
     (underway_to h t k, underway_from h t k)
@@ -231,7 +231,7 @@ each_part_outside_braces_is_alone s wf h l t p =
     let k = path_keeps s wf h l in
     (one_down h t s p k.parts k.one, λ u. apart h t s p k.parts k.one (underway_from h t (part_keeps h t s (outside_part t s p) k.parts) u))
 
-pub progress_is_underway : ProgressIsUnderway
+pub progress_is_underway : TreesOfOperationsAreInProgress
 progress_is_underway t h a k i = progress_underway h t a k i
 
 pub bounds_hold : BoundsHold

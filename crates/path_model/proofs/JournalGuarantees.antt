@@ -14,7 +14,7 @@ use Rattle.path_model.specs.declared.journal.Activation.{Activation}
 use Rattle.path_model.specs.Trees.{Tree, op, seq, alt, burst, WellFormed}
 use Rattle.path_model.specs.Projection.{LegalOn}
 use Rattle.path_model.specs.Legal.{numbered, Every, First, NoneOf, Legal, Forbids}
-use Rattle.path_model.specs.Executions.{begun_in, ended_in, Underway}
+use Rattle.path_model.specs.Executions.{begins_within, ends_within, TreeInProgress}
 use Rattle.path_model.specs.Declarations.{Declaration, trees, paths_of}
 use Rattle.path_model.specs.Journals as journals
 use Rattle.path_model.specs.Journals.{starts, is_finished_in, live, live_count, admitted_history, with_line}
@@ -97,13 +97,13 @@ unopposed_starts_are_admitted_behind d room openings ts e formed earlier ls h w 
 
 -- what lines that follow a path have live
 module _ (s : Tree) (ls : List Line) (k : Follows s ls) where
-  live_begun : (t : Tree) → begun_in t (admitted_history ls) ≡ ended_in t (admitted_history ls) + live_in t (live ls)
+  live_begun : (t : Tree) → begins_within t (admitted_history ls) ≡ ends_within t (admitted_history ls) + live_in t (live ls)
   live_begun (op a) = k.counts a
   live_begun (seq p q) = omega (arith, live_begun p, live_begun q)
   live_begun (alt p q) = omega (arith, live_begun p, live_begun q)
   live_begun (burst bd t) = live_begun t
 
-  live_underway : (t : Tree) → 0 < live_in t (live ls) → Underway t (admitted_history ls)
+  live_underway : (t : Tree) → 0 < live_in t (live ls) → TreeInProgress t (admitted_history ls)
   live_underway (op a) l = omega (arith, l, k.counts a)
   live_underway (seq p q) l = elim (cases_lt 0 (live_in p (live ls))) [ inl x ↦ inl (live_underway p x) | inr x ↦ inr (inr (live_underway q (omega (arith, l, x)))) ]
   live_underway (alt p q) l = elim (cases_lt 0 (live_in p (live ls))) [ inl x ↦ inl (live_underway p x) | inr x ↦ inr (live_underway q (omega (arith, l, x))) ]

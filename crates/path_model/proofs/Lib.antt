@@ -7,7 +7,7 @@ pub mod Crowd
 pub mod Labels
 pub mod Sums
 pub mod Totals
-pub mod Underway
+pub mod RunsAcross
 pub mod Burst
 pub mod Path
 pub mod Steady

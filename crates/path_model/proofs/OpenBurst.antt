@@ -4,7 +4,7 @@ use Rattle.std.proofs.lemmas.List.{append-nil, append_assoc}
 use Rattle.path_model.specs.declared.ids.OpId.{OpId}
 use Rattle.path_model.specs.declared.history.Event.{Event}
 use Rattle.path_model.specs.declared.history.Event.TheVariants.{Began}
-use Rattle.path_model.specs.Trees.{Bound, Room, Tree, op, seq, alt, burst, Names, NoRepeats, NoBraces, NoNesting, has, WellFormed}
+use Rattle.path_model.specs.Trees.{Bound, BoundAdmits, Tree, op, seq, alt, burst, Names, NoRepeats, NoBraces, NoNesting, has, WellFormed}
 use Rattle.path_model.specs.Histories.{op_of}
 use Rattle.path_model.specs.Words.{IsWord}
 use Rattle.path_model.specs.Behaviour.{IsFront, IsPartLabelling, Behaves}
@@ -139,7 +139,7 @@ module _ (bd : Bound) (b : Tree) (i j : ℕ) (s : Tree) (at : Inside (burst bd b
   flat : NoBraces b
   flat = (inside_fits at nn).0
 
-  room : Room bd 0
+  room : BoundAdmits bd 0
   room = (inside_fits at nn).1
 
   once : NoRepeats b
@@ -192,7 +192,7 @@ module _ (bd : Bound) (b : Tree) (i j : ℕ) (s : Tree) (at : Inside (burst bd b
       within = stay_in bd b i j at nr nn (p.last ++ e ∷ []) p.last e (solo_next s ms w e m p) refl now
 
       solo : Solo (burst bd b) (o.last ++ e ∷ [])
-      solo = on o.last e o.solo (May_same b w o.last e (λ (x : (Unit {0} ⊎ (0 < count b 0 w)) × Room bd (count b 0 w)). (inr o.is_open, subst (Room bd) same.1 x.1)) same.0 (inside_may at nr w e _ within m)) refl
+      solo = on o.last e o.solo (May_same b w o.last e (λ (x : (Unit {0} ⊎ (0 < count b 0 w)) × BoundAdmits bd (count b 0 w)). (inr o.is_open, subst (BoundAdmits bd) same.1 x.1)) same.0 (inside_may at nr w e _ within m)) refl
         where
           same : Same (burst bd b) w o.last
           same = subst (λ u. Same (burst bd b) u o.last) (sym o.joined) (Same_after (burst bd b) o.before o.last o.balanced)
@@ -294,10 +294,10 @@ module _ (bd : Bound) (b : Tree) (i j : ℕ) (s : Tree) (at : Inside (burst bd b
           spare : Spare bd (v.bound j) (v.counter j)
           spare = spare_same bd (v.bound j) (v.bound j) (count b 0 h) (v.counter j) refl (sym H.1) H.2
 
-          may_begin : (a : OpId) (q : ℕ) → prologue s a ≡ through bd j q → CanPass s h a ↔ Room bd (v.counter j)
+          may_begin : (a : OpId) (q : ℕ) → prologue s a ≡ through bd j q → CanPass s h a ↔ BoundAdmits bd (v.counter j)
           may_begin a q p = (λ c. (t.0 (subst (λ x. Passes x v) p c)).1, λ r. subst (λ x. Passes x v) (sym p) (t.1 (inl (omega (arith, H.1, ob_same.1, ob_open)), r)))
             where
-              t : Passes (through bd j q) v ↔ (((0 < v.counter j) ⊎ (0 < v.semaphore q)) × Room bd (v.counter j))
+              t : Passes (through bd j q) v ↔ (((0 < v.counter j) ⊎ (0 < v.semaphore q)) × BoundAdmits bd (v.counter j))
               t = through_passes bd j q v (v.counter j) spare
 
           semaphores : (l r : Tree) (n m : ℕ) → Inside (seq l r) n m b i (j + 1) → Many (StandsAt l r ls) (v.semaphore (n + semicolons l))

@@ -4,10 +4,10 @@ use Rattle.std.proofs.lemmas.Bool.{cases_Bool, cases_lt}
 use Rattle.path_model.specs.declared.ids.OpId.{OpId}
 use Rattle.path_model.specs.declared.history.Event.{Event}
 use Rattle.path_model.specs.declared.history.Event.TheVariants.{Began}
-use Rattle.path_model.specs.Trees.{Bound, any, most, Room, Tree, op, seq, alt, burst, Names, NoRepeats, NoNesting, WellFormed, has}
+use Rattle.path_model.specs.Trees.{Bound, any, most, BoundAdmits, Tree, op, seq, alt, burst, Names, NoRepeats, NoNesting, WellFormed, has}
 use Rattle.path_model.specs.Behaviour.{Behaves}
 use Rattle.path_model.specs.Projection.{projection, LegalOn}
-use Rattle.path_model.specs.Executions.{entered, left, Underway}
+use Rattle.path_model.specs.Executions.{entered, left, TreeInProgress}
 use Rattle.path_model.specs.Refusals.{IsFull, Where, Against, StandsAgainst, EachRefusalHasAReason, StartsAreLegalUnlessOpposed, FinishesAreLegalInProgress}
 use Rattle.path_model.proofs.Counts.{count, inn, out, May, May-names}
 use Rattle.path_model.proofs.Solo.{Meets}
@@ -23,7 +23,7 @@ use Rattle.path_model.proofs.Guarantees.{path_keeps, underway_to, underway_from}
 abbrev Either : Type 0 → Type 0 → Type 0
 Either P Q = (P ⊎ Q) × (P → Q → ⊥)
 
-full_or : (bd : Bound) (t : Tree) (h : List Event) (c : ℕ) → c + left t h ≡ entered t h → Either (Room bd c) (IsFull bd t h)
+full_or : (bd : Bound) (t : Tree) (h : List Event) (c : ℕ) → c + left t h ≡ entered t h → Either (BoundAdmits bd c) (IsFull bd t h)
 full_or any t h c e = (inl tt, λ r f. f)
 full_or (most n) t h c e = (elim (cases_lt c n) [ inl l ↦ inl l | inr l ↦ inr (omega (arith, l, e)) ], λ r f. omega (arith, r, f, e))
 
@@ -72,7 +72,7 @@ module _ (s : Tree) (h : List Event) (a : OpId) where
   may_or (burst bd t) sub nr f y k P Q x =
       let c : count t 0 (projection s h) + left t h ≡ entered t h = omega (arith, y.1, inn_among s t sub h, out_among s t sub h) in
       may_or t sub nr (flat_fits t f.0) (steady_flat t f.0 (projection s h)) k _ _
-      (braces_or P Q (Room bd (count t 0 (projection s h))) (IsFull bd t h) (count t 0 (projection s h)) (entered t h) (left t h) c x (full_or bd t h (count t 0 (projection s h)) c))
+      (braces_or P Q (BoundAdmits bd (count t 0 (projection s h))) (IsFull bd t h) (count t 0 (projection s h)) (entered t h) (left t h) c x (full_or bd t h (count t 0 (projection s h)) c))
 
 module _ (s : Tree) (wf : WellFormed s) (h : List Event) (l : LegalOn s h) (a : OpId) where
   legal_or : Names s a → Either (LegalOn s (h ++ Began a ∷ [])) (StandsAgainst s h a)
@@ -90,7 +90,7 @@ module _ (s : Tree) (wf : WellFormed s) (h : List Event) (l : LegalOn s h) (a : 
       from : LegalOn s (h ++ Began a ∷ []) → May s (projection s h) (Began a) (inn s (projection s h) ≤ out s (projection s h))
       from c = (live_last s (behaves_live s ms _ (subst (Behaves s) (project_named s h (Began a) k) c)) (projection s h) (Began a) refl).1
 
-      root : Either (inn s (projection s h) ≤ out s (projection s h)) (Underway s h)
+      root : Either (inn s (projection s h) ≤ out s (projection s h)) (TreeInProgress s h)
       root =
           let i = inn_among s s (λ b n. n) h in
           let o = out_among s s (λ b n. n) h in

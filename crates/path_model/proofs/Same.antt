@@ -5,7 +5,7 @@ use Rattle.std.proofs.lemmas.Bool.{cases_lt}
 use Rattle.path_model.specs.declared.ids.OpId.{OpId}
 use Rattle.path_model.specs.declared.history.Event.{Event}
 use Rattle.path_model.specs.declared.history.Event.TheVariants.{Began, Ended}
-use Rattle.path_model.specs.Trees.{Room, Tree, op, seq, alt, burst, Names, NoBraces}
+use Rattle.path_model.specs.Trees.{BoundAdmits, Tree, op, seq, alt, burst, Names, NoBraces}
 use Rattle.path_model.specs.Histories.{op_of}
 use Rattle.path_model.proofs.Counts.{ins, outs, count, opens, closes, inn, out, May, ins-append, outs-append, count-append, opens-append, closes-append, Foreign, foreign_ins, foreign_outs, foreign_count, foreign_opens, foreign_closes}
 
@@ -32,9 +32,9 @@ May_same (alt s t) v w e f h (inl m) = inl (May_same s v w e f h.0 m)
 May_same (alt s t) v w e f h (inr m) = inr (May_same t v w e f h.1 m)
 May_same (burst bd s) v w e {p} {q} f h m = May_same s v w e g h.0 m
   where
-    g : ((p ⊎ (0 < count s 0 v)) × Room bd (count s 0 v)) → ((q ⊎ (0 < count s 0 w)) × Room bd (count s 0 w))
-    g (inl x, r) = (inl (f x), subst (Room bd) h.1 r)
-    g (inr l, r) = (inr (omega (arith, l, h.1)), subst (Room bd) h.1 r)
+    g : ((p ⊎ (0 < count s 0 v)) × BoundAdmits bd (count s 0 v)) → ((q ⊎ (0 < count s 0 w)) × BoundAdmits bd (count s 0 w))
+    g (inl x, r) = (inl (f x), subst (BoundAdmits bd) h.1 r)
+    g (inr l, r) = (inr (omega (arith, l, h.1)), subst (BoundAdmits bd) h.1 r)
 
 pub Same_refl : (s : Tree) (w : List Event) → Same s w w
 Same_refl (op b) w = refl
@@ -208,8 +208,8 @@ May_split (alt s t) w e (inl m) = elim (May_split s w e m) [ inl h ↦ inl (inl 
 May_split (alt s t) w e (inr m) = elim (May_split t w e m) [ inl h ↦ inl (inr h) | inr h ↦ inr (h.0, inr h.1) ]
 May_split (burst bd s) w e {p} m = go (cases_lt 0 (count s 0 w)) (May_split s w e m)
   where
-    go : (0 < count s 0 w) ⊎ (count s 0 w ≤ 0) → (May s w e ⊥ ⊎ (((p ⊎ (0 < count s 0 w)) × Room bd (count s 0 w)) × Starts s e)) → May s w e ((⊥ ⊎ (0 < count s 0 w)) × Room bd (count s 0 w)) ⊎ (p × Starts s e)
-    go (inl l) k = inl (May_weaken s w e (λ (x : (p ⊎ (0 < count s 0 w)) × Room bd (count s 0 w)). (inr l, x.1)) m)
+    go : (0 < count s 0 w) ⊎ (count s 0 w ≤ 0) → (May s w e ⊥ ⊎ (((p ⊎ (0 < count s 0 w)) × BoundAdmits bd (count s 0 w)) × Starts s e)) → May s w e ((⊥ ⊎ (0 < count s 0 w)) × BoundAdmits bd (count s 0 w)) ⊎ (p × Starts s e)
+    go (inl l) k = inl (May_weaken s w e (λ (x : (p ⊎ (0 < count s 0 w)) × BoundAdmits bd (count s 0 w)). (inr l, x.1)) m)
     go (inr l) (inl h) = inl (May_weaken s w e absurd h)
     go (inr l) (inr ((inl x, r), k)) = inr (x, k)
     go (inr l) (inr ((inr x, r), k)) = absurd (omega (arith, l, x))
@@ -227,7 +227,7 @@ May_nothing (alt s t) e (inl m) = May_nothing s e m
 May_nothing (alt s t) e (inr m) = May_nothing t e m
 May_nothing (burst bd s) e m = May_nothing s e (May_weaken s [] e no m)
   where
-    no : ((⊥ ⊎ (0 < 0)) × Room bd 0) → ⊥
+    no : ((⊥ ⊎ (0 < 0)) × BoundAdmits bd 0) → ⊥
     no (inl h, r) = h
     no (inr l, r) = omega (arith, l)
 

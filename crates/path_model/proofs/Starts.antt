@@ -4,7 +4,7 @@ use Rattle.std.proofs.lemmas.Bool.{eq-eqb, ne_eqb, cond-true, cond-false, cond_b
 use Rattle.path_model.specs.declared.ids.OpId.{OpId}
 use Rattle.path_model.specs.declared.history.Event.{Event}
 use Rattle.path_model.specs.declared.history.Event.TheVariants.{Began}
-use Rattle.path_model.specs.Trees.{Bound, any, most, Room, Tree, op, seq, alt, burst, Names, NoRepeats, NoBraces, NoNesting}
+use Rattle.path_model.specs.Trees.{Bound, any, most, BoundAdmits, Tree, op, seq, alt, burst, Names, NoRepeats, NoBraces, NoNesting}
 use Rattle.path_model.proofs.Counts.{entry, exit, count, opens, inn, out, May, ins-append, count-append, opens-append, May-names, Foreign}
 use Rattle.path_model.proofs.Same.{inn_before, out_before}
 use Rattle.std.proofs.lemmas.Bool.{cases_lt}
@@ -38,7 +38,7 @@ pub through_bound : (b : Bound) (m q : ℕ) (v : Values) (d : ℕ) → (d ≡ m 
 through_bound any m q v d n = refl
 through_bound (most k) m q v d n = put_other v.bound m _ d n
 
-pub through_spare : (b : Bound) (m q : ℕ) (v : Values) (c : ℕ) → Spare b (v.bound m) c → Room b c → Spare b ((started (through b m q) v).bound m) (c + 1)
+pub through_spare : (b : Bound) (m q : ℕ) (v : Values) (c : ℕ) → Spare b (v.bound m) c → BoundAdmits b c → Spare b ((started (through b m q) v).bound m) (c + 1)
 through_spare any m q v c h r = tt
 through_spare (most n) m q v c h r = let z = put_same v.bound m (v.bound m - 1) in omega (arith, z, h, r)
 
@@ -103,7 +103,7 @@ module _ (s t : Tree) (n m : ℕ) (up : List Above) (h : List Event) (a : OpId) 
       apart = inside inn t (own + 1) (m + braces s) h (Began a) v x w r.effect own one (seq s t) n m (omega arith, omega arith) (omega arith, omega arith) (omega arith, omega arith) (λ d. (refl, refl))
 
 module _ (bd : Bound) (s : Tree) (n m : ℕ) (up : List Above) (h : List Event) (a : OpId) (v w : Values) where
-  in_braces : NoBraces s → Clear up → Holds (burst bd s) n m h v → (inn s (h ++ Began a ∷ []) ≡ inn s h) ⊎ Room bd (count s 0 h) → StartOk s n (m + 1) (Within bd m ∷ up) h a v w → StartOk (burst bd s) n m up h a v w
+  in_braces : NoBraces s → Clear up → Holds (burst bd s) n m h v → (inn s (h ++ Began a ∷ []) ≡ inn s h) ⊎ BoundAdmits bd (count s 0 h) → StartOk s n (m + 1) (Within bd m ∷ up) h a v w → StartOk (burst bd s) n m up h a v w
   in_braces f c H may r = record { holds = (r.holds, here r.effect, spare r.effect); effect = eff r.effect }
     where
       e : Event

@@ -4,7 +4,7 @@ use Rattle.std.proofs.lemmas.Bool.{ne_eqb, cond-false, cond_both}
 use Rattle.path_model.specs.declared.ids.OpId.{OpId}
 use Rattle.path_model.specs.declared.history.Event.{Event}
 use Rattle.path_model.specs.declared.history.Event.TheVariants.{Began, Ended}
-use Rattle.path_model.specs.Trees.{Room, Tree, op, seq, alt, burst, NoRepeats, NoNesting}
+use Rattle.path_model.specs.Trees.{BoundAdmits, Tree, op, seq, alt, burst, NoRepeats, NoNesting}
 use Rattle.path_model.specs.Histories.{op_of}
 use Rattle.path_model.proofs.Counts.{entry, exit, count, opens, inn, out, May, ins-append, outs-append, count-append, opens-append, closes-append, May-names, Foreign, foreign_count}
 use Rattle.path_model.proofs.Same.{inn_nil, out_nil, foreign_left, inn_before, out_before, Starts, May_split}
@@ -86,7 +86,7 @@ inn_step (burst bd s) n f h e {p} m = go (May_split s h e m)
     same : ◌≡◌ {A = ℕ} (if count s 0 h == 0 then entry s e else 0) 0 → opens s 0 (h ++ e ∷ []) ≡ opens s 0 h
     same z = omega (arith, opens-append s 0 h (e ∷ []), z)
 
-    go : (May s h e ⊥ ⊎ (((p ⊎ (0 < count s 0 h)) × Room bd (count s 0 h)) × Starts s e)) → (opens s 0 (h ++ e ∷ []) ≡ opens s 0 h) ⊎ p
+    go : (May s h e ⊥ ⊎ (((p ⊎ (0 < count s 0 h)) × BoundAdmits bd (count s 0 h)) × Starts s e)) → (opens s 0 (h ++ e ∷ []) ≡ opens s 0 h) ⊎ p
     go (inl k) = inl (same (cond_both (count s 0 h == 0) _ _ (λ x. x ≡ 0) (λ _. stay_entry s f.0 n h e k) (λ _. refl)))
     go (inr ((inl x, r), k)) = inr x
     go (inr ((inr l, r), k)) = inl (same (cond-false _ _ _ (ne_eqb (count s 0 h) 0 (λ q. omega (arith, q, l)))))

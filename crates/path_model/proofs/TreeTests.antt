@@ -2,7 +2,7 @@
 use Rattle.std.proofs.Common.{◌≡◌, ◌==◌, ◌&&◌, not, Bool, true, false, refl, sym, ◌∙◌, subst, inl, inr, arith}
 use Rattle.std.proofs.lemmas.Bool.{cases_lt, eqb-false, ne_eqb, and_parts, and_from, or_left, or_right, or_cases, not-true, false_from_ne_true}
 use Rattle.path_model.specs.declared.ids.OpId.{OpId}
-use Rattle.path_model.specs.Trees.{Bound, any, most, Room, Tree, op, seq, alt, burst, Names, Apart, NoRepeats, NoBraces, NoNesting}
+use Rattle.path_model.specs.Trees.{Bound, any, most, BoundAdmits, Tree, op, seq, alt, burst, Names, Apart, NoRepeats, NoBraces, NoNesting}
 use Rattle.path_model.specs.TreeTests.{share, no_repeats, no_braces, has_room, no_nesting, WellFormedTreesPass}
 use Rattle.path_model.proofs.Upward.{has_names, names_has}
 
@@ -72,11 +72,11 @@ braces_to (seq l r) n = and_from (no_braces l) (no_braces r) (braces_to l n.0) (
 braces_to (alt l r) n = and_from (no_braces l) (no_braces r) (braces_to l n.0) (braces_to r n.1)
 braces_to (burst bd s) n = absurd n
 
-room_from : (bd : Bound) → has_room bd ≡ true → Room bd 0
+room_from : (bd : Bound) → has_room bd ≡ true → BoundAdmits bd 0
 room_from any e = tt
 room_from (most n) e = let x = eqb-false n 0 (not-true (n == 0) e) in elim (cases_lt 0 n) [ inl l ↦ l | inr l ↦ absurd (x (omega (arith, l))) ]
 
-room_to : (bd : Bound) → Room bd 0 → has_room bd ≡ true
+room_to : (bd : Bound) → BoundAdmits bd 0 → has_room bd ≡ true
 room_to any r = refl
 room_to (most n) r = not_from (n == 0) (ne_eqb n 0 (λ e. omega (arith, e, r)))
 

@@ -5,7 +5,7 @@ use Rattle.std.proofs.lemmas.Bool.{eqb-true, eq-eqb, cond-true, cond-false}
 use Rattle.path_model.specs.declared.ids.OpId.{OpId}
 use Rattle.path_model.specs.declared.history.Event.{Event}
 use Rattle.path_model.specs.declared.history.Event.TheVariants.{Began}
-use Rattle.path_model.specs.Trees.{Bound, any, most, Room, Tree, op, seq, alt, burst, Names, NoRepeats, NoBraces, NoNesting, has}
+use Rattle.path_model.specs.Trees.{Bound, any, most, BoundAdmits, Tree, op, seq, alt, burst, Names, NoRepeats, NoBraces, NoNesting, has}
 use Rattle.path_model.proofs.Counts.{count, inn, out, May, May-names}
 use Rattle.path_model.proofs.Same.{May_weaken}
 use Rattle.std.proofs.Common.{true, false, ◌↔◌}
@@ -58,7 +58,7 @@ Holds (burst bd s) n m h v = Holds s n (m + 1) h v × (v.counter m ≡ count s 0
 abbrev pub Clear : List Above → Type 0
 Clear up = prologue_below up ≡ Plain (waits_on up)
 
-pub through_passes : (b : Bound) (m q : ℕ) (v : Values) (c : ℕ) → Spare b (v.bound m) c → Passes (through b m q) v ↔ (((0 < v.counter m) ⊎ (0 < v.semaphore q)) × Room b c)
+pub through_passes : (b : Bound) (m q : ℕ) (v : Values) (c : ℕ) → Spare b (v.bound m) c → Passes (through b m q) v ↔ (((0 < v.counter m) ⊎ (0 < v.semaphore q)) × BoundAdmits b c)
 through_passes any m q v c h = (λ p. (p, tt), λ p. p.0)
 through_passes (most n) m q v c h = (λ p. (p.0, (let l = p.1 in omega (arith, l, h))), λ p. (p.0, (let l = p.1 in omega (arith, l, h))))
 
@@ -114,8 +114,8 @@ pass_may (burst bd s) nr nn n m a up (inr c) k h v H =
     back (inl p) = inr (subst (λ x. Passes x v) c p)
     back (inr l) = inl (omega (arith, l, H.1))
 
-    to : Passes (through bd m (waits_on up)) v → (Passes (prologue_below up) v ⊎ (0 < count s 0 h)) × Room bd (count s 0 h)
+    to : Passes (through bd m (waits_on up)) v → (Passes (prologue_below up) v ⊎ (0 < count s 0 h)) × BoundAdmits bd (count s 0 h)
     to p = let x = (through_passes bd m (waits_on up) v (count s 0 h) H.2).0 p in (two x.0, x.1)
 
-    from : (Passes (prologue_below up) v ⊎ (0 < count s 0 h)) × Room bd (count s 0 h) → Passes (through bd m (waits_on up)) v
+    from : (Passes (prologue_below up) v ⊎ (0 < count s 0 h)) × BoundAdmits bd (count s 0 h) → Passes (through bd m (waits_on up)) v
     from p = (through_passes bd m (waits_on up) v (count s 0 h) H.2).1 (back p.0, p.1)

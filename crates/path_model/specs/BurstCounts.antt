@@ -3,7 +3,7 @@ use Rattle.std.specs.Prelude.{◌≡◌, ◌≢◌, ◌≤◌, ◌<◌, ◌+◌,
 use Rattle.path_model.specs.declared.ids.OpId.{OpId}
 use Rattle.path_model.specs.declared.history.Event.{Event}
 use Rattle.path_model.specs.declared.history.Event.TheVariants.{Began}
-use Rattle.path_model.specs.Trees.{Bound, any, most, Room, Tree, seq, alt, burst, Names, WellFormed}
+use Rattle.path_model.specs.Trees.{Bound, any, most, BoundAdmits, Tree, seq, alt, burst, Names, WellFormed}
 use Rattle.path_model.specs.Labellings.{events_of, carrying, Member, NoneTwice}
 use Rattle.path_model.specs.Words.{IsWord}
 use Rattle.path_model.specs.Behaviour.{IsFront, IsPartLabelling, Behaves}
@@ -69,7 +69,7 @@ pub record Counts (s b : Tree) (bd : Bound) (i j : ℕ) (h : List Event) (ls : L
       (a : OpId) (q : ℕ) → Names b a → prologue s a ≡ Plain q
       → (k : ℕ) → IsPartLabelling b (ls ++ (k, Began a) ∷ []) → InUse ls k
   -- a start whose prologue is PP can begin any label that isn't in use if the bound has room; it can pass exactly then
-  pub room : (a : OpId) (q : ℕ) → prologue s a ≡ through bd j q → CanPass s h a ↔ Room bd ((values_after s h).counter j)
+  pub room : (a : OpId) (q : ℕ) → prologue s a ≡ through bd j q → CanPass s h a ↔ BoundAdmits bd ((values_after s h).counter j)
   pub begins :
       (a : OpId) (q : ℕ) → Names b a → prologue s a ≡ through bd j q
       → (k : ℕ) → (InUse ls k → ⊥) → IsPartLabelling b (ls ++ (k, Began a) ∷ [])

@@ -48,21 +48,21 @@ left (alt s t) h = left s h + left t h
 left (burst bd s) h = closes s 0 h
 
 -- how often the operations of the tree began, and how often they ended
-abbrev pub begun_in : Tree → List Event → ℕ
-begun_in (op a) h = begun a h
-begun_in (seq s t) h = begun_in s h + begun_in t h
-begun_in (alt s t) h = begun_in s h + begun_in t h
-begun_in (burst bd s) h = begun_in s h
+abbrev pub begins_within : Tree → List Event → ℕ
+begins_within (op a) h = begun a h
+begins_within (seq s t) h = begins_within s h + begins_within t h
+begins_within (alt s t) h = begins_within s h + begins_within t h
+begins_within (burst bd s) h = begins_within s h
 
-abbrev pub ended_in : Tree → List Event → ℕ
-ended_in (op a) h = ended a h
-ended_in (seq s t) h = ended_in s h + ended_in t h
-ended_in (alt s t) h = ended_in s h + ended_in t h
-ended_in (burst bd s) h = ended_in s h
+abbrev pub ends_within : Tree → List Event → ℕ
+ends_within (op a) h = ended a h
+ends_within (seq s t) h = ends_within s h + ends_within t h
+ends_within (alt s t) h = ends_within s h + ends_within t h
+ends_within (burst bd s) h = ends_within s h
 
 -- an operation of the tree is in progress, or the right operand of a semicolon has still to follow the left one
-abbrev pub Underway : Tree → List Event → Type 0
-Underway (op a) h = InProgress a h
-Underway (seq s t) h = Underway s h ⊎ ((entered t h < left s h) ⊎ Underway t h)
-Underway (alt s t) h = Underway s h ⊎ Underway t h
-Underway (burst bd s) h = Underway s h
+abbrev pub TreeInProgress : Tree → List Event → Type 0
+TreeInProgress (op a) h = InProgress a h
+TreeInProgress (seq s t) h = TreeInProgress s h ⊎ ((entered t h < left s h) ⊎ TreeInProgress t h)
+TreeInProgress (alt s t) h = TreeInProgress s h ⊎ TreeInProgress t h
+TreeInProgress (burst bd s) h = TreeInProgress s h

@@ -9,7 +9,7 @@ use Rattle.path_model.specs.Legal.{Legal}
 use Rattle.path_model.specs.BurstCounts.{Spare}
 use Rattle.path_model.specs.Machine.{semicolons, braces, Values, opening}
 use Rattle.path_model.specs.AmongOthers.{values_among}
-use Rattle.path_model.specs.Executions.{entered, left, begun_in, ended_in, Underway}
+use Rattle.path_model.specs.Executions.{entered, left, begins_within, ends_within, TreeInProgress}
 
 -- t is a part of the other tree
 abbrev pub PartOf : Tree → Tree → Type 0
@@ -84,10 +84,10 @@ EachValueIsACount =
     (s : Tree) → WellFormed s → (h : List Event) → LegalOn s h → ValuesCount s h (values_among s (opening s) h)
 
 -- a part was entered and not left exactly where it is underway
-abbrev pub EnteredPartsAreUnderway : Type 0
-EnteredPartsAreUnderway =
+abbrev pub EnteredPartsAreInProgress : Type 0
+EnteredPartsAreInProgress =
     (s : Tree) → WellFormed s → (h : List Event) → LegalOn s h
-    → (t : Tree) → PartOf t s → (left t h < entered t h) ↔ Underway t h
+    → (t : Tree) → PartOf t s → (left t h < entered t h) ↔ TreeInProgress t h
 
 -- an operation has ended at most as often as it has begun
 abbrev pub EachEndWasBegun : Type 0
@@ -97,17 +97,17 @@ EachEndWasBegun = (s : Tree) → WellFormed s → (h : List Event) → LegalOn s
 abbrev pub EachPartOutsideBracesIsAlone : Type 0
 EachPartOutsideBracesIsAlone =
     (s : Tree) → WellFormed s → (h : List Event) → LegalOn s h → (t : Tree) → OutsideBraces t s
-    → (entered t h ≤ left t h + 1) × (Underway t h → (b : OpId) → Names s b → InProgress b h → Names t b)
+    → (entered t h ≤ left t h + 1) × (TreeInProgress t h → (b : OpId) → Names s b → InProgress b h → Names t b)
 
 -- a tree is underway while an operation of it is in progress
-abbrev pub ProgressIsUnderway : Type 0
-ProgressIsUnderway = (t : Tree) (h : List Event) (a : OpId) → Names t a → InProgress a h → Underway t h
+abbrev pub TreesOfOperationsAreInProgress : Type 0
+TreesOfOperationsAreInProgress = (t : Tree) (h : List Event) (a : OpId) → Names t a → InProgress a h → TreeInProgress t h
 
 -- of `{ T : n }` at most n operations are in progress
 abbrev pub BoundsHold : Type 0
 BoundsHold =
     (s : Tree) → WellFormed s → (h : List Event) → LegalOn s h
-    → (n : ℕ) (t : Tree) → PartOf (burst (most n) t) s → begun_in t h ≤ ended_in t h + n
+    → (n : ℕ) (t : Tree) → PartOf (burst (most n) t) s → begins_within t h ≤ ends_within t h + n
 
 -- in `L ; R` R was entered at most as often as L was left
 abbrev pub SequencesKeepTheirOrder : Type 0

@@ -15,7 +15,7 @@ use Rattle.path_model.specs.Trees.{most, Tree, op, seq, alt, burst, Names, NoBra
 use Rattle.path_model.specs.Histories.{begun, ended, InProgress}
 use Rattle.path_model.specs.Projection.{LegalOn}
 use Rattle.path_model.specs.Legal.{numbered, Every, First, NoneOf}
-use Rattle.path_model.specs.Executions.{begun_in, ended_in}
+use Rattle.path_model.specs.Executions.{begins_within, ends_within}
 use Rattle.path_model.specs.Guarantees.{PartOf, OutsideBraces}
 use Rattle.path_model.specs.Refusals.{StandsAgainst}
 use Rattle.path_model.specs.Declarations.{Declaration, trees}
@@ -70,7 +70,7 @@ LiveIsInProgress =
 abbrev pub LiveCountsAddUp : Type 0
 LiveCountsAddUp =
     (s : Tree) (ls : List Line) → Follows s ls
-    → (t : Tree) → begun_in t (admitted_history ls) ≡ ended_in t (admitted_history ls) + live_in t (live ls)
+    → (t : Tree) → begins_within t (admitted_history ls) ≡ ends_within t (admitted_history ls) + live_in t (live ls)
 
 -- of `{ T : n }` at most n activations are live
 abbrev pub LiveBoundsHold : Type 0

@@ -38,10 +38,10 @@ abbrev pub AtMost : ℕ → (ℕ → Type 0) → Type 0
 AtMost n P = (ks : List ℕ) → NoneTwice ks → ((k : ℕ) → Member k ks → P k) → length ks ≤ n
 
 -- some of the label's events are in x, and some in y after it
-abbrev pub Underway : List (ℕ × Event) → List (ℕ × Event) → ℕ → Type 0
-Underway x y k = (carrying k x ≢ []) × (carrying k y ≢ [])
+abbrev pub RunsAcross : List (ℕ × Event) → List (ℕ × Event) → ℕ → Type 0
+RunsAcross x y k = (carrying k x ≢ []) × (carrying k y ≢ [])
 
 -- at no front are more labels unfinished than the bound allows
 abbrev pub WithinBound : Bound → List (ℕ × Event) → Type 0
 WithinBound any ls = Unit {0}
-WithinBound (most n) ls = (x y : List (ℕ × Event)) → ls ≡ x ++ y → AtMost n (Underway x y)
+WithinBound (most n) ls = (x y : List (ℕ × Event)) → ls ≡ x ++ y → AtMost n (RunsAcross x y)

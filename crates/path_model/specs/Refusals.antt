@@ -7,7 +7,7 @@ use Rattle.path_model.specs.Trees.{Bound, any, most, Tree, op, seq, alt, burst, 
 use Rattle.path_model.specs.Histories.{InProgress}
 use Rattle.path_model.specs.Projection.{LegalOn}
 use Rattle.path_model.specs.Legal.{Forbids}
-use Rattle.path_model.specs.Executions.{entered, left, Underway}
+use Rattle.path_model.specs.Executions.{entered, left, TreeInProgress}
 
 -- as many executions as the bound allows are underway
 abbrev pub IsFull : Bound → Tree → List Event → Type 0
@@ -28,7 +28,7 @@ Against (burst bd t) h a P = Against t h a (IsFull bd t h ⊎ (P × (entered t h
 
 -- what stands against a start in a whole path, whose entry waits until it is no longer underway
 abbrev pub StandsAgainst : Tree → List Event → OpId → Type 0
-StandsAgainst s h a = Against s h a (Underway s h)
+StandsAgainst s h a = Against s h a (TreeInProgress s h)
 
 -- a start is forbidden exactly where something stands against it
 abbrev pub EachRefusalHasAReason : Type 0

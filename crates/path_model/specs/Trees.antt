@@ -10,9 +10,9 @@ pub data Bound : Type 0 where
   most : ℕ → Bound
 
 -- one more execution may begin when c aren't over
-abbrev pub Room : Bound → ℕ → Type 0
-Room any c = Unit {0}
-Room (most n) c = c < n
+abbrev pub BoundAdmits : Bound → ℕ → Type 0
+BoundAdmits any c = Unit {0}
+BoundAdmits (most n) c = c < n
 
 -- a tree, apart from where its boxes are in memory
 pub data Tree : Type 0 where
@@ -58,7 +58,7 @@ abbrev pub NoNesting : Tree → Type 0
 NoNesting (op a) = Unit {0}
 NoNesting (seq s t) = NoNesting s × NoNesting t
 NoNesting (alt s t) = NoNesting s × NoNesting t
-NoNesting (burst bd s) = NoBraces s × Room bd 0
+NoNesting (burst bd s) = NoBraces s × BoundAdmits bd 0
 
 -- each bound is at most 65,535
 abbrev pub FewAtOnce : Tree → Type 0

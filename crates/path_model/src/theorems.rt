@@ -22,8 +22,8 @@ ghost use Rattle.path_model.specs.Stuck.{FrozenStaysFrozen, StuckStaysStuck, Sta
 ghost use Rattle.path_model.specs.Stuck.{LiveActivationsMayFinish, FinishesComeBetween};
 ghost use Rattle.path_model.specs.TreeTests.{WellFormedTreesPass};
 ghost use Rattle.path_model.specs.Guarantees.{EachFrontIsLegal, EachFrontIsLegalOnAll, CountsAddUp};
-ghost use Rattle.path_model.specs.Guarantees.{EachPathKeepsItsCounts, EachValueIsACount, EnteredPartsAreUnderway, EachEndWasBegun};
-ghost use Rattle.path_model.specs.Guarantees.{EachPartOutsideBracesIsAlone, ProgressIsUnderway, BoundsHold};
+ghost use Rattle.path_model.specs.Guarantees.{EachPathKeepsItsCounts, EachValueIsACount, EnteredPartsAreInProgress, EachEndWasBegun};
+ghost use Rattle.path_model.specs.Guarantees.{EachPartOutsideBracesIsAlone, TreesOfOperationsAreInProgress, BoundsHold};
 ghost use Rattle.path_model.specs.Guarantees.{SequencesKeepTheirOrder, SequencesGoRoundByRound};
 ghost use Rattle.path_model.specs.Refusals.{EachRefusalHasAReason, StartsAreLegalUnlessOpposed, FinishesAreLegalInProgress};
 ghost use Rattle.path_model.specs.JournalGuarantees.{EachJournalFollowsItsPaths, SegmentsFollowTheirPaths};
@@ -281,7 +281,7 @@ pub fn each_value_is_a_count()
 
 /// A part of a path was entered and not left exactly where an operation of it is in progress or one has still to follow another.
 pub fn entered_parts_are_underway()
-    ensures { EnteredPartsAreUnderway }
+    ensures { EnteredPartsAreInProgress }
 {}
 
 /// No operation ends more often than it begins.
@@ -296,7 +296,7 @@ pub fn each_part_outside_braces_is_alone()
 
 /// A part of a path is underway while an operation of it is in progress.
 pub fn progress_is_underway()
-    ensures { ProgressIsUnderway }
+    ensures { TreesOfOperationsAreInProgress }
 {}
 
 /// Of `{ S : n }` at most n operations are in progress.

@@ -7,7 +7,7 @@ use Rattle.std.proofs.lemmas.Option.{slice_get-map, slice_get-get_or, same_Some}
 use Rattle.path_model.specs.declared.ids.OpId.{OpId}
 use Rattle.path_model.specs.declared.resource.Law.{Law}
 use Rattle.path_model.specs.declared.resource.Law.TheVariants.{Queue}
-use Rattle.path_model.specs.Trees.{Bound, any, most, Room, Tree, op, seq, alt, burst, Names, NoRepeats, NoBraces, NoNesting, FewAtOnce, WellFormed}
+use Rattle.path_model.specs.Trees.{Bound, any, most, BoundAdmits, Tree, op, seq, alt, burst, Names, NoRepeats, NoBraces, NoNesting, FewAtOnce, WellFormed}
 use Rattle.path_model.specs.Legal.{numbered, Every}
 use Rattle.path_model.specs.Declarations.{Resource, Operation, Path, Declaration}
 use Rattle.path_decl.specs.Forms.{Form, once, sequence, selection, braced, LawForm, a_cell, a_tally, a_queue, ResourceForm, names_in, all_operations, all_paths, LawFits, BoundFits}
@@ -109,7 +109,7 @@ plain_braces ns (selection f g) t h p b = absurd h
 plain_braces ns (braced c f) (burst e s) h p b = absurd p
 plain_braces ns (braced c f) t h p b = absurd h
 
-bound_fits : (c : Option (List ℕ)) (b : Bound) (s : Tree) → IsBound c b → Room b 0 → FewAtOnce (burst b s) → BoundFits c
+bound_fits : (c : Option (List ℕ)) (b : Bound) (s : Tree) → IsBound c b → BoundAdmits b 0 → FewAtOnce (burst b s) → BoundFits c
 bound_fits None b s h r f = tt
 bound_fits (Some ds) any s h r f = absurd h
 bound_fits (Some ds) (most n) s h r f = record { number = n; denoted = h; positive = r; within = f.0 }

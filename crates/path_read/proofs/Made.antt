@@ -5,7 +5,7 @@ use Rattle.std.proofs.lemmas.List.{length-map, length-append, map-append, get_or
 use Rattle.std.proofs.lemmas.List.Elements.{All-from_recursion}
 use Rattle.std.proofs.lemmas.Option.{slice_get_within, get_or_from_slice_get, same_Some}
 use Rattle.path_model.specs.declared.ids.OpId.{OpId}
-use Rattle.path_model.specs.Trees.{Tree, Names, NoRepeats, Room, NoBraces, NoNesting, FewAtOnce, burst, WellFormed}
+use Rattle.path_model.specs.Trees.{Tree, Names, NoRepeats, BoundAdmits, NoBraces, NoNesting, FewAtOnce, burst, WellFormed}
 use Rattle.path_model.specs.Legal.{numbered, Every}
 use Rattle.path_model.specs.Declarations.{Resource, Operation, Path, Declaration}
 use Rattle.path_lex.specs.declared.token.Reserved.{Reserved}
@@ -114,7 +114,7 @@ tree_plain O (sequence s t) b lt h = (tree_plain O s b lt h.0, tree_plain O t b 
 tree_plain O (selection s t) b lt h = (tree_plain O s b lt h.0, tree_plain O t b lt h.1)
 tree_plain O (braced c s) b lt h = absurd (omega (arith, lt, h.0))
 
-bound_room : (c : Option (List ℕ)) → BoundFits c → Room (bound_of c) 0
+bound_room : (c : Option (List ℕ)) → BoundFits c → BoundAdmits (bound_of c) 0
 bound_room None h = tt
 bound_room (Some ds) h = omega (arith, value_of ds h.number h.denoted h.within, h.positive)
 

@@ -63,6 +63,14 @@ impl<D: Device, A: Allocator + Copy> Shelf<D, A> {
         Shelf { devices }
     }
 
+    /// The devices, in their order. Takes constant time.
+    pub fn into_devices(self) -> Vec<D, A>
+        ensures { map D.state result.items ≡ self }
+    {
+        let Shelf { devices } = self;
+        devices
+    }
+
     /// Lets the device of a declared resource serve the verb, as its law says. The other devices don't change. The cost is that of the
     /// device's own call.
     pub fn act(&mut self, resource: ResId, verb: Verb) -> Result<u64, ActFault>

@@ -1,5 +1,5 @@
 -- Which resource a step asks: that of its line, or none.
-use Rattle.std.proofs.Common.{◌≡◌, ◌≢◌, ◌⊎◌, ℕ, ◌<◌, Bool, true, false, List, length, refl, sym, ap, subst, ◌∙◌, Option, Some, None, inl, inr}
+use Rattle.std.proofs.Common.{◌≡◌, ◌≢◌, ◌⊎◌, ℕ, ◌<◌, Bool, true, false, List, length, refl, sym, subst, Option, Some, None, inl, inr}
 use Rattle.std.proofs.lemmas.Bool.{cases_eq}
 use Rattle.path_model.specs.declared.ids.OpId.{OpId}
 use Rattle.path_model.specs.declared.ids.ActId.{ActId}
@@ -54,7 +54,7 @@ module _ {D : Type 0} (contents : D → List (List ℕ)) (asked : D → ℕ → 
   asks_start a (Started n) m same = asks_none (Start a) (Started n) (Started n) refl (λ e. cc) refl same
   asks_start a (Blocked p) m same = asks_none (Start a) (Blocked p) (Blocked p) refl (λ e. cc) refl same
   asks_start a UnknownOperation m same = asks_none (Start a) UnknownOperation UnknownOperation refl (λ e. cc) refl same
-  asks_start a reply m same = absurd m
+  asks_start a reply m same = absurd m.0
 
   asks_own : (n : ActId) (verb : Verb) (a : Activation) (reply : Reply) → activation_of n old.register.live ≡ Some a → a.worker ≡ w
       → IsServed contents asked (law_of d (resource_of d a.op.0)) (resource_of d a.op.0) verb before reply after → Asks (Apply n verb) reply

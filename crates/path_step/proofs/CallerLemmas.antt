@@ -2,8 +2,8 @@
 
 -- where the gate, what is live and the contents are those of an honest journal, its history is legal, and a step may be made
 pub use Rattle.path_step.proofs.Answered.{legal_now, ready, running, taken_is}
--- the reply of a step is owed by the lines before it
-pub use Rattle.path_step.proofs.Answered.{owed_is}
+-- the reply of a step is owed by the lines before it, and so is what is foretold
+pub use Rattle.path_step.proofs.Answered.{owed_is, foretold_is}
 -- what the step leaves is that of the journal with its line
 pub use Rattle.path_step.proofs.Written.{with_the_line}
 -- what gets no room changes nothing

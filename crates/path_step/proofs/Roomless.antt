@@ -52,7 +52,7 @@ module _ {D : Type 0} (contents : D → List (List ℕ)) (asked : D → ℕ → 
   started a (Started n) is m e = absurd (cc)
   started a (Blocked p) is m e = absurd (cc)
   started a UnknownOperation is m e = absurd (cc)
-  started a r is m e = absurd m
+  started a r is m e = absurd m.0
 
   used : (verb : Verb) (o : Option Activation) → MovesUse contents asked d w verb o before reply after → reply ≢ NoRoom
   used verb None m e = absurd (let told = m.0 in cc)

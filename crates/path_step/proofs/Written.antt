@@ -25,7 +25,7 @@ use Rattle.path_model.specs.Honest.{IsHonest}
 use Rattle.path_model.proofs.CallerLemmas.{begun_more, begun_quiet, live_quiet, history_quiet, contents_more, quiet_use, quiet_reply, line_of, honest_more, live_started, live_finished, live_found, history_started, history_finished}
 use Rattle.path_decl.specs.Lawful.{Lawful}
 use Rattle.path_gate.specs.Standings.{IsAt}
-use Rattle.path_step.specs.Steps.{Present, Register, Acts, held_at, IsStarted, IsOver, MovesStart, MovesUse, MovesFinish, Moves, Answers, can_take}
+use Rattle.path_step.specs.Steps.{Present, Register, Acts, held_at, MayStart, IsStarted, IsOver, MovesStart, MovesUse, MovesFinish, Moves, Answers, can_take}
 use Rattle.path_step.specs.Presents.{IsPresentOf}
 use Rattle.path_step.proofs.Answered.{owed_taken, found_live, resource_in}
 
@@ -88,9 +88,9 @@ module _ (d : Declaration) (lawful : Lawful d) (old : Present) (before : List (L
   }
 
   -- a start that was admitted
-  now_started : (w : ℕ) (a : OpId) (n : ActId) (new : Present) → IsStarted (length d.operations) old w a n new
+  now_started : (w : ℕ) (a : OpId) (n : ActId) (new : Present) → MayStart (length d.operations) old a n → IsStarted old w a n new
       → IsHonest d room openings (journal ++ line_of w (Start a) (Started n) ∷ []) → IsPresentOf new before d room openings (journal ++ line_of w (Start a) (Started n) ∷ [])
-  now_started w a n new m honest =
+  now_started w a n new may m honest =
       let line : Line = line_of w (Start a) (Started n) in
       let begun = begun_more journal line in
       record {
@@ -98,11 +98,11 @@ module _ (d : Declaration) (lawful : Lawful d) (old : Present) (before : List (L
         paths = m.standing.paths ∙ s.paths;
         at = subst (IsAt new.standing) (sym (history_started journal w a n)) (m.standing.moved (admitted_history journal) s.at);
         admitted = (let k = m.standing.admitted in let l = s.admitted in omega (arith, k, l, begun));
-        live = ap (λ b. b.live) m.register ∙ ap (λ xs. xs ++ record { act = n; worker = w; op = a } ∷ []) s.live ∙ sym (live_started d room openings journal s.honest w a n (m.number ∙ s.begun));
+        live = ap (λ b. b.live) m.register ∙ ap (λ xs. xs ++ record { act = n; worker = w; op = a } ∷ []) s.live ∙ sym (live_started d room openings journal s.honest w a n (may.number ∙ s.begun));
         begun = (let k = ap (λ (b : Register). b.begun) m.register in let l = s.begun in omega (arith, k, l, begun));
         declared = subst (λ (b : Register). All (λ a. a.op.0 < length d.operations) b.live) (sym m.register)
             (All-append (λ (a : Activation). a.op.0 < length d.operations) old.register.live _ s.declared
-            (All-cons (λ (a : Activation). a.op.0 < length d.operations) (record { act = n; worker = w; op = a }) [] m.declared (λ k d h. absurd (omega arith))));
+            (All-cons (λ (a : Activation). a.op.0 < length d.operations) (record { act = n; worker = w; op = a }) [] may.declared (λ k d h. absurd (omega arith))));
         one_each = s.one_each;
         held = λ r within. contents_more d openings journal line r ∙ s.held r within;
       }
@@ -223,13 +223,13 @@ module _ (d : Declaration) (lawful : Lawful d) (old : Present) (before : List (L
   -- a start
   after_start : (w : ℕ) (a : OpId) (reply : Reply) (new : Present) → MovesStart (length d.operations) old w a reply new
       → IsHonest d room openings (journal ++ line_of w (Start a) reply ∷ []) → IsPresentOf new before d room openings (journal ++ line_of w (Start a) reply ∷ [])
-  after_start w a (Started n) new m honest = now_started w a n new m honest
+  after_start w a (Started n) new m honest = now_started w a n new m.0 m.1 honest
   after_start w a (Blocked p) new m honest =
       still_line w (Start a) (Blocked p) (Blocked p) new refl m.1 (still_quiet w (Start a) (Blocked p) (quiet_reply w (Start a) (Blocked p) (λ n e. cc) (λ e. cc)) (λ r. refl)) honest
   after_start w a UnknownOperation new m honest =
       still_line w (Start a) UnknownOperation UnknownOperation new refl m.1
       (still_quiet w (Start a) UnknownOperation (quiet_reply w (Start a) UnknownOperation (λ n e. cc) (λ e. cc)) (λ r. refl)) honest
-  after_start w a reply new m honest = absurd m
+  after_start w a reply new m honest = absurd m.0
 
   still_use : (w : ℕ) (n : ActId) (verb : Verb) (reply told : Reply) (after : List (List ℕ)) → reply ≡ told → after ≡ before
       → ((x : ℕ) → told ≢ Used x)

@@ -44,6 +44,11 @@ IsRunning standing register =
     (n : ActId) (a : Activation) → activation_of n register.live ≡ Some a → IsNamed standing.paths a.op
     → 0 < slice_index standing.in_progress a.op.0
 
+-- the reply to a finish of a live activation, or of none, where there is room
+abbrev pub TellsFinish : ℕ → Option Activation → Reply → Type 0
+TellsFinish w None reply = reply ≡ Stale
+TellsFinish w (Some a) reply = (a.worker ≢ w → reply ≡ NotYours) × (a.worker ≡ w → reply ≡ Finished)
+
 -- the activation a, whose number is n, is over
 pub record IsOver (old : Present) (n : ActId) (a : Activation) (reply : Reply) (new : Present) : Type 0 where
   pub told : reply ≡ Finished
@@ -56,15 +61,13 @@ MovesFinish old w n None reply new = (reply ≡ Stale) × (new ≡ old)
 MovesFinish old w n (Some a) reply new =
     (a.worker ≢ w → (reply ≡ NotYours) × (new ≡ old)) × (a.worker ≡ w → IsOver old n a reply new)
 
--- the start of a is admitted and gets the number n
-pub record IsStarted (operations : ℕ) (old : Present) (w : ℕ) (a : OpId) (n : ActId) (new : Present) : Type 0 where
+-- no path forbids a start of a, which gets the number n
+pub record MayStart (operations : ℕ) (old : Present) (a : OpId) (n : ActId) : Type 0 where
   pub declared : a.0 < operations
   pub admits :
       (h : List Event) → legal.Legal old.standing.paths h → IsAt old.standing h
       → legal.Legal old.standing.paths (h ++ Began a ∷ [])
   pub number : n.0 ≡ old.register.begun
-  pub standing : Admitted old.standing a new.standing
-  pub register : new.register ≡ registered old.register (record { act = n; worker = w; op = a })
 
 -- p is the first path that forbids the start of a
 pub record IsBlocked (operations : ℕ) (old : Present) (a : OpId) (p : PathId) : Type 0 where
@@ -73,12 +76,26 @@ pub record IsBlocked (operations : ℕ) (old : Present) (a : OpId) (p : PathId) 
       (h : List Event) → legal.Legal old.standing.paths h → IsAt old.standing h
       → legal.First (legal.Forbids h a) old.standing.paths p.0
 
+-- the reply to a start of a where there is room
+abbrev pub TellsStart : ℕ → Present → OpId → Reply → Type 0
+TellsStart operations old a (Started n) = MayStart operations old a n
+TellsStart operations old a (Blocked p) = IsBlocked operations old a p
+TellsStart operations old a UnknownOperation = operations ≤ a.0
+TellsStart operations old a reply = ⊥
+
+-- the start of a is admitted under the number n
+pub record IsStarted (old : Present) (w : ℕ) (a : OpId) (n : ActId) (new : Present) : Type 0 where
+  pub standing : Admitted old.standing a new.standing
+  pub register : new.register ≡ registered old.register (record { act = n; worker = w; op = a })
+
+-- what a start of a leaves behind this reply
+abbrev pub LeavesStart : Present → ℕ → OpId → Reply → Present → Type 0
+LeavesStart old w a (Started n) new = IsStarted old w a n new
+LeavesStart old w a reply new = new ≡ old
+
 -- a start of a takes one present to another with this reply
 abbrev pub MovesStart : ℕ → Present → ℕ → OpId → Reply → Present → Type 0
-MovesStart operations old w a (Started n) new = IsStarted operations old w a n new
-MovesStart operations old w a (Blocked p) new = IsBlocked operations old a p × (new ≡ old)
-MovesStart operations old w a UnknownOperation new = (operations ≤ a.0) × (new ≡ old)
-MovesStart operations old w a reply new = ⊥
+MovesStart operations old w a reply new = TellsStart operations old a reply × LeavesStart old w a reply new
 
 -- what a resource contains
 abbrev pub held_at : List (List ℕ) → ℕ → List ℕ
@@ -88,6 +105,11 @@ held_at contents r = slice_index_or contents r []
 abbrev pub Acts : Outcome → Reply → List ℕ → List ℕ → Type 0
 Acts (serves x rest) reply before left = ((reply ≡ Used x) × (left ≡ rest)) ⊎ ((reply ≡ DeviceFailed) × (left ≡ before))
 Acts (refuses r) reply before left = (reply ≡ r) × (left ≡ before)
+
+-- the law serves with this reply, or refuses with it
+abbrev pub IsTold : Outcome → Reply → Type 0
+IsTold (serves x rest) reply = reply ≡ Used x
+IsTold (refuses r) reply = reply ≡ r
 
 -- a verb at a resource of this law, whose contents go from old to new with this reply; all others stay
 pub record Serves (law : Law) (r : ℕ) (verb : Verb) (old : List (List ℕ)) (reply : Reply) (new : List (List ℕ)) : Type 0 where
@@ -105,6 +127,25 @@ pub record AreReady (d : Declaration) (live : List Activation) (contents : List 
 -- whether there is room for the attempt after this number of lines, and a number if it is a start
 abbrev pub can_take : Present → ℕ → ℕ → ℕ → Attempt → Bool
 can_take old room lines w attempt = has_room room lines old.register.live w attempt && not (lacks_number old.register.begun attempt)
+
+-- the reply to a use of a live activation, or of none, where there is room and no device fails
+abbrev pub TellsUse : Declaration → List (List ℕ) → ℕ → Verb → Option Activation → Reply → Type 0
+TellsUse d contents w verb None reply = reply ≡ Stale
+TellsUse d contents w verb (Some a) reply =
+    (a.worker ≢ w → reply ≡ NotYours)
+    × (a.worker ≡ w → IsTold (outcome_of (law_of d (resource_of d a.op.0)) verb (held_at contents (resource_of d a.op.0))) reply)
+
+-- the reply to an attempt for which there is room, where no device fails
+abbrev pub Tells : Declaration → Present → List (List ℕ) → ℕ → Attempt → Reply → Type 0
+Tells d old contents w (Start a) reply = TellsStart (length d.operations) old a reply
+Tells d old contents w (Apply n verb) reply = TellsUse d contents w verb (activation_of n old.register.live) reply
+Tells d old contents w (Finish n) reply = TellsFinish w (activation_of n old.register.live) reply
+
+-- the reply to an attempt after this number of lines in this room, where no device fails
+pub record Foretells (d : Declaration) (old : Present) (contents : List (List ℕ)) (room lines w : ℕ) (attempt : Attempt) (reply : Reply)
+    : Type 0 where
+  pub inside : can_take old room lines w attempt ≡ true → Tells d old contents w attempt reply
+  pub outside : can_take old room lines w attempt ≡ false → reply ≡ NoRoom
 
 -- devices of a type D: what each resource contains, and what else is known when one was asked
 module _ {D : Type 0} (contents : D → List (List ℕ)) (asked : D → ℕ → Verb → Reply → D → Type 0) where

@@ -1,7 +1,8 @@
 //! Who serves a use.
 
 ghost use Rattle.std.specs.Prelude.{◌<◌, length, IfOk};
-ghost use Rattle.path_step.specs.Steps.{Serves};
+ghost use Rattle.path_model.specs.Devices.{outcome_of};
+ghost use Rattle.path_step.specs.Steps.{IsTold, Serves, held_at};
 
 use path_model::{Law, Reply, ResId, Verb};
 
@@ -30,4 +31,10 @@ pub trait Devices: Drop {
         requires law { has_law self.old resource.0 law }
         ensures serves { IfOk result (λ reply. Serves law resource.0 verb (contents self.old) reply (contents self.new)) }
         ensures asked { IfOk result (λ reply. asked self.old resource.0 verb reply self.new) };
+
+    /// What `act` would reply now unless the device failed: `Used`, or the law's refusal. Changes nothing.
+    fn foretell(&self, law: Law, resource: ResId, verb: Verb) -> Reply
+        requires within { resource.0 < length (contents self.now) }
+        requires law { has_law self.now resource.0 law }
+        ensures { IsTold (outcome_of law verb (held_at (contents self.now) resource.0)) result };
 }

@@ -4,7 +4,9 @@
 mod devices;
 mod live;
 mod moves;
+mod owing;
 
 pub use devices::Devices;
 pub use live::Live;
 pub use moves::answer;
+pub use owing::owed;

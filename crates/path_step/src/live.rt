@@ -64,22 +64,27 @@ impl<A: Allocator + Copy> Live for Ledger<A> {
 
     type Fault = Infallible;
 
+    #[inline(always)]
     fn count(&self) -> usize {
         Ledger::live(self).len()
     }
 
+    #[inline(always)]
     fn begun(&self) -> u64 {
         u64::from(Ledger::begun(self))
     }
 
+    #[inline(always)]
     fn find(&self, act: ActId) -> Option<Activation> {
         Ledger::find(self, act)
     }
 
+    #[inline(always)]
     fn begin(&mut self, worker: u32, op: OpId) -> Result<ActId, Infallible> {
         Ok(Ledger::begin(self, worker, op))
     }
 
+    #[inline(always)]
     fn end_own(&mut self, worker: u32, act: ActId) -> Result<Activation, EndFault> {
         Ledger::end_own(self, worker, act)
     }

@@ -7,8 +7,8 @@ use Rattle.std.proofs.lemmas.Grind.{flat_map-append}
 use Rattle.path_model.specs.declared.journal.Line.{Line}
 use Rattle.path_model.specs.Declarations.{Declaration}
 use Rattle.path_journal.specs.declared.version.Version.TheVariants.{Three}
-use Rattle.path_journal.specs.JournalTexts.{LineFits}
-use Rattle.path_journal.specs.CutTexts.{Kept, KeptFits, kept_line, kept_text, lines_of, front_of}
+use Rattle.path_journal.specs.JournalTexts.{LineFits, Kept, KeptFits, kept_line, kept_text, lines_of}
+use Rattle.path_journal.specs.CutTexts.{front_of}
 use Rattle.path_store.specs.Devices.{IsImage, Torn, Follows, Only, Elapses, LeavesOnly}
 use Rattle.path_store.specs.Stores.{Finds, FindsSome, AreMarked, IsLeft, HasLines}
 use Rattle.path_store.proofs.Images.{torn_behind}

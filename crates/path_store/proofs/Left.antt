@@ -12,9 +12,9 @@ use Rattle.path_fields.specs.Splits.{HasNone}
 use Rattle.path_fields.proofs.CallerLemmas.{cut_once}
 use Rattle.path_lines.specs.LineTexts.{operation_names, journal_line_text}
 use Rattle.path_journal.specs.declared.version.Version.TheVariants.{Three}
-use Rattle.path_journal.specs.JournalTexts.{LineFits, journal_line}
+use Rattle.path_journal.specs.JournalTexts.{LineFits, journal_line, Kept, KeptFits, mark, kept_line, kept_text, lines_of}
 use Rattle.path_journal.specs.JournalFaults.{IsUndeclared}
-use Rattle.path_journal.specs.CutTexts.{Kept, KeptFits, mark, kept_line, kept_text, lines_of, IsTornEnd, front_of}
+use Rattle.path_journal.specs.CutTexts.{IsTornEnd, front_of}
 use Rattle.path_journal.proofs.CallerLemmas.{record_is_line, cut_before, undeclared_apart, undeclared_is_line, undeclared_no_plus, no_plus, one_whole}
 use Rattle.path_store.specs.Devices.{IsImage}
 use Rattle.path_store.specs.Stores.{FindsSome, AreMarked, IsLeft}

@@ -22,9 +22,9 @@ use Rattle.path_fields.proofs.CallerLemmas.{none_joined, none_in_number}
 use Rattle.path_lines.specs.LineTexts.{verb_text, operation_names, operation_text, name_or_number, attempt_text, line_text, reply_text, journal_line_text, AttemptFits, VerbFits}
 use Rattle.path_lines.proofs.CallerLemmas.{named, name_without}
 use Rattle.path_journal.specs.declared.version.Version.TheVariants.{Three}
-use Rattle.path_journal.specs.JournalTexts.{ReplyFits, LineFits, journal_line}
+use Rattle.path_journal.specs.JournalTexts.{ReplyFits, LineFits, journal_line, Kept, KeptFits, mark, kept_line, kept_head}
 use Rattle.path_journal.specs.JournalFaults.{IsUndeclared}
-use Rattle.path_journal.specs.CutTexts.{Kept, KeptFits, mark, kept_line, kept_head, front_of}
+use Rattle.path_journal.specs.CutTexts.{front_of}
 
 no_digit : IsDigit 0 → ⊥
 no_digit i = let low = i.0 in omega (arith, low)

@@ -8,8 +8,8 @@ use Rattle.path_decl.specs.Lawful.{AreDistinctNames}
 use Rattle.path_lines.specs.LineTexts.{operation_names, journal_line_text}
 use Rattle.path_journal.specs.declared.version.Version.{Version}
 use Rattle.path_journal.specs.declared.version.Version.TheVariants.{Three}
-use Rattle.path_journal.specs.JournalTexts.{journal_line}
-use Rattle.path_journal.specs.CutTexts.{IsNoCutJournal, Kept, KeptFits, mark, kept_line, kept_text, lines_of, IsTornEnd, front_of, IsCutJournal}
+use Rattle.path_journal.specs.JournalTexts.{journal_line, Kept, KeptFits, mark, kept_line, kept_text, lines_of}
+use Rattle.path_journal.specs.CutTexts.{IsNoCutJournal, IsTornEnd, front_of, IsCutJournal}
 use Rattle.path_store.specs.Devices.{IsImage, Cut, Only, Elapses, LeavesOnly}
 use Rattle.path_store.specs.Stores.{Finds, FindsSome, HasLines, IsFile}
 use Rattle.path_store.specs.Faults.{IsNoStore}

@@ -15,7 +15,8 @@ IsNoStore d room file = (ls : List Line) → Finds d room file ls → ⊥
 
 -- what a fault of opening says of the file, and of the device: `Failed` is told only where that has failed
 abbrev pub IsOpenFault : Declaration → ℕ → List ℕ → Type 0 → StoreFault → Type 0
-IsOpenFault d room file failed (faults.Text fault) = IsCutFault d file fault × (fault ≢ text_faults.TooLong → fault ≢ text_faults.OutOfMemory → IsNoStore d room file)
+IsOpenFault d room file failed (faults.Text fault) =
+    IsCutFault d file fault × (fault ≢ text_faults.TooLong → fault ≢ text_faults.OutOfMemory → IsNoStore d room file)
 IsOpenFault d room file failed faults.OtherHead = IsNoStore d room file
 IsOpenFault d room file failed (faults.Device fault) = fault ≡ Failed → failed
 IsOpenFault d room file failed faults.Broken = ⊥

@@ -7,7 +7,8 @@ use Rattle.path_model.specs.Rooms.{IsRoom}
 use Rattle.path_decl.specs.Lawful.{AreDistinctNames}
 use Rattle.path_lines.specs.LineTexts.{operation_names}
 use Rattle.path_journal.specs.declared.version.Version.TheVariants.{Three}
-use Rattle.path_journal.specs.CutTexts.{Kept, KeptFits, kept_text, lines_of, front_of, IsCutJournal}
+use Rattle.path_journal.specs.JournalTexts.{Kept, KeptFits, kept_text, lines_of}
+use Rattle.path_journal.specs.CutTexts.{front_of, IsCutJournal}
 use Rattle.path_store.specs.declared.store.Store.{Store}
 use Rattle.path_store.specs.Devices.{IsImage}
 
@@ -26,10 +27,12 @@ AreMarked (k ∷ ks) = AllByRecursion (λ m. m.0 ≡ true) ks
 
 -- what a crash leaves of these lines: all that were synced, and an image of the text of the fresh ones
 abbrev pub IsLeft : Declaration → ℕ → List Kept → List Kept → List ℕ → Type 0
-IsLeft d room synced fresh file = (left : List ℕ) × (file ≡ (front_of (Three room) ++ kept_text d synced) ++ left) × IsImage (kept_text d fresh) left
+IsLeft d room synced fresh file =
+    (left : List ℕ) × (file ≡ (front_of (Three room) ++ kept_text d synced) ++ left) × IsImage (kept_text d fresh) left
 
 -- a device has these lines: those that are synced are on the disk
-pub record HasLines {D : Type 0} (holds may_leave : D → List ℕ → Type 0) (d : Declaration) (room : ℕ) (device : D) (synced fresh : List Line) : Type 0 where
+pub record HasLines {D : Type 0} (holds may_leave : D → List ℕ → Type 0) (d : Declaration) (room : ℕ) (device : D)
+    (synced fresh : List Line) : Type 0 where
   pub is_room : IsRoom room
   pub names : AreDistinctNames (operation_names d)
   pub on_disk : List Kept
@@ -42,7 +45,8 @@ pub record HasLines {D : Type 0} (holds may_leave : D → List ℕ → Type 0) (
   pub left : (c : List ℕ) → may_leave device c → IsLeft d room on_disk not_yet c
 
 -- an open store has these lines
-pub record IsStored {D B : Type 0} (holds may_leave : D → List ℕ → Type 0) (d : Declaration) (store : Store D B) (synced fresh : List Line) : Type 0 where
+pub record IsStored {D B : Type 0} (holds may_leave : D → List ℕ → Type 0) (d : Declaration) (store : Store D B)
+    (synced fresh : List Line) : Type 0 where
   pub lines : HasLines holds may_leave d store.room store.device synced fresh
   pub none_fresh : store.synced ≡ true → fresh ≡ []
 
@@ -52,7 +56,8 @@ IsRecovered holds may_leave d room device ls = HasLines holds may_leave d room d
 
 -- a file that may be opened: these lines are found in what a read returns, and in what a crash may leave all that were synced and some
 -- of the fresh ones. After a restart of the machine no line is fresh, since what is read is what is on the disk
-pub record IsFile {D : Type 0} (holds may_leave : D → List ℕ → Type 0) (d : Declaration) (room : ℕ) (device : D) (synced fresh : List Line) : Type 0 where
+pub record IsFile {D : Type 0} (holds may_leave : D → List ℕ → Type 0) (d : Declaration) (room : ℕ) (device : D)
+    (synced fresh : List Line) : Type 0 where
   pub text : List ℕ
   pub read : holds device text
   pub found : Finds d room text (synced ++ fresh)

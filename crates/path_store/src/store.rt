@@ -47,8 +47,8 @@ impl<D: Device + Drop, B: Allocator + Copy> Store<D, B> {
     /// moment. Reads its lines, and cuts off what a crash has left behind the last one. It may crash itself.
     ///
     /// The room is 1 to [`MOST_LINES`](path_model::MOST_LINES); an empty file gets a first line that names it. An error gives the device
-    /// back: `Text` where a line is broken that no crash leaves so, `OtherHead` where the file isn't a store's of this room; then the file is
-    /// unchanged. Else the device failed, or memory ran out, and the file has the same lines as before.
+    /// back: `Text` where a line is broken that no crash leaves so, `OtherHead` where the file isn't a store's of this room; then the file
+    /// is unchanged. Else the device failed, or memory ran out, and the file has the same lines as before.
     ///
     /// Reads the file once into memory, and syncs it once, or more often where its end is repaired.
     pub fn open<A: Allocator + Copy>(
@@ -102,7 +102,8 @@ impl<D: Device + Drop, B: Allocator + Copy> Store<D, B> {
         line: Line,
     ) -> Result<(), StoreFault>
         ensures fault { IfErr result (λ e. IsStepFault self.old.broken (D.has_failed self.new.device) e) }
-        ensures memory { IsErrOf result StoreFault.OutOfMemory → (self.new.device ≡ self.old.device) × (self.new.synced ≡ self.old.synced) × (self.new.broken ≡ self.old.broken) }
+        ensures memory { IsErrOf result StoreFault.OutOfMemory
+            → (self.new.device ≡ self.old.device) × (self.new.synced ≡ self.old.synced) × (self.new.broken ≡ self.old.broken) }
         ensures broken { IfErr result (λ e. (e ≡ StoreFault.OutOfMemory) ⊎ (self.new.broken ≡ true)) }
         ensures going_on { OnOk result (self.new.broken ≡ false) }
         ensures room { self.new.room ≡ self.old.room }
@@ -110,7 +111,8 @@ impl<D: Device + Drop, B: Allocator + Copy> Store<D, B> {
             → OnOk result (IsStored D.holds D.may_leave decl.now.declaration self.new synced (fresh ++ line ∷ [])) }
         // A crash at any moment of the call leaves the lines from before it, with the new one or without.
         ensures any_moment { (synced fresh : List Line) → IsStored D.holds D.may_leave decl.now.declaration self.old synced fresh
-            → LeavesOnly D.moment D.left_since self.old.device self.new.device (FindsSome decl.now.declaration self.old.room synced (fresh ++ line ∷ [])) }
+            → LeavesOnly D.moment D.left_since self.old.device self.new.device
+            (FindsSome decl.now.declaration self.old.room synced (fresh ++ line ∷ [])) }
     {
         if self.broken {
             return Err(StoreFault::Broken);
@@ -159,7 +161,8 @@ impl<D: Device + Drop, B: Allocator + Copy> Store<D, B> {
             → OnOk result (IsStored D.holds D.may_leave decl.now.declaration self.new (synced ++ (fresh ++ lines.now)) []) }
         // A crash at any moment of the call leaves all that were synced, and of the others those up to one of them.
         ensures any_moment { (synced fresh : List Line) → IsStored D.holds D.may_leave decl.now.declaration self.old synced fresh
-            → LeavesOnly D.moment D.left_since self.old.device self.new.device (FindsSome decl.now.declaration self.old.room synced (fresh ++ lines.now)) }
+            → LeavesOnly D.moment D.left_since self.old.device self.new.device
+            (FindsSome decl.now.declaration self.old.room synced (fresh ++ lines.now)) }
     {
         for line in lines {
             self.append(decl, *line)?;

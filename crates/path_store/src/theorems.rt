@@ -6,7 +6,7 @@ ghost use Rattle.path_model.specs.Declarations.{Declaration};
 ghost use Rattle.path_model.specs.Rooms.{IsRoom};
 ghost use Rattle.path_decl.specs.Lawful.{AreDistinctNames};
 ghost use Rattle.path_lines.specs.LineTexts.{operation_names};
-ghost use Rattle.path_journal.specs.CutTexts.{Kept, KeptFits, lines_of};
+ghost use Rattle.path_journal.specs.JournalTexts.{Kept, KeptFits, lines_of};
 ghost use Rattle.path_store.specs.AnyBytes.{LeavesAny};
 ghost use Rattle.path_store.specs.Stores.{AreMarked, IsLeft, FindsSome};
 

@@ -1,15 +1,14 @@
 -- Parts that agree with a journal may answer the next attempt.
-use Rattle.std.proofs.Common.{◌≡◌, ℕ, ◌<◌, ◌+◌, ◌≤◌, List, length, ap, sym, ◌∙◌, arith}
+use Rattle.std.proofs.Common.{◌≡◌, ℕ, ◌<◌, ◌+◌, ◌≤◌, List, length, sym, ◌∙◌, arith}
 use Rattle.std.proofs.lemmas.List.{length-map}
 use Rattle.path_model.specs.declared.journal.Line.{Line}
-use Rattle.path_model.specs.Declarations.{Resource, law_of}
+use Rattle.path_model.specs.Declarations.{law_of}
 use Rattle.path_model.specs.Journals.{admitted_history}
 use Rattle.path_model.specs.Legal.{Legal}
 use Rattle.path_model.proofs.CallerLemmas.{each_honest_journal_has_room}
-use Rattle.path_shelf.specs.States.{State, state_at}
+use Rattle.path_shelf.specs.States.{State}
 use Rattle.path_shelf.proofs.CallerLemmas.{law_at}
 use Rattle.path_step.proofs.CallerLemmas as step
-use Rattle.path_system.specs.Accounts.{contents_of}
 use Rattle.path_system.specs.Inner.Parts.{PartsValue, AreDeclared, AreReady, AreTrueTo, contents, is_law_at}
 
 module _ (old : PartsValue) (room : ℕ) (openings : List (List ℕ)) (journal : List Line) (s : AreTrueTo old room openings journal) where

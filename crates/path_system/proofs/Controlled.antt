@@ -6,7 +6,7 @@ use Rattle.path_model.specs.declared.journal.Reply.{Reply}
 use Rattle.path_model.specs.declared.journal.Reply.TheVariants.{NoRoom}
 use Rattle.path_model.specs.declared.journal.Line.{Line}
 use Rattle.path_model.specs.Segments.{joined, room_behind, OwedBehind, AreHonest}
-use Rattle.path_model.proofs.CallerLemmas.{line_of, room_behind_is, joined_more, more_room_keeps_honest, segments_more, segments_rotated, each_segment_has_room}
+use Rattle.path_model.proofs.CallerLemmas.{line_of, room_behind_is, joined_more, segments_more, segments_rotated, each_segment_has_room}
 use Rattle.path_model.specs.Places.{has_room, lacks_number}
 use Rattle.path_gate.proofs.CallerLemmas.{right_fails, same_room, owed_without_number, owed_with_number}
 use Rattle.path_step.specs.Steps.{can_take}
@@ -14,13 +14,13 @@ use Rattle.path_step.proofs.CallerLemmas as step
 use Rattle.path_step.proofs.CallerLemmas.{in_more_room}
 use Rattle.path_system.specs.Accounts.{IsSystem}
 use Rattle.path_system.specs.Inner.Openings.{Row, AreFor, numbers_of}
-use Rattle.path_system.specs.Inner.Parts.{PartsValue, HasAnswered, Answers, AreReady, AreTrueTo, IsTold, contents}
+use Rattle.path_system.specs.Inner.Parts.{PartsValue, Answers, AreReady, AreTrueTo, IsTold, contents}
 use Rattle.path_system.specs.Inner.Pasts.{Lines, one_more, rotated}
 use Rattle.path_system.proofs.Agreed.{fits, ready}
-use Rattle.path_system.proofs.Stepped.{true_more, stays}
+use Rattle.path_system.proofs.Stepped.{Known, Marks, true_more, stays}
 
-answers_with : (may_fail : Type 0) (old new : PartsValue) (room lines k w : ℕ) (attempt : Attempt) (reply : Reply) → Answers may_fail old room lines w attempt reply new → Answers may_fail old (room + k) (lines + k) w attempt reply new
-answers_with may_fail old new room lines k w attempt reply answers =
+answers_with : (known : Known) (old new : PartsValue) (room lines k w : ℕ) (attempt : Attempt) (reply : Reply) → Answers known old room lines w attempt reply new → Answers known old (room + k) (lines + k) w attempt reply new
+answers_with known old new room lines k w attempt reply answers =
     let same : can_take old.present (room + k) (lines + k) w attempt ≡ can_take old.present room lines w attempt =
     ap (λ b. b && not (lacks_number old.present.register.begun attempt)) (same_room room lines k old.present.register.live w attempt) in
     record {
@@ -64,12 +64,12 @@ module _ (old : PartsValue) (room : ℕ) (rows : List Row) (past : Lines) (count
   pub ready_now : AreReady old room count
   ready_now = ready old whole (numbers_of rows) all t.told room count few t.places
 
-  module _ (may_fail : Type 0) (new : PartsValue) (w : ℕ) (attempt : Attempt) (reply : Reply) (answers : Answers may_fail old room count w attempt reply new) where
+  module _ (known : Known) (marks : Marks known) (new : PartsValue) (w : ℕ) (attempt : Attempt) (reply : Reply) (answers : Answers known old room count w attempt reply new) where
     -- the answer is that of all lines in the whole room
-    pub answers_all : Answers may_fail old whole (length all) w attempt reply new
+    pub answers_all : Answers known old whole (length all) w attempt reply new
     answers_all =
         let lines : length all ≡ count + length earlier = (let l = length-append earlier past.present in let n = t.counted in omega (arith, l, n)) in
-        rw (room_behind_is earlier room, lines) (answers_with may_fail old new room count (length earlier) w attempt reply answers)
+        rw (room_behind_is earlier room, lines) (answers_with known old new room count (length earlier) w attempt reply answers)
 
     -- the reply is owed behind the earlier lines
     pub owed_behind : OwedBehind old.declaration room (numbers_of rows) earlier past.present w attempt reply
@@ -81,7 +81,7 @@ module _ (old : PartsValue) (room : ℕ) (rows : List Row) (past : Lines) (count
             (answers.step.outside (right_fails (has_room room count old.present.register.live w attempt) (lacks_number old.present.register.begun attempt) is)).0
         go false is =
             owed_with_number old.declaration room (numbers_of rows) t.good_room w old.present.register.begun reply earlier past.present attempt t.told.present.begun is
-            (step.owed_is contents (HasAnswered may_fail) old.declaration t.told.lawful old.present old.devices whole (numbers_of rows) all t.told.present w attempt reply new.present new.devices is answers_all.step)
+            (step.owed_is contents known old.declaration t.told.lawful old.present old.devices whole (numbers_of rows) all t.told.present w attempt reply new.present new.devices is answers_all.step)
 
     -- one line more
     pub told_more : reply ≢ NoRoom → IsTold new room rows (one_more past (line_of w attempt reply)) (count + 1)
@@ -91,7 +91,7 @@ module _ (old : PartsValue) (room : ℕ) (rows : List Row) (past : Lines) (count
         let n = t.counted in
         record {
           told = subst (AreTrueTo new whole (numbers_of rows)) (append_assoc earlier past.present (line ∷ []))
-              (true_more may_fail old whole (numbers_of rows) all t.told new w attempt reply answers_all some);
+              (true_more known marks old whole (numbers_of rows) all t.told new w attempt reply answers_all some);
           segments = subst (λ d. AreHonest d room (numbers_of rows) (past.earlier ++ (past.present ++ line ∷ []) ∷ [])) (sym answers.declaration)
               (segments_more old.declaration room (numbers_of rows) past.earlier past.present line t.segments owed_behind some);
           good_room = t.good_room;
@@ -102,7 +102,7 @@ module _ (old : PartsValue) (room : ℕ) (rows : List Row) (past : Lines) (count
 
     -- no line
     pub told_still : reply ≡ NoRoom → IsTold new room rows past count
-    told_still none = subst (λ p. IsTold p room rows past count) (sym (stays may_fail old new room count w attempt reply answers none)) t
+    told_still none = subst (λ p. IsTold p room rows past count) (sym (stays known old new room count w attempt reply answers none)) t
 
     -- there is a place for the line
     pub place_left : reply ≢ NoRoom → count < room

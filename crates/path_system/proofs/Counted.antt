@@ -1,5 +1,5 @@
 -- Which counts of failures an attempt changes.
-use Rattle.std.proofs.Common.{◌≡◌, ◌⊎◌, ℕ, ◌<◌, List, length, get_or, arith, ap, sym, subst, ◌∙◌, Option, Some, None, Result, Ok, Err, inl, inr}
+use Rattle.std.proofs.Common.{◌≡◌, ℕ, ◌<◌, List, length, get_or, arith, ap, sym, ◌∙◌, Option, Some, Result, Ok, Err, inl, inr}
 use Rattle.std.proofs.Math.ListN.{set}
 use Rattle.std.proofs.lemmas.List.{get_or-map, map-set}
 use Rattle.path_model.specs.declared.journal.Verb.{Verb}
@@ -12,11 +12,10 @@ use Rattle.path_shelf.specs.declared.device.ActFault.{ActFault}
 use Rattle.path_shelf.specs.declared.device.ActFault.TheVariants as faults
 use Rattle.path_shelf.specs.States.{State, Acts, ActsAt, IsCounted, state_at}
 use Rattle.path_shelf.proofs.CallerLemmas.{count_acted}
-use Rattle.path_step.proofs.CallerLemmas.{AsksNone, AsksOne}
 use Rattle.path_system.specs.Accounts.{failures_of, StayBut, HasFailed}
-use Rattle.path_system.specs.Inner.Parts.{Marked, PartsValue, HasAnswered, Answers, AreTrueTo, as_reply, contents}
+use Rattle.path_system.specs.Inner.Parts.{Marked, PartsValue, HasAnswered, Answers, AreTrueTo, as_reply}
 use Rattle.path_system.proofs.Agreed.{states_count}
-use Rattle.path_system.proofs.Stepped.{asked_by}
+use Rattle.path_system.proofs.Stepped.{asked_by, marks_answered}
 
 -- the counts of the devices before and after, at what was asked
 pub record AreCounted (asked : Option ℕ) (reply : Reply) (before after : List ℕ) : Type 0 where
@@ -48,10 +47,10 @@ one_asked reply answer verb r old new told within acts =
     }
 
 module _ (may_fail : Type 0) (old : PartsValue) (room : ℕ) (openings : List (List ℕ)) (journal : List Line) (s : AreTrueTo old room openings journal) (new : PartsValue) (w : ℕ) (attempt : Attempt) (reply : Reply)
-    (answers : Answers may_fail old room (length journal) w attempt reply new) where
+    (answers : Answers (HasAnswered may_fail) old room (length journal) w attempt reply new) where
   -- only that of the device that was asked, and it counts a failure
   pub counted : AreCounted (resource_asked old.declaration journal attempt reply) reply (failures_of old.devices.states) (failures_of new.devices.states)
-  counted = elim (asked_by may_fail old room openings journal s new w attempt reply answers) [
+  counted = elim (asked_by (HasAnswered may_fail) (marks_answered may_fail) old room openings journal s new w attempt reply answers) [
     | inl none ↦ rw none.line (record { others = ap (λ (m : Marked). failures_of m.states) none.devices; failed = λ e. absurd (none.other e) })
     | inr one ↦
         let count = states_count old room openings journal s in
@@ -61,7 +60,7 @@ module _ (may_fail : Type 0) (old : PartsValue) (room : ℕ) (openings : List (L
 
   -- a failure is one of devices that may fail
   pub failed_one : reply ≡ DeviceFailed → may_fail
-  failed_one e = elim (asked_by may_fail old room openings journal s new w attempt reply answers) [
+  failed_one e = elim (asked_by (HasAnswered may_fail) (marks_answered may_fail) old room openings journal s new w attempt reply answers) [
     | inl none ↦ absurd (none.other e)
     | inr one ↦ one.served.known.failed e
   ]

@@ -2,12 +2,16 @@ pub mod Serving
 pub mod Agreed
 pub mod Stepped
 pub mod Counted
+pub mod Taken
 pub mod Rows
 pub mod Opened
 pub mod Controlled
+pub mod Owing
 pub mod Replaced
 pub mod Reported
 pub mod Narrow
+pub mod Replied
 pub mod Next
+pub mod Going
 pub mod Threads
 pub mod CallerLemmas

@@ -8,7 +8,6 @@ use Rattle.path_model.specs.declared.resource.Law.{Law}
 use Rattle.path_model.specs.declared.journal.Line.{Line}
 use Rattle.path_model.specs.declared.journal.Activation.{Activation}
 use Rattle.path_model.specs.Declarations.{resource_of, law_of}
-use Rattle.path_model.specs.Contents.{contents_after}
 use Rattle.path_model.specs.Asked.{IsAsked}
 use Rattle.path_model.specs.Segments.{joined, room_behind, AreHonest}
 use Rattle.path_model.proofs.CallerLemmas.{unasked_devices_may_be_replaced, segments_over}

@@ -34,10 +34,10 @@ use std::marker::Model;
 /// from these. Dropping a controller drops each device.
 #[derive(Drop)]
 pub struct Controller<D: Device, A: Allocator + Copy = Global> {
-    openings: Openings<A>,
-    past: Past,
-    lines: u32,
-    room: u32,
+    pub(crate) openings: Openings<A>,
+    pub(crate) past: Past,
+    pub(crate) lines: u32,
+    pub(crate) room: u32,
     /// Last, because `Parts` keeps its declaration last.
     pub(crate) parts: Parts<D, A>,
 }

@@ -1,10 +1,10 @@
-//! Why a system can't be opened, and why a device can't be replaced.
+//! Why a system can't be opened, why a device can't be replaced, and why a line isn't taken over.
 
 ghost use Rattle.std.specs.Prelude.{◌≡◌};
 ghost use Rattle.path_system.specs.declared.fault.OpenFault.TheVariants as faults;
 ghost use Rattle.path_system.specs.Faults.{as_open_fault};
 
-use path_model::{OutOfMemory, ResId};
+use path_model::{OutOfMemory, Reply, ResId};
 use path_shelf::ShelfFault;
 use thiserror::Error;
 
@@ -56,4 +56,22 @@ pub enum ReplaceFault {
     /// The new device has another law than the resource.
     #[error("other law")]
     OtherLaw,
+}
+
+/// Why a line that another answered isn't taken over.
+#[derive(Clone, Copy, Debug, PartialEq, Eq)]
+pub enum TakeFault {
+    /// This reply was owed, and not that of the line.
+    NotOwed(Reply),
+    /// The line is right, but its device failed now.
+    DeviceFailed,
+}
+
+/// Why a system doesn't go on behind a journal.
+#[derive(Clone, Copy, Debug, PartialEq, Eq)]
+pub enum ResumeFault {
+    /// It can't be opened.
+    Open(OpenFault),
+    /// This line, counted from 0, is the first that isn't taken over.
+    Line(u32, TakeFault),
 }

@@ -4,18 +4,21 @@
 mod calls;
 mod controller;
 mod fault;
+mod foretold;
 mod marked;
 mod openings;
 mod parts;
 mod past;
 mod replace;
 mod report;
+mod resume;
 mod system;
+mod taking;
 mod unopened;
 
 pub use calls::{FinishRefusal, StartRefusal, UseRefusal};
 pub use controller::Controller;
-pub use fault::{OpenFault, ReplaceFault};
+pub use fault::{OpenFault, ReplaceFault, ResumeFault, TakeFault};
 pub use report::Report;
 pub use system::System;
 pub use unopened::open_fault;

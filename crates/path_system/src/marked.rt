@@ -1,10 +1,12 @@
 //! The devices of a system, and which of them have been asked.
 
-ghost use Rattle.std.specs.Prelude.{◌≡◌, ◌↔◌, ◌<◌, true, false, IsTrue, length, slice_index_or, slice_set};
+ghost use Rattle.std.specs.Prelude.{◌≡◌, ◌↔◌, ◌<◌, true, false, IsTrue, IsFalse, length, map, slice_index_or, slice_set};
 ghost use Rattle.std.specs.Prelude.{IsOk, IfErr, OnErr, OnOk};
+ghost use Rattle.path_model.specs.declared.journal.Reply.TheVariants as replies;
 ghost use Rattle.path_shelf.specs.States.{MayFail, state_at};
-ghost use Rattle.path_system.specs.Inner.Parts.{HasAnswered, as_reply, contents, is_law_at};
+ghost use Rattle.path_system.specs.Inner.Parts.{HasAnswered, HasFailedStill, HasServed, as_reply, contents, is_law_at};
 
+use crate::foretold::foretold;
 use path_model::{Law, Reply, ResId, Verb};
 use path_shelf::{ActFault, Device, Shelf};
 use path_step::Devices;
@@ -44,6 +46,13 @@ fn reply_of(answer: Result<u64, ActFault>) -> Reply
     }
 }
 
+/// Whether the reply says that the device failed.
+fn says_failed(reply: Reply) -> bool
+    ensures { IsTrue result ↔ (reply ≡ replies.DeviceFailed) }
+{
+    matches!(reply, Reply::DeviceFailed)
+}
+
 impl<D: Device, A: Allocator + Copy> MarkedShelf<D, A> {
     /// These devices with these marks, one for each.
     pub fn new(shelf: Shelf<D, A>, asked: Vec<bool, A>) -> MarkedShelf<D, A>
@@ -58,6 +67,38 @@ impl<D: Device, A: Allocator + Copy> MarkedShelf<D, A> {
         ensures { result.now ≡ self.now.states }
     {
         &self.shelf
+    }
+
+    /// The devices, without their marks. Takes constant time.
+    pub fn into_devices(self) -> Vec<D, A>
+        ensures { map D.state result.items ≡ self.states }
+    {
+        let MarkedShelf { shelf, asked } = self;
+        drop(asked);
+        shelf.into_devices()
+    }
+
+    /// Marks the device of a declared resource as asked, and doesn't ask it.
+    pub fn mark(&mut self, resource: ResId)
+        requires { resource.0 < length self.old.states }
+        ensures { self.new ≡ record self.old { asked = slice_set self.old.asked resource.0 true } }
+    {
+        self.asked[resource.0 as usize] = true;
+    }
+
+    /// Lets the device of a declared resource serve the verb, and marks it, unless it fails: then nothing changes but what it counts.
+    /// Whether it didn't fail. The cost is that of the device's own call.
+    pub fn serve(&mut self, resource: ResId, verb: Verb) -> bool
+        requires { resource.0 < length self.old.states }
+        ensures served { IsTrue result → HasServed (MayFail D.state) self.old resource.0 verb self.new }
+        ensures failed { IsFalse result → HasFailedStill (MayFail D.state) self.old resource.0 self.new }
+    {
+        let reply = reply_of(self.shelf.act(resource, verb));
+        if says_failed(reply) {
+            return false;
+        }
+        self.asked[resource.0 as usize] = true;
+        true
     }
 
     /// Whether the device of a declared resource has been asked.
@@ -98,5 +139,10 @@ impl<D: Device, A: Allocator + Copy> Devices for MarkedShelf<D, A> {
     fn act(&mut self, _law: Law, resource: ResId, verb: Verb) -> Result<Reply, Infallible> {
         self.asked[resource.0 as usize] = true;
         Ok(reply_of(self.shelf.act(resource, verb)))
+    }
+
+    /// The cost is that of a look at one number, or for a put into a queue at each.
+    fn foretell(&self, _law: Law, resource: ResId, verb: Verb) -> Reply {
+        foretold(&self.shelf, resource, verb)
     }
 }

@@ -1,18 +1,20 @@
 //! The parts of a system. They fit one another, but know nothing of the journal.
 
-ghost use Rattle.std.specs.Prelude.{◌≡◌, ◌<◌, [], ◌↔◌, IsTrue, length, map, IfOk, IfErr};
+ghost use Rattle.std.specs.Prelude.{◌≡◌, ◌<◌, [], ◌↔◌, IsTrue, IsFalse, length, map, IfOk, IfErr};
 ghost use Rattle.path_model.specs.Declarations as declarations;
 ghost use Rattle.path_model.specs.Journals.{activation_of};
 ghost use Rattle.path_gate.specs.Standings.{Judges};
 ghost use Rattle.path_shelf.specs.States.{MayFail, laws_of};
 ghost use Rattle.path_shelf.specs.Shelves.{declared_laws};
-ghost use Rattle.path_system.specs.Inner.Parts.{Answers, AreFresh, AreOpened, AreReady};
+ghost use Rattle.path_step.specs.Steps.{Foretells};
+ghost use Rattle.path_step.specs.Steps as steps;
+ghost use Rattle.path_system.specs.Inner.Parts.{Answers, AreFresh, AreOpened, AreReady, FailsUse, HasAnswered, MayUse, TakesUse, contents, is_law_at};
 
 use crate::marked::MarkedShelf;
 use path_decl::{Decl, counts, resource_of};
 use path_gate::{Gate, compile};
 use path_ledger::Ledger;
-use path_model::{ActId, Activation, Attempt, OpId, OutOfMemory, PathId, Reply, ResId};
+use path_model::{ActId, Activation, Attempt, OpId, OutOfMemory, PathId, Reply, ResId, Verb};
 use path_shelf::{Device, Shelf};
 use std::alloc::{Allocator, Global};
 use std::marker::Model;
@@ -149,7 +151,7 @@ impl<D: Device, A: Allocator + Copy> Parts<D, A> {
     #[inline(always)]
     pub fn answer(&mut self, room: u32, lines: u32, worker: u32, attempt: Attempt) -> Reply
         requires { AreReady self.old room lines }
-        ensures { Answers (MayFail D.state) self.old room lines worker attempt result self.new }
+        ensures { Answers (HasAnswered (MayFail D.state)) self.old room lines worker attempt result self.new }
     {
         let answer = path_step::answer(
             &self.decl,
@@ -164,5 +166,63 @@ impl<D: Device, A: Allocator + Copy> Parts<D, A> {
         match answer {
             Ok(reply) => reply,
         }
+    }
+
+    /// What [`answer`](Parts::answer) would reply unless a device failed. Changes and allocates nothing.
+    pub fn owed(&self, room: u32, lines: u32, worker: u32, attempt: Attempt) -> Reply
+        requires { AreReady self.now room lines }
+        ensures { Foretells self.now.declaration self.now.present (contents self.now.devices) room lines worker attempt result }
+    {
+        path_step::owed(
+            &self.decl,
+            &self.gate,
+            &self.ledger,
+            &self.devices,
+            room,
+            lines,
+            worker,
+            attempt,
+        )
+    }
+
+    /// Uses an activation as this reply says, which it may get: a device is asked where the reply is `Used`, and else only marked.
+    /// Whether it didn't fail; if it did, nothing changes but what it counts.
+    pub fn take_use(&mut self, worker: u32, act: ActId, verb: Verb, told: Reply) -> bool
+        requires ready { steps.AreReady self.old.declaration self.old.present.register.live (contents self.old.devices)
+            (is_law_at self.old.devices) }
+        requires may { MayUse self.old worker act verb told }
+        ensures taken { IsTrue result → TakesUse self.old worker act verb told self.new }
+        ensures failed { IsFalse result → FailsUse (MayFail D.state) self.old worker act told self.new }
+    {
+        let Some(activation) = self.ledger.find(act) else {
+            return true;
+        };
+        if activation.worker != worker {
+            return true;
+        }
+        let resource = resource_at(&self.decl, activation.op);
+        match told {
+            Reply::Used(_) => self.devices.serve(resource, verb),
+            _ => {
+                self.devices.mark(resource);
+                true
+            }
+        }
+    }
+
+    /// The devices, in their order. All else is dropped.
+    pub fn into_devices(self) -> Vec<D, A>
+        ensures { map D.state result.items ≡ self.devices.states }
+    {
+        let Parts {
+            gate,
+            ledger,
+            devices,
+            decl,
+        } = self;
+        drop(gate);
+        drop(ledger);
+        drop(decl);
+        devices.into_devices()
     }
 }

@@ -32,9 +32,9 @@ use std::mem::replace;
 /// what each device contains. Dropping a system drops each device.
 #[derive(Drop)]
 pub struct System<D: Device, A: Allocator + Copy = Global> {
-    journal: Vec<Line, A>,
+    pub(crate) journal: Vec<Line, A>,
     /// Last, because a controller keeps its declaration last.
-    controller: Controller<D, A>,
+    pub(crate) controller: Controller<D, A>,
 }
 
 impl<D: Device, A: Allocator + Copy> Model for System<D, A> {

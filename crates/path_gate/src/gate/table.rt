@@ -4,7 +4,7 @@ ghost use Rattle.std.specs.Prelude.{◌≡◌, ◌+◌, ◌-◌, ◌<◌, ◌++�
 ghost use Rattle.path_model.specs.declared.ids.OpId.{OpId};
 ghost use Rattle.path_trim.specs.Rows.{row_of};
 ghost use Rattle.path_gate.specs.Inner.Soundness.{IsLaidOut, runs_of};
-ghost use Rattle.path_gate.specs.Inner.Opening.{rows_of, terms_for, ops_terms, put_value, put_all, at_zero, IsBelow};
+ghost use Rattle.path_gate.specs.Inner.Initial.{rows_of, terms_for, ops_terms, put_value, put_all, at_zero, IsBelow};
 
 use crate::gate::Term;
 use crate::gate::levels::Levels;

@@ -1,12 +1,15 @@
 -- The parts of a system: what one attempt does to them, and when they agree with a journal.
 use Rattle.std.specs.Prelude.{◌≡◌, ◌≢◌, ◌+◌, ◌<◌, ◌≤◌, ℕ, Bool, true, false, List, [], ◌∷◌, ◌++◌}
-use Rattle.std.specs.Prelude.{◌↔◌, All, Any, length, slice_index_or, slice_set, replicate, Result, Ok, Err}
+use Rattle.std.specs.Prelude.{◌↔◌, ◌⊎◌, All, Any, Some, length, slice_index_or, slice_set, replicate, Result, Ok, Err}
 use Rattle.path_model.specs.declared.resource.Law.{Law}
 use Rattle.path_model.specs.declared.journal.Verb.{Verb}
 use Rattle.path_model.specs.declared.journal.Attempt.{Attempt}
 use Rattle.path_model.specs.declared.journal.Reply.{Reply}
 use Rattle.path_model.specs.declared.journal.Reply.TheVariants as replies
 use Rattle.path_model.specs.declared.journal.Line.{Line}
+use Rattle.path_model.specs.declared.journal.Activation.{Activation}
+use Rattle.path_model.specs.declared.ids.ActId.{ActId}
+use Rattle.path_model.specs.Journals.{activation_of}
 use Rattle.path_model.specs.Declarations.{Declaration, paths_of, resource_of}
 use Rattle.path_model.specs.Asked.{IsAsked}
 use Rattle.path_model.specs.Rooms.{IsRoom}
@@ -57,6 +60,26 @@ pub record HasAnswered (may_fail : Type 0) (old : Marked) (r : ℕ) (verb : Verb
   pub marked : new.asked ≡ slice_set old.asked r true
   pub failed : reply ≡ replies.DeviceFailed → may_fail
 
+-- the device of the resource has the law that it had, and is marked; all others stay
+pub record HasMarked (old : Marked) (r : ℕ) (verb : Verb) (reply : Reply) (new : Marked) : Type 0 where
+  pub law : (state_at new.states r).law ≡ (state_at old.states r).law
+  pub others : new.states ≡ slice_set old.states r (state_at new.states r)
+  pub marked : new.asked ≡ slice_set old.asked r true
+
+-- the device of the resource answered the verb, and didn't fail
+pub record HasServed (may_fail : Type 0) (old : Marked) (r : ℕ) (verb : Verb) (new : Marked) : Type 0 where
+  pub reply : Reply
+  pub answered : HasAnswered may_fail old r verb reply new
+  pub served : reply ≢ replies.DeviceFailed
+
+-- the device of the resource failed: it has the law and the contents that it had, and isn't marked; all others stay
+pub record HasFailedStill (may_fail : Type 0) (old : Marked) (r : ℕ) (new : Marked) : Type 0 where
+  pub failed : may_fail
+  pub law : (state_at new.states r).law ≡ (state_at old.states r).law
+  pub kept : (state_at new.states r).contents ≡ (state_at old.states r).contents
+  pub others : new.states ≡ slice_set old.states r (state_at new.states r)
+  pub unmarked : new.asked ≡ old.asked
+
 -- the declaration, the gate and what is live, how many may be live, and the devices
 pub record PartsValue : Type 0 where
   pub declaration : Declaration
@@ -72,14 +95,41 @@ pub record AreReady (parts : PartsValue) (room lines : ℕ) : Type 0 where
   pub places : parts.places ≡ room
   pub admitted : parts.present.standing.admitted ≡ parts.present.register.begun
 
--- an attempt after this number of lines takes the old parts to the new ones with this reply
-pub record Answers (may_fail : Type 0) (old : PartsValue) (room lines w : ℕ) (attempt : Attempt) (reply : Reply) (new : PartsValue)
-    : Type 0 where
+-- an attempt after this number of lines takes the old parts to the new ones with this reply, and this is known of a device that is used
+pub record Answers (known : Marked → ℕ → Verb → Reply → Marked → Type 0) (old : PartsValue) (room lines w : ℕ) (attempt : Attempt)
+    (reply : Reply) (new : PartsValue) : Type 0 where
   pub declaration : new.declaration ≡ old.declaration
   pub places : new.places ≡ old.places
-  pub step :
-      steps.Answers contents (HasAnswered may_fail) old.declaration old.present old.devices room lines w attempt reply new.present
-      new.devices
+  pub step : steps.Answers contents known old.declaration old.present old.devices room lines w attempt reply new.present new.devices
+
+-- the reply that is owed; or the law serves, and the line says that the device failed
+abbrev pub MayTell : Reply → Reply → Type 0
+MayTell owed told = (told ≡ owed) ⊎ ((x : ℕ) × (owed ≡ replies.Used x) × (told ≡ replies.DeviceFailed))
+
+-- a use of a live activation, or of none, may be answered so
+pub record MayUse (parts : PartsValue) (w : ℕ) (n : ActId) (verb : Verb) (told : Reply) : Type 0 where
+  pub owed : Reply
+  pub tells : steps.TellsUse parts.declaration (contents parts.devices) w verb (activation_of n parts.present.register.live) owed
+  pub may : MayTell owed told
+
+-- it is answered so, and only devices change
+pub record TakesUse (old : PartsValue) (w : ℕ) (n : ActId) (verb : Verb) (told : Reply) (new : PartsValue) : Type 0 where
+  pub declaration : new.declaration ≡ old.declaration
+  pub present : new.present ≡ old.present
+  pub places : new.places ≡ old.places
+  pub moves :
+      steps.MovesUse contents HasMarked old.declaration w verb (activation_of n old.present.register.live) old.devices told new.devices
+
+-- the device of the live activation of the worker failed
+pub record FailsUse (may_fail : Type 0) (old : PartsValue) (w : ℕ) (n : ActId) (told : Reply) (new : PartsValue) : Type 0 where
+  pub used : (x : ℕ) × (told ≡ replies.Used x)
+  pub activation : Activation
+  pub found : activation_of n old.present.register.live ≡ Some activation
+  pub own : activation.worker ≡ w
+  pub declaration : new.declaration ≡ old.declaration
+  pub present : new.present ≡ old.present
+  pub places : new.places ≡ old.places
+  pub failed : HasFailedStill may_fail old.devices (resource_of old.declaration activation.op.0) new.devices
 
 -- the parts agree with an honest journal
 pub record AreTrueTo (parts : PartsValue) (room : ℕ) (openings : List (List ℕ)) (journal : List Line) : Type 0 where

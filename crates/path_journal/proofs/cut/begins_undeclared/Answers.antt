@@ -1,6 +1,6 @@
 -- With a mark or without, one line stands at the beginning.
 use Rattle.std.proofs.Common.{false, refl, sym, subst}
-use Rattle.path_journal.specs.CutTexts.{BeginsUndeclared}
+use Rattle.path_journal.specs.JournalFaults.{BeginsUndeclared}
 use Rattle.path_journal.proofs.CutLemmas.{true_to, false_to, undeclared_marked}
 use Rattle.path_journal.proofs.cut.begins_undeclared.Goals as goal
 

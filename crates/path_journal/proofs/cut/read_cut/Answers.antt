@@ -1,6 +1,7 @@
 -- What was read of a text is its only journal, and where a line is damaged it has none.
 use Rattle.std.proofs.Common.{◌≤◌, length, refl, subst, arith}
-use Rattle.path_journal.specs.CutTexts.{AreLinesRead, BeginsNoLine, BeginsUndeclared, IsDamage}
+use Rattle.path_journal.specs.JournalFaults.{BeginsNoLine, BeginsUndeclared}
+use Rattle.path_journal.specs.CutTexts.{AreLinesRead, IsDamage}
 use Rattle.path_journal.proofs.CutJournals.{cut_ok, cut_one, damaged, damaged_none}
 use Rattle.path_journal.proofs.cut.read_cut.Goals as goal
 

@@ -1,6 +1,6 @@
 -- With a mark or without, one line stands at the beginning, or none.
 use Rattle.std.proofs.Common.{sym, subst}
-use Rattle.path_journal.specs.CutTexts.{BeginsNoLine}
+use Rattle.path_journal.specs.JournalFaults.{BeginsNoLine}
 use Rattle.path_journal.proofs.CutLemmas.{none_to, marked_none}
 use Rattle.path_journal.proofs.cut.whole_line.Goals as goal
 

@@ -4,7 +4,8 @@ use Rattle.std.proofs.lemmas.Result.{err_from_is_err_and}
 use Rattle.std.proofs.lemmas.List.{append-nil}
 use Rattle.std.proofs.lemmas.List.Elements.{All-nil}
 use Rattle.path_journal.specs.declared.version.Version.TheVariants.{Three}
-use Rattle.path_journal.specs.CutTexts.{IsCutFault, IsNoCutJournal, KeptFits, front_of, IsCutJournal}
+use Rattle.path_journal.specs.JournalTexts.{KeptFits}
+use Rattle.path_journal.specs.CutTexts.{IsCutFault, IsNoCutJournal, front_of, IsCutJournal}
 use Rattle.path_store.specs.Devices.{IsImage}
 use Rattle.path_store.proofs.Repairs.{no_store, image_none, only_journal, cut_taken, read_leaves, head_cut, head_written, end_cut, has_these}
 use Rattle.path_store.proofs.recovery.recover.Goals as goal

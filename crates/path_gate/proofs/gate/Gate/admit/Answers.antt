@@ -2,7 +2,7 @@
 use Rattle.std.proofs.Common.{◌<◌, Ok, Err, ap, arith}
 use Rattle.path_gate.specs.Levels.{Levels}
 use Rattle.path_gate.specs.Inner.Terms.{one_more}
-use Rattle.path_gate.proofs.Sound.{within, judges, stay, starts, counted, count_small, begun_sound, admits, written}
+use Rattle.path_gate.proofs.Sound.{within, judges, stay, starts, counted, count_small, begun_sound, begun_places, admits, written}
 use Rattle.path_gate.proofs.gate.Gate.admit.Goals as goal
 
 pub run_of-terms-requires : goal.run_of-terms-requires
@@ -56,3 +56,11 @@ returns-in-Ok-clause-ok g c =
 
 pub returns-in-Ok-clause-blocks : goal.returns-in-Ok-clause-blocks
 returns-in-Ok-clause-blocks g c = rw (← c.self.view_is) (stay _ _ c.self.invariant.sound c.args.op c.run_of-terms.result.now (rw (← c.deref.ensures.value, ← c.deref-2.ensures.value) c.run_of-terms.ensures))
+
+pub returns-in-Ok-clause-places : goal.returns-in-Ok-clause-places
+returns-in-Ok-clause-places g c =
+    let terms = c.run_of-terms.result.now in
+    let semaphores = ap (λ (v : Levels). v.semaphores) c.start_all.ensures in
+    let counters = ap (λ (v : Levels). v.counters) c.start_all.ensures in
+    let counts = written c.self.inside.in_progress.len c.count_start.new.in_progress c.deref_mut.result.now c.self.inside.in_progress.items (one_more terms c.args.op.0 c.self.inside.in_progress.items) c.self.inside.in_progress.ok.0 c.deref_mut.ensures.value c.count_start.auto.in_progress (rw c.deref_mut.ensures.value at c.count_start.ensures) in
+    rw (← c.self.view_is, semaphores, counters, counts) (begun_places _ _ c.self.invariant.sound c.args.op terms (rw (← c.deref.ensures.value, ← c.deref-2.ensures.value) c.run_of-terms.ensures))

@@ -4,7 +4,7 @@ use Rattle.std.proofs.lemmas.List.{length-map}
 use Rattle.path_trim.specs.LeanTable.{lean_table}
 use Rattle.path_trim.specs.Rows.{row_of}
 use Rattle.path_gate.specs.Inner.Soundness.{runs_of}
-use Rattle.path_gate.specs.Inner.Opening.{rows_of, terms_for, semaphores_put, counters_put, rows_terms}
+use Rattle.path_gate.specs.Inner.Initial.{rows_of, terms_for, semaphores_put, counters_put, rows_terms}
 use Rattle.path_gate.proofs.Adding.{first_rows, first_terms, path_low, more_semaphores, more_counters, more_terms, last_semaphores, last_counters, last_terms}
 use Rattle.path_gate.proofs.Opened.{opened_at, opened_sound}
 use Rattle.path_gate.proofs.gate.Gate.open.Goals as goal

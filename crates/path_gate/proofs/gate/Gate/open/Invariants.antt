@@ -3,7 +3,7 @@ use Rattle.std.proofs.Common.{◌≡◌, ◌++◌, [], drop, length, map}
 use Rattle.path_model.specs.declared.ids.OpId.{OpId}
 use Rattle.path_trim.specs.LeanTable.{lean_table}
 use Rattle.path_trim.specs.Rows.{row_of}
-use Rattle.path_gate.specs.Inner.Opening.{terms_for, semaphores_put, counters_put, rows_terms}
+use Rattle.path_gate.specs.Inner.Initial.{terms_for, semaphores_put, counters_put, rows_terms}
 use Rattle.path_gate.proofs.gate.Gate.open.Given as goal
 
 abbrev pub invariant-loop-path : goal.invariant-loop-path

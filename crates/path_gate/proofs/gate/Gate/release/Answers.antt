@@ -2,7 +2,7 @@
 use Rattle.std.proofs.Common.{ap, arith}
 use Rattle.path_gate.specs.Levels.{Levels}
 use Rattle.path_gate.specs.Inner.Terms.{one_less}
-use Rattle.path_gate.proofs.Sound.{within, finishes, counted, named, unmoved, ended_sound, releases, written}
+use Rattle.path_gate.proofs.Sound.{within, finishes, counted, named, unmoved, ended_sound, ended_places, releases, written}
 use Rattle.path_gate.proofs.gate.Gate.release.Goals as goal
 
 pub run_of-terms-requires : goal.run_of-terms-requires
@@ -47,3 +47,11 @@ returns-clause-unnamed g c =
     let counters = ap (λ (v : Levels). v.counters) c.finish_all.ensures in
     let counts = written c.self.inside.in_progress.len c.count_finish.new.in_progress c.deref_mut.result.now c.self.inside.in_progress.items (one_less terms c.args.op.0 c.self.inside.in_progress.items) c.self.inside.in_progress.ok.0 c.deref_mut.ensures.value c.count_finish.auto.in_progress (rw c.deref_mut.ensures.value at c.count_finish.ensures) in
     rw (← c.self.view_is, semaphores, counters, counts) (unmoved _ _ c.self.invariant.sound c.args.op terms (rw (← c.deref.ensures.value, ← c.deref-2.ensures.value) c.run_of-terms.ensures))
+
+pub returns-clause-places : goal.returns-clause-places
+returns-clause-places g c =
+    let terms = c.run_of-terms.result.now in
+    let semaphores = ap (λ (v : Levels). v.semaphores) c.finish_all.ensures in
+    let counters = ap (λ (v : Levels). v.counters) c.finish_all.ensures in
+    let counts = written c.self.inside.in_progress.len c.count_finish.new.in_progress c.deref_mut.result.now c.self.inside.in_progress.items (one_less terms c.args.op.0 c.self.inside.in_progress.items) c.self.inside.in_progress.ok.0 c.deref_mut.ensures.value c.count_finish.auto.in_progress (rw c.deref_mut.ensures.value at c.count_finish.ensures) in
+    rw (← c.self.view_is, semaphores, counters, counts) (ended_places _ _ c.self.invariant.sound c.args.op terms (rw (← c.deref.ensures.value, ← c.deref-2.ensures.value) c.run_of-terms.ensures) (rw (← c.self.view_is) at c.requires))

@@ -2,7 +2,7 @@
 use Rattle.std.proofs.Common.{◌++◌, ◌+◌, ◌<◌, ◌∙◌, length, get_or, drop, None, ap, sym, arith}
 use Rattle.std.proofs.lemmas.List.{length-set}
 use Rattle.path_trim.specs.declared.table.LeanOp.{LeanOp}
-use Rattle.path_gate.specs.Inner.Opening.{terms_for, ops_terms}
+use Rattle.path_gate.specs.Inner.Initial.{terms_for, ops_terms}
 use Rattle.path_gate.proofs.Runs.{pushed, op_added, drop_more}
 use Rattle.path_gate.proofs.gate.table.add_terms.Goals as goal
 

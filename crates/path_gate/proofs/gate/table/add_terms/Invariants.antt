@@ -1,7 +1,7 @@
 -- The operations that are left are still to be added.
 use Rattle.std.proofs.Common.{◌≡◌, ◌++◌, drop, length}
 use Rattle.path_model.specs.declared.ids.OpId.{OpId}
-use Rattle.path_gate.specs.Inner.Opening.{terms_for, ops_terms}
+use Rattle.path_gate.specs.Inner.Initial.{terms_for, ops_terms}
 use Rattle.path_gate.proofs.gate.table.add_terms.Given as goal
 
 abbrev pub invariant-loop-lean_op : goal.invariant-loop-lean_op

@@ -2,7 +2,7 @@
 use Rattle.std.proofs.Common.{◌≡◌, ◌<◌, ◌∙◌, [], length, get_or, refl, sym, ap, subst, arith}
 use Rattle.std.proofs.lemmas.List.{get_or-map, length-map, take_all}
 use Rattle.std.proofs.lemmas.List.Elements.{All-nil}
-use Rattle.path_gate.specs.Inner.Opening.{rows_of}
+use Rattle.path_gate.specs.Inner.Initial.{rows_of}
 use Rattle.path_gate.proofs.Runs.{run_joined}
 use Rattle.path_gate.proofs.gate.table.in_one_list.Goals as goal
 

@@ -1,7 +1,7 @@
 -- The runs so far.
 use Rattle.std.proofs.Common.{◌≡◌, take}
 use Rattle.path_gate.specs.Inner.Soundness.{IsLaidOut, runs_of}
-use Rattle.path_gate.specs.Inner.Opening.{rows_of}
+use Rattle.path_gate.specs.Inner.Initial.{rows_of}
 use Rattle.path_gate.proofs.gate.table.in_one_list.Given as goal
 
 abbrev pub invariant-loop-run : goal.invariant-loop-run

@@ -1,6 +1,6 @@
 -- A counter is put.
 use Rattle.std.proofs.Common.{map, arith}
-use Rattle.path_gate.specs.Inner.Opening.{put_all, at_zero}
+use Rattle.path_gate.specs.Inner.Initial.{put_all, at_zero}
 use Rattle.path_gate.proofs.Appended.{counter_put}
 use Rattle.path_gate.proofs.gate.table.put_counters.Goals as goal
 

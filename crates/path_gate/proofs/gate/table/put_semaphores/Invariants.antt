@@ -1,6 +1,6 @@
 -- The semaphores that are left are still to be written.
 use Rattle.std.proofs.Common.{◌≡◌, drop}
-use Rattle.path_gate.specs.Inner.Opening.{put_all}
+use Rattle.path_gate.specs.Inner.Initial.{put_all}
 use Rattle.path_gate.proofs.gate.table.put_semaphores.Given as goal
 
 abbrev pub invariant-loop-semaphore : goal.invariant-loop-semaphore

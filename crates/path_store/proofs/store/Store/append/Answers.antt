@@ -1,7 +1,6 @@
 -- An append leaves the lines from before it, with the new one or without.
 use Rattle.std.proofs.Common.{◌++◌, not, rules, ap, ◌∙◌}
-use Rattle.path_journal.specs.JournalTexts.{LineFits}
-use Rattle.path_journal.specs.CutTexts.{kept_line}
+use Rattle.path_journal.specs.JournalTexts.{LineFits, kept_line}
 use Rattle.path_store.proofs.Crash.{more_at_start, append_leaves, has_more}
 use Rattle.path_store.proofs.store.Store.append.Goals as goal
 

@@ -6,6 +6,7 @@ use Rattle.path_system.specs.Accounts.{failures_of}
 use Rattle.path_model.specs.Asked.{resource_asked}
 use Rattle.path_shelf.specs.States.{MayFail}
 use Rattle.path_system.proofs.Controlled.{is_system, ready_now, answers_all, owed_behind, told_more, told_still, place_left}
+use Rattle.path_system.proofs.Stepped.{marks_answered}
 use Rattle.path_system.proofs.Counted.{AreCounted, counted, failed_one}
 use Rattle.path_system.proofs.controller.Controller.step.Goals as goal
 use Rattle.path_system.proofs.controller.Controller.step.Goals.{After-is_no_room}
@@ -17,26 +18,26 @@ answer-reply-requires g c = ready_now _ _ _ _ _ c.self.invariant
 pub overflow_add-self : goal.overflow_add-self
 overflow_add-self g c =
     let other : c.answer-reply.result ≢ NoRoom = λ h. cc (c.is_no_room.ensures.1 h, c.if-not-is_no_room.true) in
-    let k = place_left _ _ _ _ _ c.self.invariant _ c.answer-reply.new.self c.args.worker c.args.attempt c.answer-reply.result c.answer-reply.ensures other in
+    let k = place_left _ _ _ _ _ c.self.invariant _ (marks_answered _) c.answer-reply.new.self c.args.worker c.args.attempt c.answer-reply.result c.answer-reply.ensures other in
     let m = c.self.invariant.good_room.1 in
     omega (arith, k, m)
 
 pub invariant_of-self : goal.invariant_of-self
 invariant_of-self g c =
     let other : c.answer-reply.result ≢ NoRoom = λ h. cc (c.is_no_room.ensures.1 h, c.if-not-is_no_room.true) in
-    rw c.with-past.ensures (told_more _ _ _ _ _ c.self.invariant _ c.answer-reply.new.self c.args.worker c.args.attempt c.answer-reply.result c.answer-reply.ensures other)
+    rw c.with-past.ensures (told_more _ _ _ _ _ c.self.invariant _ (marks_answered _) c.answer-reply.new.self c.args.worker c.args.attempt c.answer-reply.result c.answer-reply.ensures other)
 
 pub invariant_of-self-else-not-is_no_room : goal.invariant_of-self-else-not-is_no_room
 invariant_of-self-else-not-is_no_room g c =
-    told_still _ _ _ _ _ c.self.invariant _ c.answer-reply.new.self c.args.worker c.args.attempt c.answer-reply.result c.answer-reply.ensures (c.is_no_room.ensures.0 c.if-not-is_no_room.false)
+    told_still _ _ _ _ _ c.self.invariant _ (marks_answered _) c.answer-reply.new.self c.args.worker c.args.attempt c.answer-reply.result c.answer-reply.ensures (c.is_no_room.ensures.0 c.if-not-is_no_room.false)
 
 pub returns-then-not-is_no_room-clause-owed : goal.returns-then-not-is_no_room-clause-owed
 returns-then-not-is_no_room-clause-owed g c =
-    rw (← c.self.view_is) (owed_behind _ _ _ _ _ c.self.invariant _ c.answer-reply.new.self c.args.worker c.args.attempt c.answer-reply.result c.answer-reply.ensures)
+    rw (← c.self.view_is) (owed_behind _ _ _ _ _ c.self.invariant _ (marks_answered _) c.answer-reply.new.self c.args.worker c.args.attempt c.answer-reply.result c.answer-reply.ensures)
 
 pub returns-else-not-is_no_room-clause-owed : goal.returns-else-not-is_no_room-clause-owed
 returns-else-not-is_no_room-clause-owed g c =
-    rw (← c.self.view_is) (owed_behind _ _ _ _ _ c.self.invariant _ c.answer-reply.new.self c.args.worker c.args.attempt c.answer-reply.result c.answer-reply.ensures)
+    rw (← c.self.view_is) (owed_behind _ _ _ _ _ c.self.invariant _ (marks_answered _) c.answer-reply.new.self c.args.worker c.args.attempt c.answer-reply.result c.answer-reply.ensures)
 
 -- the counts before and after
 counts_of : (g : Over) (c : After-is_no_room g)
@@ -44,13 +45,13 @@ counts_of : (g : Over) (c : After-is_no_room g)
     (failures_of c.self.inside.parts.devices.states) (failures_of c.answer-reply.new.self.devices.states)
 counts_of g c =
     counted _ c.self.inside.parts _ _ _ c.self.invariant.told c.answer-reply.new.self c.args.worker c.args.attempt c.answer-reply.result
-    (answers_all _ _ _ _ _ c.self.invariant _ c.answer-reply.new.self c.args.worker c.args.attempt c.answer-reply.result c.answer-reply.ensures)
+    (answers_all _ _ _ _ _ c.self.invariant _ (marks_answered _) c.answer-reply.new.self c.args.worker c.args.attempt c.answer-reply.result c.answer-reply.ensures)
 
 -- only devices that may fail do
 failed_told : (g : Over) (c : After-is_no_room g) → c.answer-reply.result ≡ DeviceFailed → MayFail g.D.Device.state
 failed_told g c =
     failed_one _ c.self.inside.parts _ _ _ c.self.invariant.told c.answer-reply.new.self c.args.worker c.args.attempt c.answer-reply.result
-    (answers_all _ _ _ _ _ c.self.invariant _ c.answer-reply.new.self c.args.worker c.args.attempt c.answer-reply.result c.answer-reply.ensures)
+    (answers_all _ _ _ _ _ c.self.invariant _ (marks_answered _) c.answer-reply.new.self c.args.worker c.args.attempt c.answer-reply.result c.answer-reply.ensures)
 
 pub returns-then-not-is_no_room-clause-failures : goal.returns-then-not-is_no_room-clause-failures
 returns-then-not-is_no_room-clause-failures g c = rw (← c.self.view_is) ((counts_of g ((goal.at.returns-then-not-is_no_room-clause-failures g c).After-is_no_room)).others)

@@ -1,8 +1,7 @@
 -- There is one mark for each device, and none is set.
-use Rattle.std.proofs.Common.{◌≡◌, false, length, refl, ap, sym, ◌∙◌}
+use Rattle.std.proofs.Common.{false, length, refl, ap, sym, ◌∙◌}
 use Rattle.std.proofs.lemmas.List.{length-replicate}
 use Rattle.path_ledger.specs.Ledgers.{Book}
-use Rattle.path_step.specs.Steps.{Register}
 use Rattle.path_system.proofs.Opened.{opened_count}
 use Rattle.path_system.proofs.parts.Parts.open.Goals as goal
 

@@ -4,7 +4,7 @@ use Rattle.std.proofs.lemmas.List.{append-nil}
 use Rattle.std.proofs.lemmas.Bool.{eqb-true, eqb-false}
 use Rattle.path_model.specs.declared.history.Event.{Event}
 use Rattle.path_model.specs.Trees.{Bound, any, most, Tree, NoRepeats, NoBraces}
-use Rattle.path_model.specs.Labellings.{Member, NoneTwice, AtMost, Underway, WithinBound, events_of, carrying, EachLabel}
+use Rattle.path_model.specs.Labellings.{Member, NoneTwice, AtMost, RunsAcross, WithinBound, events_of, carrying, EachLabel}
 use Rattle.path_model.specs.Words.{IsWord}
 use Rattle.path_model.specs.BurstCounts.{Many, InUse}
 use Rattle.path_model.proofs.Lists.{cons_same, cons_nil}
@@ -105,8 +105,8 @@ module _ (s : Tree) (f : NoBraces s) (n : NoRepeats s) (ms : Meets s) where
     front_crowd : Crowd s (events_of x)
     front_crowd = mix_crowd s f n (labels_mix (Solo s) (events_of x) (x, refl, front_solo))
 
-    pub underway_many : Many (Underway x y) (count s 0 (events_of x))
-    underway_many = many_ones g (labels_of x) (Underway x y) (count s 0 (events_of x)) (labels_once x) small is (omega (arith, sum_add g (λ k. out s (carrying k x)) (λ k. inn s (carrying k x)) (labels_of x) parts, inn_sum s f x, out_sum s f x, crowd_count s f n front_crowd))
+    pub underway_many : Many (RunsAcross x y) (count s 0 (events_of x))
+    underway_many = many_ones g (labels_of x) (RunsAcross x y) (count s 0 (events_of x)) (labels_once x) small is (omega (arith, sum_add g (λ k. out s (carrying k x)) (λ k. inn s (carrying k x)) (labels_of x) parts, inn_sum s f x, out_sum s f x, crowd_count s f n front_crowd))
       where
         g : ℕ → ℕ
         g k = inn s (carrying k x) - out s (carrying k x)
@@ -125,16 +125,16 @@ module _ (s : Tree) (f : NoBraces s) (n : NoRepeats s) (ms : Meets s) where
             go (inr (inl z)) = omega (arith, z.1, z.2)
             go (inr (inr z)) = omega (arith, ms.entered _ z)
 
-        is : (k : ℕ) → (Member k (labels_of x) × (g k ≡ 1)) ↔ Underway x y k
+        is : (k : ℕ) → (Member k (labels_of x) × (g k ≡ 1)) ↔ RunsAcross x y k
         is k = (to, from)
           where
-            to : Member k (labels_of x) × (g k ≡ 1) → Underway x y k
+            to : Member k (labels_of x) × (g k ≡ 1) → RunsAcross x y k
             to (m, h) = (member_used k x m, λ z. let w = word z in omega (arith, h, ms.entered _ w, ms.left _ w))
               where
                 word : carrying k y ≡ [] → IsWord s (carrying k x)
                 word z = subst (IsWord s) (ap (λ u. carrying k x ++ u) z ∙ append-nil (carrying k x)) (subst (IsWord s) (carrying_append k x y) (each k (λ q. member_used k x m (sym (append-nil (carrying k x)) ∙ ap (λ u. carrying k x ++ u) (sym z) ∙ sym (carrying_append k x y) ∙ q))))
 
-            from : Underway x y k → Member k (labels_of x) × (g k ≡ 1)
+            from : RunsAcross x y k → Member k (labels_of x) × (g k ≡ 1)
             from (u, r) = (used_member k x u, go (ms.stage _ (front_solo k u)))
               where
                 go : Stage s (carrying k x) → g k ≡ 1
@@ -145,11 +145,11 @@ module _ (s : Tree) (f : NoBraces s) (n : NoRepeats s) (ms : Meets s) where
   -- a labelling is within the bound exactly when the counts fit
   pub within : (b : Bound) (w : List Event) → ((x y : List Event) → w ≡ x ++ y → Fits b (count s 0 x)) → (ls : List (ℕ × Event)) → events_of ls ≡ w → EachLabel (IsWord s) ls → WithinBound b ls
   within any w fits ls e each = tt
-  within (most m) w fits ls e each = λ x y q. many_at_most (Underway x y) (count s 0 (events_of x)) m (underway_many x y (subst (EachLabel (IsWord s)) q each)) (fits (events_of x) (events_of y) (sym e ∙ ap events_of q ∙ events_append x y))
+  within (most m) w fits ls e each = λ x y q. many_at_most (RunsAcross x y) (count s 0 (events_of x)) m (underway_many x y (subst (EachLabel (IsWord s)) q each)) (fits (events_of x) (events_of y) (sym e ∙ ap events_of q ∙ events_append x y))
 
   pub fits_within : (b : Bound) (w : List Event) (ls : List (ℕ × Event)) → events_of ls ≡ w → EachLabel (IsWord s) ls → WithinBound b ls → (x y : List Event) → w ≡ x ++ y → Fits b (count s 0 x)
   fits_within any w ls e each k x y q = tt
   fits_within (most m) w ls e each k x y q = go (events_split x y ls (e ∙ q))
     where
       go : Split ls x → count s 0 x ≤ m
-      go p = subst (λ u. count s 0 u ≤ m) p.events (at_most_many (Underway p.front p.rest) _ m (k p.front p.rest p.joined) (underway_many p.front p.rest (subst (EachLabel (IsWord s)) p.joined each)))
+      go p = subst (λ u. count s 0 u ≤ m) p.events (at_most_many (RunsAcross p.front p.rest) _ m (k p.front p.rest p.joined) (underway_many p.front p.rest (subst (EachLabel (IsWord s)) p.joined each)))

@@ -1,0 +1,1 @@
+-- The numbers end where there is none.
