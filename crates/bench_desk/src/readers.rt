@@ -7,7 +7,7 @@ use path_model::{Attempt, MOST_LINES, OpId, Reply};
 use path_read::read;
 use path_shelf::{Cell, Device};
 use path_system::System;
-use path_workers::{Desk, Opening, Pass, Steps};
+use path_workers::{Desk, DeskName, Pass, Steps};
 use std::alloc::{AllocError, Allocator, Global};
 use std::marker::Brand;
 use std::sync::Wait;
@@ -27,7 +27,7 @@ pub struct Times {
 }
 
 // Starts and finishes a read in each round.
-fn read_rounds<L: Opening, S: Steps, R: Wait>(
+fn read_rounds<L: DeskName, S: Steps, R: Wait>(
     rt: &R,
     desk: &Desk<L, S>,
     mut pass: Pass<L>,
@@ -43,7 +43,7 @@ fn read_rounds<L: Opening, S: Steps, R: Wait>(
     pass
 }
 
-fn passes_of<L: Opening, S: Steps>(
+fn passes_of<L: DeskName, S: Steps>(
     alloc: Global,
     desk: &Desk<L, S>,
     threads: u32,
@@ -56,7 +56,7 @@ fn passes_of<L: Opening, S: Steps>(
 }
 
 // Reads with each pass in a thread of its own.
-fn all_read<L: Opening + Send + Sync, S: Steps + Send, R: Threads + Wait + Sync>(
+fn all_read<L: DeskName + Send + Sync, S: Steps + Send, R: Threads + Wait + Sync>(
     rt: &R,
     desk: &Desk<L, S>,
     passes: Vec<Pass<L>>,
@@ -69,7 +69,7 @@ fn nanos_since(rt: &impl Clock, start: Instant) -> io::Result<u64> {
     Ok(u64::try_from(start.elapsed(rt)?.as_nanos()).unwrap_or(u64::MAX))
 }
 
-fn measured<L: Opening + Send + Sync, S: Steps + Send, R: Threads + Wait + Clock + Sync>(
+fn measured<L: DeskName + Send + Sync, S: Steps + Send, R: Threads + Wait + Clock + Sync>(
     rt: &R,
     alloc: Global,
     system: S,

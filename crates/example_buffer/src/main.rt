@@ -12,7 +12,7 @@ use path_model::{Attempt, OpId, OutOfMemory, Reply, Verb};
 use path_read::read_constant;
 use path_shelf::{Device, Queue};
 use path_system::{OpenFault, System};
-use path_workers::{Desk, Opening, Pass, Steps};
+use path_workers::{Desk, DeskName, Pass, Steps};
 use std::alloc::{Allocator, Global};
 use std::marker::Brand;
 use std::sync::Wait;
@@ -36,7 +36,7 @@ fn declared(alloc: Global) -> Result<Decl, OutOfMemory>
 }
 
 /// Uses the buffer so a hundred times, under an operation of its own each time. Where there is no place or no number, it goes on.
-fn hundred<L: Opening, S: Steps, R: Wait>(
+fn hundred<L: DeskName, S: Steps, R: Wait>(
     rt: &R,
     desk: &Desk<L, S>,
     mut pass: Pass<L>,
@@ -56,7 +56,7 @@ fn hundred<L: Opening, S: Steps, R: Wait>(
 
 /// Lets one thread put sevens in and another take them out, and returns the system if each line is the receipt of one of them. At each
 /// moment of these lines every get that had begun followed a put, and at most four puts had no get yet.
-fn shared_by_two<L: Opening + Send + Sync, S: Steps + Send, R: Threads + Wait + Sync>(
+fn shared_by_two<L: DeskName + Send + Sync, S: Steps + Send, R: Threads + Wait + Sync>(
     rt: &R,
     alloc: Global,
     system: S,

@@ -8,7 +8,7 @@ use path_model::{Attempt, OpId, Reply, Verb};
 use path_read::read;
 use path_shelf::{Device, Tally};
 use path_system::System;
-use path_workers::{Desk, Opening, Pass, Steps};
+use path_workers::{Desk, DeskName, Pass, Steps};
 use std::alloc::{Allocator, Global};
 use std::marker::Brand;
 use std::sync::Wait;
@@ -20,7 +20,7 @@ use std::thread::Threads;
 const BYTES: &[u8] = b"resource bytes tally operation serve path { serve } end end";
 
 /// Starts a request, adds ten bytes and finishes it, a hundred times. A start that isn't admitted is skipped.
-fn serve<L: Opening, S: Steps, R: Wait>(rt: &R, desk: &Desk<L, S>, mut pass: Pass<L>) -> Pass<L> {
+fn serve<L: DeskName, S: Steps, R: Wait>(rt: &R, desk: &Desk<L, S>, mut pass: Pass<L>) -> Pass<L> {
     for _ in 0..100 {
         if let Ok(answer) = desk.attempt(rt, &mut pass, Attempt::Start(OpId(0))) {
             if let Reply::Started(request) = answer.reply {
@@ -33,7 +33,7 @@ fn serve<L: Opening, S: Steps, R: Wait>(rt: &R, desk: &Desk<L, S>, mut pass: Pas
 }
 
 /// Lets two workers serve, and returns the system if each line is the receipt of one of them.
-fn served_by_two<L: Opening + Send + Sync, S: Steps + Send, R: Threads + Wait + Sync>(
+fn served_by_two<L: DeskName + Send + Sync, S: Steps + Send, R: Threads + Wait + Sync>(
     rt: &R,
     alloc: Global,
     system: S,

@@ -4,12 +4,12 @@ ghost use Rattle.std.specs.Prelude.{◌≡◌, ℕ, ◌<◌, ◌≤◌, [], leng
 ghost use Rattle.path_script.specs.Scripts.{IsBalanced, LawfulScript};
 ghost use Rattle.path_run.specs.Runs.{IsRun};
 
-use crate::floor::Floor;
+use crate::monitor::Monitor;
 use crate::outcome::End;
 use crate::turnstile::Turnstile;
 use crate::work::work;
 use path_script::{Process, Step};
-use path_workers::{Opening, Pass, Steps};
+use path_workers::{DeskName, Pass, Steps};
 use std::alloc::{AllocError, Allocator};
 use std::marker::Model;
 use std::sync::Wait;
@@ -57,7 +57,7 @@ impl<'a, L: Ledger, A: Allocator + Copy> Model for Begun<'a, L, A> {
     ghost invariant = { λ b. IfSome b.child (λ h. (h.promise.worker ≡ b.worker) × (h.promise.steps.now ≡ b.steps.now)) };
 }
 
-impl<'a, L: Opening, A: Allocator + Copy> Begun<'a, L, A> {
+impl<'a, L: DeskName, A: Allocator + Copy> Begun<'a, L, A> {
     /// What the process hands back, once its thread has ended.
     fn join<R: Threads + Wait>(self, rt: &R, alloc: A) -> Worked<L, A>
         ensures worker { result.pass.worker ≡ self.entry.0 }
@@ -79,9 +79,9 @@ impl<'a, L: Opening, A: Allocator + Copy> Begun<'a, L, A> {
 }
 
 /// What the thread of a process does: its steps, and then it is marked as ended.
-fn work_there<L: Opening, S: Steps, T: Turnstile, A: Allocator + Copy, R: Wait>(
+fn work_there<L: DeskName, S: Steps, T: Turnstile, A: Allocator + Copy, R: Wait>(
     rt: &R,
-    floor: &Floor<L, S>,
+    monitor: &Monitor<L, S>,
     turnstile: &T,
     alloc: A,
     worker: u32,
@@ -93,8 +93,8 @@ fn work_there<L: Opening, S: Steps, T: Turnstile, A: Allocator + Copy, R: Wait>(
     ensures run { IsRun steps.now [] result.pass.receipts result.end }
 {
     let mut pass = Pass::new(alloc, worker);
-    let end = work(rt, floor, turnstile, &mut pass, steps);
-    floor.end_one(rt);
+    let end = work(rt, monitor, turnstile, &mut pass, steps);
+    monitor.end_one(rt);
     Worked { pass, end }
 }
 
@@ -102,7 +102,7 @@ fn work_there<L: Opening, S: Steps, T: Turnstile, A: Allocator + Copy, R: Wait>(
 fn begin<
     's,
     E,
-    L: Opening + Send + Sync + 's,
+    L: DeskName + Send + Sync + 's,
     S: Steps + Send + 's,
     T: Turnstile + 's,
     A: Allocator + Copy + Send + Sync + 's,
@@ -110,7 +110,7 @@ fn begin<
 >(
     scope: &Scope<'s, E>,
     rt: &'s R,
-    floor: &'s Floor<L, S>,
+    monitor: &'s Monitor<L, S>,
     turnstile: &'s T,
     alloc: A,
     worker: u32,
@@ -126,11 +126,11 @@ fn begin<
             promise,
             move || -> Worked<L, A>
                 requires { IsBalanced steps.now × (length steps.now ≤ 4096) }
-            { work_there(rt, floor, turnstile, alloc, worker, steps) },
+            { work_there(rt, monitor, turnstile, alloc, worker, steps) },
         )
         .ok();
     if child.is_none() {
-        floor.end_one(rt);
+        monitor.end_one(rt);
     }
     Begun {
         child,
@@ -142,14 +142,14 @@ fn begin<
 /// Starts one thread for each process, and joins them in order. Allocates memory before the first begins. If no thread can be made for a
 /// process, it is marked as ended at once, so that nobody waits for it.
 pub fn work_in_threads<
-    L: Opening + Send + Sync,
+    L: DeskName + Send + Sync,
     S: Steps + Send,
     T: Turnstile,
     A: Allocator + Copy + Send + Sync,
     R: Threads + Wait + Sync,
 >(
     rt: &R,
-    floor: &Floor<L, S>,
+    monitor: &Monitor<L, S>,
     turnstile: &T,
     alloc: A,
     processes: &[Process<A>],
@@ -177,11 +177,11 @@ pub fn work_in_threads<
             for process in processes {
                 let worker = begun.len() as u32;
                 // Each thread gets copies of these.
-                let (rt, floor, turnstile) = (rt, floor, turnstile);
+                let (rt, monitor, turnstile) = (rt, monitor, turnstile);
                 begun.push_reserved(begin(
                     scope,
                     rt,
-                    floor,
+                    monitor,
                     turnstile,
                     alloc,
                     worker,
@@ -194,7 +194,7 @@ pub fn work_in_threads<
 }
 
 /// What the processes hand back, in order.
-fn join_all<'a, L: Opening, A: Allocator + Copy, R: Threads + Wait>(
+fn join_all<'a, L: DeskName, A: Allocator + Copy, R: Threads + Wait>(
     rt: &R,
     alloc: A,
     begun: Vec<Begun<'a, L, A>, A>,

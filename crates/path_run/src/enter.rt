@@ -6,10 +6,10 @@ ghost use Rattle.path_script.specs.declared.script.Step.TheVariants as steps;
 ghost use Rattle.path_workers.specs.declared.answer.Receipt.{Receipt as Note};
 ghost use Rattle.path_run.specs.Inner.Parts.{Adds, Closes, HasTried};
 
-use crate::floor::{Admission, Floor};
+use crate::monitor::{Admission, Monitor};
 use crate::outcome::End;
 use path_model::{ActId, OpId};
-use path_workers::{Opening, Pass, Steps};
+use path_workers::{DeskName, Pass, Steps};
 use std::alloc::Allocator;
 use std::sync::Wait;
 
@@ -24,28 +24,28 @@ enum Tried {
 }
 
 /// Tries once. If a path blocks it, waits for a finish or for the mark that all wait.
-fn try_once<L: Opening, S: Steps, A: Allocator + Copy, R: Wait>(
+fn try_once<L: DeskName, S: Steps, A: Allocator + Copy, R: Wait>(
     rt: &R,
-    floor: &Floor<L, S>,
+    monitor: &Monitor<L, S>,
     pass: &mut Pass<L, A>,
     op: OpId,
 ) -> Tried
     ensures worker { pass.new.worker ≡ pass.old.worker }
     ensures run { (gained : List Note) × (pass.new.receipts ≡ pass.old.receipts ++ gained) × HasTried op gained result }
 {
-    let mut shift = floor.shift.lock(rt);
-    let seen = match shift.start(pass, op) {
+    let mut state = monitor.state.lock(rt);
+    let seen = match state.start(pass, op) {
         Admission::Entered(act) => return Tried::Entered(act),
         Admission::Ended(end) => return Tried::Ended(end),
         Admission::Blocked(seen) => seen,
     };
-    if shift.stalled {
-        floor.freed.notify_all();
+    if state.stalled {
+        monitor.freed.notify_all();
     }
-    let shift = floor
+    let state = monitor
         .freed
-        .wait_while(rt, shift, |s| s.finishes == seen && !s.stalled);
-    if shift.finishes == seen {
+        .wait_while(rt, state, |s| s.finishes == seen && !s.stalled);
+    if state.finishes == seen {
         Tried::Ended(End::Stalled(op))
     } else {
         Tried::Freed
@@ -53,9 +53,9 @@ fn try_once<L: Opening, S: Steps, A: Allocator + Copy, R: Wait>(
 }
 
 /// Tries to enter until the start is admitted or the process ends. Each further try comes after an admitted finish.
-pub fn enter<L: Opening, S: Steps, A: Allocator + Copy, R: Wait>(
+pub fn enter<L: DeskName, S: Steps, A: Allocator + Copy, R: Wait>(
     rt: &R,
-    floor: &Floor<L, S>,
+    monitor: &Monitor<L, S>,
     pass: &mut Pass<L, A>,
     op: OpId,
 ) -> Result<ActId, End>
@@ -65,7 +65,7 @@ pub fn enter<L: Opening, S: Steps, A: Allocator + Copy, R: Wait>(
         (λ end. (held : List Act) → Closes (steps.Enter op) held end gained) }
 {
     for _ in rt.forever() {
-        match try_once(rt, floor, pass, op) {
+        match try_once(rt, monitor, pass, op) {
             Tried::Entered(act) => return Ok(act),
             Tried::Freed => {}
             Tried::Ended(end) => return Err(end),

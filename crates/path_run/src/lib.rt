@@ -4,8 +4,8 @@
 mod begun;
 mod enter;
 mod entered;
-mod floor;
 mod lines;
+mod monitor;
 mod outcome;
 mod running;
 mod step;

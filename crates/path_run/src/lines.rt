@@ -6,7 +6,7 @@ ghost use Rattle.path_run.specs.Lines.{AreInOrder, IsOutOfOrder, IsCurrent, IsSt
 
 use crate::outcome::End;
 use path_model::{Line, Reply};
-use path_workers::{Receipt, Slip};
+use path_workers::{ClosedPass, Receipt};
 use std::alloc::Allocator;
 
 /// Whether a line from `low` on and below `high` is that of an admitted finish.
@@ -90,15 +90,15 @@ fn disorder(journal: &[Line], receipts: &[Receipt], end: End) -> Option<u64>
 /// The first place at which the receipts don't agree with the journal, of the first process that has one.
 pub fn first_disorder<A: Allocator + Copy>(
     journal: &[Line],
-    slips: &[Slip<A>],
+    closed_passes: &[ClosedPass<A>],
     ends: &[End],
 ) -> Option<u64>
-    requires { length slips.now ≡ length ends.now }
-    ensures none { IfNone result (EachIsOrderly journal.now slips.now ends.now) }
-    ensures some { IfSome result (λ place. IsFirstDisorder journal.now slips.now ends.now place) }
+    requires { length closed_passes.now ≡ length ends.now }
+    ensures none { IfNone result (EachIsOrderly journal.now closed_passes.now ends.now) }
+    ensures some { IfSome result (λ place. IsFirstDisorder journal.now closed_passes.now ends.now place) }
 {
-    for i in 0..slips.len() {
-        let receipts = slips[i].receipts();
+    for i in 0..closed_passes.len() {
+        let receipts = closed_passes[i].receipts();
         if let Some(place) = disorder(journal, receipts, ends[i]) {
             return Some(place);
         }

@@ -3,7 +3,7 @@
 ghost use Rattle.std.specs.Prelude.{◌≡◌};
 
 use path_model::{OpId, Reply};
-use path_workers::{SettleFault, Slip, Steps};
+use path_workers::{ClosedPass, SettleFault, Steps};
 use std::alloc::{Allocator, Global};
 
 /// How a process ended.
@@ -31,7 +31,7 @@ pub struct Outcome<S: Steps, A: Allocator + Copy = Global> {
     /// The system, as the processes left it.
     pub system: S,
     /// The receipts of each process.
-    pub passes: Vec<Slip<A>, A>,
+    pub passes: Vec<ClosedPass<A>, A>,
     /// How each process ended.
     pub ends: Vec<End, A>,
 }

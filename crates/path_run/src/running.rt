@@ -15,31 +15,31 @@ ghost use Rattle.path_run.specs.Unsettled.{IsUnsettled, IsUnsettledRun};
 ghost use Rattle.path_run.specs.Ended.{HasRun};
 
 use crate::begun::{Worked, work_in_threads};
-use crate::floor::Floor;
 use crate::lines::first_disorder;
+use crate::monitor::Monitor;
 use crate::outcome::{End, Ended, Outcome, RunFault};
 use crate::turnstile::Turnstile;
 use path_model::Line;
 use path_script::{Process, Script};
-use path_workers::{Closed, Hall, Opening, Pass, SettleFault, Slip, Steps, settle_own};
+use path_workers::{Closed, ClosedPass, DeskName, Pass, SettleFault, SharedSystem, Steps, settle_own};
 use std::alloc::{AllocError, Allocator};
 use std::marker::Brand;
 use std::sync::Wait;
 use std::sync::ledger::{Blank, Ledger};
 use std::thread::Threads;
 
-/// Memory for the slips, passes and ends of that many processes. Fails only if allocation fails.
+/// Memory for the closed passes, the passes and ends of that many processes. Fails only if allocation fails.
 fn places<L: Ledger, A: Allocator + Copy>(
     alloc: A,
     count: usize,
-) -> Result<(Vec<Slip<A>, A>, Vec<Pass<L, A>, A>, Vec<End, A>), AllocError>
+) -> Result<(Vec<ClosedPass<A>, A>, Vec<Pass<L, A>, A>, Vec<End, A>), AllocError>
     ensures empty { IfOk result (λ p. (vec_len p.0 ≡ 0) × (vec_len p.1 ≡ 0) × (vec_len p.2 ≡ 0)) }
     ensures places { IfOk result (λ p. (count ≤ vec_capacity p.0) × (count ≤ vec_capacity p.1) × (count ≤ vec_capacity p.2)) }
 {
-    let slips = Vec::with_capacity(alloc, count)?;
+    let closed_passes = Vec::with_capacity(alloc, count)?;
     let passes = Vec::with_capacity(alloc, count)?;
     let ends = Vec::with_capacity(alloc, count)?;
-    Ok((slips, passes, ends))
+    Ok((closed_passes, passes, ends))
 }
 
 /// The passes and the ends, each in order.
@@ -68,33 +68,33 @@ fn passes_of<L: Ledger, A: Allocator + Copy>(
 fn fault_of<A: Allocator + Copy>(
     unsettled: Option<SettleFault>,
     journal: &[Line],
-    slips: &[Slip<A>],
+    closed_passes: &[ClosedPass<A>],
     ends: &[End],
 ) -> Option<SettleFault>
-    requires { length slips.now ≡ length ends.now }
-    ensures none { IfNone result ((unsettled ≡ None) × EachIsOrderly journal.now slips.now ends.now) }
+    requires { length closed_passes.now ≡ length ends.now }
+    ensures none { IfNone result ((unsettled ≡ None) × EachIsOrderly journal.now closed_passes.now ends.now) }
     ensures some { IfSome result (λ e. (unsettled ≡ Some e) ⊎ ((unsettled ≡ None) × ((place : ℕ) × (e ≡ Mismatch place)
-        × IsFirstDisorder journal.now slips.now ends.now place))) }
+        × IsFirstDisorder journal.now closed_passes.now ends.now place))) }
 {
     if unsettled.is_some() {
         return unsettled;
     }
-    match first_disorder(journal, slips, ends) {
+    match first_disorder(journal, closed_passes, ends) {
         Some(place) => Some(SettleFault::Mismatch { place }),
         None => None,
     }
 }
 
-/// The end of a run whose processes have ended, with these passes and ends. The slips go into the vector `slips`.
-fn ended<L: Opening, S: Steps, A: Allocator + Copy>(
-    hall: Hall<L, S>,
+/// The end of a run whose processes have ended, with these passes and ends. The closed passes go into the vector `closed_passes`.
+fn ended<L: DeskName, S: Steps, A: Allocator + Copy>(
+    shared: SharedSystem<L, S>,
     before: u64,
     passes: Vec<Pass<L, A>, A>,
-    slips: Vec<Slip<A>, A>,
+    closed_passes: Vec<ClosedPass<A>, A>,
     ends: Vec<End, A>,
 ) -> Ended<S, A>
     requires before { before ≡ length L.opened.journal }
-    requires places { (vec_len slips ≡ 0) × (vec_len passes ≤ vec_capacity slips) }
+    requires places { (vec_len closed_passes ≡ 0) × (vec_len passes ≤ vec_capacity closed_passes) }
     requires ends { vec_len ends ≡ vec_len passes }
     ensures ends { (result.outcome.ends.items ≡ ends.items) × (vec_len result.outcome.ends ≡ vec_len ends) }
     ensures passes { (result.outcome.passes.items ≡ passes.items) × (vec_len result.outcome.passes ≡ vec_len passes) }
@@ -106,14 +106,14 @@ fn ended<L: Opening, S: Steps, A: Allocator + Copy>(
 {
     let Closed {
         system,
-        slips,
+        closed_passes,
         fault,
-    } = settle_own(hall, before, passes, slips);
-    let fault = fault_of(fault, system.journal(), slips.as_slice(), ends.as_slice());
+    } = settle_own(shared, before, passes, closed_passes);
+    let fault = fault_of(fault, system.journal(), closed_passes.as_slice(), ends.as_slice());
     Ended {
         outcome: Outcome {
             system,
-            passes: slips,
+            passes: closed_passes,
             ends,
         },
         fault,
@@ -126,7 +126,7 @@ fn run_at<
     T: Turnstile,
     A: Allocator + Copy + Send + Sync,
     R: Threads + Wait + Sync,
-    L: Opening + Send + Sync,
+    L: DeskName + Send + Sync,
 >(
     rt: &R,
     alloc: A,
@@ -145,17 +145,17 @@ fn run_at<
 {
     let before = system.journal().len() as u64;
     let count = processes.len();
-    let Ok((slips, passes, ends)) = places(alloc, count) else {
+    let Ok((closed_passes, passes, ends)) = places(alloc, count) else {
         return Err(system);
     };
-    let floor = Floor::<L, S>::new(Hall::open(system, blank), count as u64);
-    let worked = work_in_threads(rt, &floor, turnstile, alloc, processes);
-    let hall = floor.into_hall();
+    let monitor = Monitor::<L, S>::new(SharedSystem::open(system, blank), count as u64);
+    let worked = work_in_threads(rt, &monitor, turnstile, alloc, processes);
+    let shared = monitor.into_shared();
     let Ok(worked) = worked else {
-        return Err(hall.close());
+        return Err(shared.close());
     };
     let (passes, ends) = passes_of(worked, passes, ends);
-    Ok(ended(hall, before, passes, slips, ends))
+    Ok(ended(shared, before, passes, closed_passes, ends))
 }
 
 /// Runs each process of the script as [`run`] does, and hands back the receipts and the ends also where they don't agree with the

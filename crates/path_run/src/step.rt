@@ -10,18 +10,18 @@ ghost use Rattle.path_run.specs.Inner.Parts.{Adds, Closes, HasGained};
 
 use crate::enter::enter;
 use crate::entered::Entered;
-use crate::floor::Floor;
+use crate::monitor::Monitor;
 use crate::outcome::End;
 use path_model::{ActId, Attempt, OutOfMemory, Reply, Verb};
 use path_script::Step;
-use path_workers::{Opening, Pass, Steps};
+use path_workers::{DeskName, Pass, Steps};
 use std::alloc::Allocator;
 use std::sync::Wait;
 
 /// Makes an attempt without waiting for a finish. If it is an admitted finish, wakes all that wait.
-pub fn attempt<L: Opening, S: Steps, A: Allocator + Copy, R: Wait>(
+pub fn attempt<L: DeskName, S: Steps, A: Allocator + Copy, R: Wait>(
     rt: &R,
-    floor: &Floor<L, S>,
+    monitor: &Monitor<L, S>,
     pass: &mut Pass<L, A>,
     attempt: Attempt,
 ) -> Result<Reply, OutOfMemory>
@@ -29,18 +29,18 @@ pub fn attempt<L: Opening, S: Steps, A: Allocator + Copy, R: Wait>(
     ensures run { HasGained attempt result pass.old.receipts pass.new.receipts }
     ensures finish { finishes_open attempt pass.old.receipts ≡ true → IsOk result }
 {
-    let mut shift = floor.shift.lock(rt);
-    let reply = shift.attempt(pass, attempt)?;
+    let mut state = monitor.state.lock(rt);
+    let reply = state.attempt(pass, attempt)?;
     if let Reply::Finished = reply {
-        floor.freed.notify_all();
+        monitor.freed.notify_all();
     }
     Ok(reply)
 }
 
 /// Uses the device of an activation.
-fn apply<L: Opening, S: Steps, A: Allocator + Copy, R: Wait>(
+fn apply<L: DeskName, S: Steps, A: Allocator + Copy, R: Wait>(
     rt: &R,
-    floor: &Floor<L, S>,
+    monitor: &Monitor<L, S>,
     pass: &mut Pass<L, A>,
     act: ActId,
     verb: Verb,
@@ -50,7 +50,7 @@ fn apply<L: Opening, S: Steps, A: Allocator + Copy, R: Wait>(
         × MatchResult result (λ _. (held : List Act) → Adds (steps.Apply verb) (act ∷ held) (act ∷ held) gained)
         (λ end. (held : List Act) → Closes (steps.Apply verb) (act ∷ held) end gained) }
 {
-    let Ok(reply) = attempt(rt, floor, pass, Attempt::Apply(act, verb)) else {
+    let Ok(reply) = attempt(rt, monitor, pass, Attempt::Apply(act, verb)) else {
         return Err(End::NoMemory);
     };
     match reply {
@@ -61,9 +61,9 @@ fn apply<L: Opening, S: Steps, A: Allocator + Copy, R: Wait>(
 }
 
 /// Finishes an activation.
-fn leave<L: Opening, S: Steps, A: Allocator + Copy, R: Wait>(
+fn leave<L: DeskName, S: Steps, A: Allocator + Copy, R: Wait>(
     rt: &R,
-    floor: &Floor<L, S>,
+    monitor: &Monitor<L, S>,
     pass: &mut Pass<L, A>,
     act: ActId,
 ) -> Result<(), End>
@@ -72,7 +72,7 @@ fn leave<L: Opening, S: Steps, A: Allocator + Copy, R: Wait>(
         × MatchResult result (λ _. (held : List Act) → Adds steps.Leave (act ∷ held) held gained)
         (λ end. (held : List Act) → Closes steps.Leave (act ∷ held) end gained) }
 {
-    let Ok(reply) = attempt(rt, floor, pass, Attempt::Finish(act)) else {
+    let Ok(reply) = attempt(rt, monitor, pass, Attempt::Finish(act)) else {
         return Err(End::NoMemory);
     };
     match reply {
@@ -83,9 +83,9 @@ fn leave<L: Opening, S: Steps, A: Allocator + Copy, R: Wait>(
 }
 
 /// Takes a step; a use or a leave is of what was entered last.
-pub fn take<L: Opening, S: Steps, A: Allocator + Copy, R: Wait>(
+pub fn take<L: DeskName, S: Steps, A: Allocator + Copy, R: Wait>(
     rt: &R,
-    floor: &Floor<L, S>,
+    monitor: &Monitor<L, S>,
     pass: &mut Pass<L, A>,
     entered: &mut Entered,
     step: Step,
@@ -99,12 +99,12 @@ pub fn take<L: Opening, S: Steps, A: Allocator + Copy, R: Wait>(
 {
     match step {
         Step::Enter(op) => {
-            let act = enter(rt, floor, pass, op)?;
+            let act = enter(rt, monitor, pass, op)?;
             entered.push(act);
         }
-        Step::Apply(verb) => apply(rt, floor, pass, entered.last(), verb)?,
+        Step::Apply(verb) => apply(rt, monitor, pass, entered.last(), verb)?,
         Step::Leave => {
-            leave(rt, floor, pass, entered.last())?;
+            leave(rt, monitor, pass, entered.last())?;
             entered.pop();
         }
     }

@@ -8,20 +8,20 @@ ghost use Rattle.path_run.specs.Runs.{Finishes, IsRun};
 ghost use Rattle.path_run.specs.Inner.Parts.{After};
 
 use crate::entered::Entered;
-use crate::floor::Floor;
+use crate::monitor::Monitor;
 use crate::outcome::End;
 use crate::step::{attempt, take};
 use crate::turnstile::Turnstile;
 use path_model::{Attempt, Reply};
 use path_script::Step;
-use path_workers::{Opening, Pass, Steps};
+use path_workers::{DeskName, Pass, Steps};
 use std::alloc::Allocator;
 use std::sync::Wait;
 
 /// Takes the steps in order, up to the one that ends the process.
-fn take_steps<L: Opening, S: Steps, T: Turnstile, A: Allocator + Copy, R: Wait>(
+fn take_steps<L: DeskName, S: Steps, T: Turnstile, A: Allocator + Copy, R: Wait>(
     rt: &R,
-    floor: &Floor<L, S>,
+    monitor: &Monitor<L, S>,
     turnstile: &T,
     pass: &mut Pass<L, A>,
     entered: &mut Entered,
@@ -37,7 +37,7 @@ fn take_steps<L: Opening, S: Steps, T: Turnstile, A: Allocator + Copy, R: Wait>(
         if !turnstile.before(pass.worker(), place) {
             return End::Stopped;
         }
-        if let Err(end) = take(rt, floor, pass, entered, steps[place as usize]) {
+        if let Err(end) = take(rt, monitor, pass, entered, steps[place as usize]) {
             return end;
         }
     }
@@ -45,9 +45,9 @@ fn take_steps<L: Opening, S: Steps, T: Turnstile, A: Allocator + Copy, R: Wait>(
 }
 
 /// Finishes what was entered and not left, the last first.
-fn finish_all<L: Opening, S: Steps, A: Allocator + Copy, R: Wait>(
+fn finish_all<L: DeskName, S: Steps, A: Allocator + Copy, R: Wait>(
     rt: &R,
-    floor: &Floor<L, S>,
+    monitor: &Monitor<L, S>,
     pass: &mut Pass<L, A>,
     mut entered: Entered,
 )
@@ -55,7 +55,7 @@ fn finish_all<L: Opening, S: Steps, A: Allocator + Copy, R: Wait>(
     ensures run { (gained : List Note) × (pass.new.receipts ≡ pass.old.receipts ++ gained) × Finishes entered gained }
 {
     while let Some(act) = entered.pop() {
-        match attempt(rt, floor, pass, Attempt::Finish(act)) {
+        match attempt(rt, monitor, pass, Attempt::Finish(act)) {
             Ok(Reply::NoRoom) | Err(_) => return,
             Ok(_) => {}
         }
@@ -74,9 +74,9 @@ fn gives_up(end: End) -> bool
 }
 
 /// Takes the steps, up to the one that ends the process; then, unless it stalled, finishes what it had entered and not left.
-pub fn work<L: Opening, S: Steps, T: Turnstile, A: Allocator + Copy, R: Wait>(
+pub fn work<L: DeskName, S: Steps, T: Turnstile, A: Allocator + Copy, R: Wait>(
     rt: &R,
-    floor: &Floor<L, S>,
+    monitor: &Monitor<L, S>,
     turnstile: &T,
     pass: &mut Pass<L, A>,
     steps: &[Step],
@@ -88,9 +88,9 @@ pub fn work<L: Opening, S: Steps, T: Turnstile, A: Allocator + Copy, R: Wait>(
     ensures run { IsRun steps.now [] pass.new.receipts result }
 {
     let mut entered = Entered::none();
-    let end = take_steps(rt, floor, turnstile, pass, &mut entered, steps);
+    let end = take_steps(rt, monitor, turnstile, pass, &mut entered, steps);
     if gives_up(end) {
-        finish_all(rt, floor, pass, entered);
+        finish_all(rt, monitor, pass, entered);
     }
     end
 }

@@ -8,10 +8,10 @@ ghost use Rattle.path_workers.specs.Settled.{IsSettled};
 ghost use Rattle.path_workers.specs.Faults.{IsFault};
 
 use crate::answer::Answer;
-use crate::hall::Hall;
-use crate::opening::Opening;
+use crate::desk_name::DeskName;
 use crate::pass::Pass;
 use crate::settle::{SettleFault, Settled, compared};
+use crate::shared::SharedSystem;
 use crate::steps::Steps;
 use path_model::{Attempt, OutOfMemory};
 use std::alloc::Allocator;
@@ -25,12 +25,12 @@ use std::sync::{Mutex, Wait};
 /// lines the system had when the desk was opened. Whatever the threads do, there is one system under the lock, so its journal is
 /// honest whenever the lock is free. A desk may be shared among threads if its system may be sent to one.
 #[derive(Drop)]
-pub struct Desk<L: Opening, S: Steps> {
-    hall: Mutex<Hall<L, S>>,
+pub struct Desk<L: DeskName, S: Steps> {
+    shared: Mutex<SharedSystem<L, S>>,
     before: u64,
 }
 
-impl<L: Opening, S: Steps> Model for Desk<L, S> {
+impl<L: DeskName, S: Steps> Model for Desk<L, S> {
     ghost use Rattle.std.specs.Prelude.{◌≡◌, ℕ, length};
 
     ghost Value = { ℕ };
@@ -40,7 +40,7 @@ impl<L: Opening, S: Steps> Model for Desk<L, S> {
     ghost invariant = { λ d. d.before ≡ length L.opened.journal };
 }
 
-impl<L: Opening, S: Steps> Desk<L, S> {
+impl<L: DeskName, S: Steps> Desk<L, S> {
     /// Opens a desk over the system as it is now. The lines that it has already need no receipts.
     ///
     /// The blank must be a new one with `u64::MAX` parts: `Blank::new(u64::MAX)`. It names the desk. Neither it nor this call
@@ -53,7 +53,7 @@ impl<L: Opening, S: Steps> Desk<L, S> {
     {
         let before = system.journal().len() as u64;
         Desk {
-            hall: Mutex::new(Hall::open(system, blank)),
+            shared: Mutex::new(SharedSystem::open(system, blank)),
             before,
         }
     }
@@ -90,7 +90,7 @@ impl<L: Opening, S: Steps> Desk<L, S> {
         ensures finish { finishes_open attempt pass.old.receipts ≡ true → IsOk result }
     {
         pass.reserve(attempt)?;
-        pass.make(&mut self.hall.lock(rt), attempt)
+        pass.make(&mut self.shared.lock(rt), attempt)
     }
 
     /// Closes the desk, and compares the lines since it was opened with the receipts of these passes, which may be of any desk.
@@ -111,7 +111,7 @@ impl<L: Opening, S: Steps> Desk<L, S> {
         ensures settled { IfOk result (λ s. IsSettled self (S.account s.system).journal passes.items) }
         ensures fault { IfErr result (λ e. IsFault self (S.account e.1).journal passes.items e.0) }
     {
-        let Desk { hall, before } = self;
-        compared(hall.into_inner().close(), before, passes)
+        let Desk { shared, before } = self;
+        compared(shared.into_inner().close(), before, passes)
     }
 }

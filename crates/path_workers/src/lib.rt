@@ -5,25 +5,25 @@
 #![tactic(auto)]
 
 mod answer;
+mod closed_pass;
 mod closing;
 mod copy;
 mod desk;
-mod hall;
+mod desk_name;
 mod merge;
-mod opening;
 mod order;
+mod own_lines;
 mod pass;
 mod settle;
-mod slip;
-mod stake;
+mod shared;
 mod steps;
 
 pub use answer::{Answer, Receipt};
+pub use closed_pass::ClosedPass;
 pub use closing::{Closed, settle_own};
 pub use desk::Desk;
-pub use hall::Hall;
-pub use opening::Opening;
+pub use desk_name::DeskName;
 pub use pass::Pass;
 pub use settle::{SettleFault, Settled};
-pub use slip::Slip;
+pub use shared::SharedSystem;
 pub use steps::Steps;

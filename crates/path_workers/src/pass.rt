@@ -8,13 +8,13 @@ ghost use Rattle.path_workers.specs.Inner.Holdings.{open_then, opens, places_for
 ghost use Rattle.path_workers.specs.Settled.{copies_in};
 
 use crate::answer::{Answer, Receipt};
+use crate::closed_pass::ClosedPass;
 use crate::copy::{copies_among, copies_found, is_copy_of};
-use crate::hall::Hall;
+use crate::desk_name::DeskName;
 use crate::merge::Slot;
-use crate::opening::Opening;
 use crate::order::Order;
-use crate::slip::Slip;
-use crate::stake::Stake;
+use crate::own_lines::OwnLines;
+use crate::shared::SharedSystem;
 use crate::steps::Steps;
 use path_model::{ActId, Attempt, Line, OutOfMemory, Reply};
 use std::alloc::{Allocator, Global};
@@ -32,7 +32,7 @@ pub struct Pass<L: Ledger, A: Allocator + Copy = Global> {
     /// How many receipts are those of admitted starts.
     starts: usize,
     order: Order,
-    stake: Stake<L>,
+    own_lines: OwnLines<L>,
     /// How many receipts the walk of a settlement has passed, and a slot of its heap.
     met: usize,
     slot: Slot,
@@ -47,7 +47,7 @@ impl<L: Ledger, A: Allocator + Copy> Model for Pass<L, A> {
 
     ghost view = { λ p. record { worker = p.worker; receipts = p.receipts.items } };
 
-    ghost invariant = { λ p. IsKept p.stake p.receipts.items (vec_capacity p.receipts) p.starts p.order.rises p.order.end };
+    ghost invariant = { λ p. IsKept p.own_lines p.receipts.items (vec_capacity p.receipts) p.starts p.order.rises p.order.end };
 }
 
 impl<L: Ledger, A: Allocator + Copy> Pass<L, A> {
@@ -60,7 +60,7 @@ impl<L: Ledger, A: Allocator + Copy> Pass<L, A> {
             receipts: Vec::new(alloc),
             starts: 0,
             order: Order::new(),
-            stake: Stake::none(),
+            own_lines: OwnLines::none(),
             met: 0,
             slot: Slot { pass: 0, next: 0 },
         }
@@ -147,30 +147,30 @@ impl<L: Ledger, A: Allocator + Copy> Pass<L, A> {
         take_places(&mut self.receipts, self.starts, attempt)
     }
 
-    /// The receipts without the desk, and the stake.
-    pub(crate) fn into_slip(self) -> (Slip<A>, Stake<L>)
-        ensures slip { result.0 ≡ self }
-        ensures stake { result.1 ≡ length self.receipts }
+    /// The receipts without the desk, and the number of its own lines.
+    pub(crate) fn into_closed(self) -> (ClosedPass<A>, OwnLines<L>)
+        ensures closed_pass { result.0 ≡ self }
+        ensures own_lines { result.1 ≡ length self.receipts }
     {
         let Pass {
             worker,
             receipts,
             starts: _,
             order: _,
-            stake,
+            own_lines,
             met: _,
             slot: _,
         } = self;
-        (Slip::new(worker, receipts), stake)
+        (ClosedPass::new(worker, receipts), own_lines)
     }
 }
 
-impl<L: Opening, A: Allocator + Copy> Pass<L, A> {
+impl<L: DeskName, A: Allocator + Copy> Pass<L, A> {
     /// Reserves memory for the receipts, and then makes one step while the caller holds the lock. Fails only if allocation fails. Waits
     /// for nobody.
     pub fn make<S: Steps>(
         &mut self,
-        hall: &mut Hall<L, S>,
+        shared: &mut SharedSystem<L, S>,
         attempt: Attempt,
     ) -> Result<Answer, OutOfMemory>
         ensures worker { self.new.worker ≡ self.old.worker }
@@ -182,7 +182,7 @@ impl<L: Opening, A: Allocator + Copy> Pass<L, A> {
         ensures finish { finishes_open attempt self.old.receipts ≡ true → IsOk result }
     {
         take_places(&mut self.receipts, self.starts, attempt)?;
-        let answer = hall.stamp(&mut self.receipts, &mut self.stake, self.worker, attempt);
+        let answer = shared.stamp(&mut self.receipts, &mut self.own_lines, self.worker, attempt);
         self.starts += started(answer.reply);
         self.order = self.order.then(answer.place);
         Ok(answer)

@@ -4,5 +4,5 @@ use Rattle.example_desk.proofs.served.Given as goal
 abbrev pub ghosts-served_by_two-L-Ledger : goal.ghosts-served_by_two-L-Ledger
 ghosts-served_by_two-L-Ledger g a = record { name = a.blank.name; parts = a.blank.parts }
 
-abbrev pub ghosts-served_by_two-L-Opening : goal.ghosts-served_by_two-L-Opening
-ghosts-served_by_two-L-Opening g a = record { opened = a.system }
+abbrev pub ghosts-served_by_two-L-DeskName : goal.ghosts-served_by_two-L-DeskName
+ghosts-served_by_two-L-DeskName g a = record { opened = a.system }

@@ -11,8 +11,8 @@ use Rattle.path_script.specs.declared.script.Step.{Step}
 use Rattle.path_script.specs.declared.script.Step.TheVariants.{Enter}
 use Rattle.path_run.specs.declared.outcome.End.{End}
 use Rattle.path_run.specs.declared.outcome.End.TheVariants as ends
-use Rattle.path_run.specs.declared.floor.Admission.{Admission}
-use Rattle.path_run.specs.declared.floor.Admission.TheVariants as admissions
+use Rattle.path_run.specs.declared.monitor.Admission.{Admission}
+use Rattle.path_run.specs.declared.monitor.Admission.TheVariants as admissions
 use Rattle.path_run.specs.declared.enter.Tried.{Tried}
 use Rattle.path_run.specs.declared.enter.Tried.TheVariants as tries
 use Rattle.path_run.specs.Runs.{note, Finishes, IsRun}

@@ -26,7 +26,7 @@ pub record IsCounted (b : ℕ) (journal : List Line) (count total parts amount :
   pub unclaimed : amount ≡ 0
 
 -- what lies under the lock of a desk that was opened so
-pub record IsHallOf (opened account : Account) (count total parts amount : ℕ) : Type 0 where
+pub record IsSharedBy (opened account : Account) (count total parts amount : ℕ) : Type 0 where
   pub later : IsLater opened account
   pub counted : IsCounted (length opened.journal) account.journal count total parts amount
 
@@ -53,9 +53,10 @@ abbrev pub Rise : ℕ → List Receipt → ℕ → Type 0
 Rise low [] end = low ≤ end
 Rise low (r ∷ rs) end = (low ≤ r.place) × Rise (r.place + 1) rs end
 
--- of a pass: its stake, its receipts with their capacity, how many starts they have, whether their places rise, and up to which end
-pub record IsKept (stake : ℕ) (receipts : List Receipt) (capacity starts : ℕ) (rises : Bool) (end : ℕ) : Type 0 where
-  pub stake_is : stake ≡ length receipts
+-- of a pass: the number of its own lines, its receipts with their capacity, how many starts they have, whether their places rise, and up
+-- to which end
+pub record IsKept (own_lines : ℕ) (receipts : List Receipt) (capacity starts : ℕ) (rises : Bool) (end : ℕ) : Type 0 where
+  pub own_lines_are : own_lines ≡ length receipts
   pub reserved : length receipts + open_count receipts ≤ capacity
   pub owed : open_count receipts ≤ starts
   pub counted : starts ≤ length receipts

@@ -7,4 +7,4 @@ use Rattle.path_run.proofs.lines.first_disorder.Given as goal
 
 abbrev pub invariant-loop-i : goal.invariant-loop-i
 invariant-loop-i g l = (i : ℕ) (h : Held) (e : End) → i < l.i
-    → AreInOrder l.journal (slice_index_or l.slips i h).receipts × IsCurrent l.journal (slice_index_or l.slips i h).receipts (slice_index_or l.ends i e)
+    → AreInOrder l.journal (slice_index_or l.closed_passes i h).receipts × IsCurrent l.journal (slice_index_or l.closed_passes i h).receipts (slice_index_or l.ends i e)

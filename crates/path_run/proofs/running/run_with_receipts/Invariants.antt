@@ -4,5 +4,5 @@ use Rattle.path_run.proofs.running.run_with_receipts.Given as goal
 abbrev pub ghosts-run_at-L-Ledger : goal.ghosts-run_at-L-Ledger
 ghosts-run_at-L-Ledger g a = record { name = a.blank.name; parts = a.blank.parts }
 
-abbrev pub ghosts-run_at-L-Opening : goal.ghosts-run_at-L-Opening
-ghosts-run_at-L-Opening g a = record { opened = g.S.Steps.account a.system }
+abbrev pub ghosts-run_at-L-DeskName : goal.ghosts-run_at-L-DeskName
+ghosts-run_at-L-DeskName g a = record { opened = g.S.Steps.account a.system }

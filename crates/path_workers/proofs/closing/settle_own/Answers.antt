@@ -17,15 +17,15 @@ few b lines hs (Mismatch p) is le = tt
 
 pub returns-in-Err-clause-few : goal.returns-in-Err-clause-few
 returns-in-Err-clause-few g c =
-    let slips = c.to_slips-slips in
+    let closed_passes = c.close_all-closed_passes in
     let held : List Held = c.check-verdict.new.passes in
     let here : held ≡ c.args.passes.items = c.in-Err.ensures.same ∙ c.as_mut_slice.ensures.value in
     let count : c.args.passes.len ≡ length held = sym c.as_mut_slice.ensures.len ∙ ap length (sym c.in-Err.ensures.same) in
     let after : List Held = drop (length held) c.args.passes.items in
-    let same : slips.result.0.items ≡ c.args.passes.items = slips.ensures.items ∙ ap (λ (n : ℕ). take n (held ++ after)) count ∙ take-append_seam held after ∙ here in
-    let total : slips.result.1 ≡ receipts_of c.args.passes.items = slips.ensures.stake ∙ ap receipts_of (sym slips.ensures.items ∙ same) in
+    let same : closed_passes.result.0.items ≡ c.args.passes.items = closed_passes.ensures.items ∙ ap (λ (n : ℕ). take n (held ++ after)) count ∙ take-append_seam held after ∙ here in
+    let total : closed_passes.result.1 ≡ receipts_of c.args.passes.items = closed_passes.ensures.own_lines ∙ ap receipts_of (sym closed_passes.ensures.items ∙ same) in
     let most = c.close_with-system.ensures.few in
-    few c.args.before c.args.hall.journal c.args.passes.items c.in-Err.fault (search rules) (omega (arith, total, most, c.requires.before))
+    few c.args.before c.args.shared.journal c.args.passes.items c.in-Err.fault (search rules) (omega (arith, total, most, c.requires.before))
 
 pub journal-requires : goal.journal-requires
 journal-requires g c κs = λ within. within
@@ -46,10 +46,10 @@ pub returns-in-Err-clause-settled : goal.returns-in-Err-clause-settled
 returns-in-Err-clause-settled g c = tt
 
 pub returns-in-Ok-clause-system : goal.returns-in-Ok-clause-system
-returns-in-Ok-clause-system g c = subst (λ (a : Account). IsLater g.L.Opening.opened a) (sym c.close_with-system.ensures.system) c.close_with-system.ensures.later
+returns-in-Ok-clause-system g c = subst (λ (a : Account). IsLater g.L.DeskName.opened a) (sym c.close_with-system.ensures.system) c.close_with-system.ensures.later
 
 pub returns-in-Err-clause-system : goal.returns-in-Err-clause-system
-returns-in-Err-clause-system g c = subst (λ (a : Account). IsLater g.L.Opening.opened a) (sym c.close_with-system.ensures.system) c.close_with-system.ensures.later
+returns-in-Err-clause-system g c = subst (λ (a : Account). IsLater g.L.DeskName.opened a) (sym c.close_with-system.ensures.system) c.close_with-system.ensures.later
 
 pub returns-in-Ok-clause-settled : goal.returns-in-Ok-clause-settled
 returns-in-Ok-clause-settled g c =

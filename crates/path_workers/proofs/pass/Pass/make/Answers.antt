@@ -21,7 +21,7 @@ stamp-answer-requires g c =
 pub invariant_of-self-2 : goal.invariant_of-self-2
 invariant_of-self-2 g c =
     let i = c.self.inside in
-    let h = c.args.hall.now in
+    let h = c.args.shared.now in
     let q = c.stamp-answer.result.reply in
     let s = c.stamp-answer.ensures in
     let cap : ℕ = vec_capacity c.take_places.new.receipts in
@@ -34,7 +34,7 @@ invariant_of-self-2 g c =
     let rising = rises_then i.receipts.items i.order.rises i.order.end c.args.attempt c.stamp-answer.result.place q c.then-self-inside.result.rises c.then-self-inside.result.end c.self.invariant.rising
     c.then-self-inside.ensures.none c.then-self-inside.ensures.end c.then-self-inside.ensures.rises in
     record {
-      stake_is = omega arith;
+      own_lines_are = omega arith;
       reserved = omega arith;
       owed = omega arith;
       counted = omega arith;
@@ -43,5 +43,5 @@ invariant_of-self-2 g c =
 
 pub returns-clause-kind : goal.returns-clause-kind
 returns-clause-kind g c =
-    let h = c.args.hall.now in
+    let h = c.args.shared.now in
     gets_behind h.declaration h.room h.openings (joined h.earlier) h.journal c.self.inside.worker c.args.attempt c.stamp-answer.result.reply c.stamp-answer.ensures.owed

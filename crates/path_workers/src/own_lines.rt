@@ -9,11 +9,11 @@ use std::sync::ledger::{Book, Ledger, Share};
 ///
 /// A share takes no bytes at run time. It rises only together with the count under the lock.
 #[derive(Drop)]
-pub struct Stake<L: Ledger> {
+pub struct OwnLines<L: Ledger> {
     share: Option<Share<L>>,
 }
 
-impl<L: Ledger> Model for Stake<L> {
+impl<L: Ledger> Model for OwnLines<L> {
     ghost use Rattle.std.specs.Prelude.{◌≡◌, ℕ};
     ghost use Rattle.path_workers.specs.Inner.Holdings.{amount_or_none};
 
@@ -24,17 +24,17 @@ impl<L: Ledger> Model for Stake<L> {
     ghost invariant = { λ s. amount_or_none (λ t. t.parts) s.share ≡ amount_or_none (λ t. t.amount) s.share };
 }
 
-impl<L: Ledger> Stake<L> {
-    pub fn none() -> Stake<L>
+impl<L: Ledger> OwnLines<L> {
+    pub fn none() -> OwnLines<L>
         ensures { result ≡ 0 }
     {
-        Stake { share: None }
+        OwnLines { share: None }
     }
 
-    /// Adds one line, to the book and to this stake.
+    /// Adds one line, to the book and to these.
     pub fn gain(&mut self, book: &mut Book<L>, rest: &mut Share<L>)
         requires { (1 < rest.old.parts) × (rest.old.amount ≡ 0) }
-        ensures stake { self.new ≡ self.old + 1 }
+        ensures own_lines { self.new ≡ self.old + 1 }
         ensures total { book.new.total ≡ book.old.total + 1 }
         ensures parts { rest.new.parts + 1 ≡ rest.old.parts }
         ensures rest { rest.new.amount ≡ 0 }
@@ -50,28 +50,28 @@ impl<L: Ledger> Stake<L> {
         }
     }
 
-    /// The sum of both stakes.
-    pub fn merge(self, other: Stake<L>) -> Stake<L>
+    /// The sum of both.
+    pub fn merge(self, other: OwnLines<L>) -> OwnLines<L>
         ensures { result ≡ self + other }
     {
-        let Stake { share: mine } = self;
-        let Stake { share: theirs } = other;
+        let OwnLines { share: mine } = self;
+        let OwnLines { share: theirs } = other;
         match (mine, theirs) {
             (Some(mut share), Some(part)) => {
                 share.merge(part);
-                Stake { share: Some(share) }
+                OwnLines { share: Some(share) }
             }
-            (None, theirs) => Stake { share: theirs },
-            (mine, None) => Stake { share: mine },
+            (None, theirs) => OwnLines { share: theirs },
+            (mine, None) => OwnLines { share: mine },
         }
     }
 
-    /// Shows that the stake is at most the book's total. Nothing changes.
+    /// Shows that these are at most the book's total. Nothing changes.
     pub fn audit(self, book: &mut Book<L>)
         ensures bound { self ≤ book.old.total }
         ensures total { book.new.total ≡ book.old.total }
     {
-        let Stake { share } = self;
+        let OwnLines { share } = self;
         if let Some(mut share) = share {
             book.audit(&mut share);
         }

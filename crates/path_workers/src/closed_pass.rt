@@ -8,12 +8,12 @@ use std::marker::Model;
 
 /// The receipts of one worker after its desk is closed. Contracts see the worker and the receipts, as of a pass.
 #[derive(Drop)]
-pub struct Slip<A: Allocator + Copy = Global> {
+pub struct ClosedPass<A: Allocator + Copy = Global> {
     worker: u32,
     receipts: Vec<Receipt, A>,
 }
 
-impl<A: Allocator + Copy> Model for Slip<A> {
+impl<A: Allocator + Copy> Model for ClosedPass<A> {
     ghost use Rattle.path_workers.specs.Attempts.{Held};
 
     ghost Value = { Held };
@@ -21,11 +21,11 @@ impl<A: Allocator + Copy> Model for Slip<A> {
     ghost view = { λ s. record { worker = s.worker; receipts = s.receipts.items } };
 }
 
-impl<A: Allocator + Copy> Slip<A> {
-    pub(crate) fn new(worker: u32, receipts: Vec<Receipt, A>) -> Slip<A>
+impl<A: Allocator + Copy> ClosedPass<A> {
+    pub(crate) fn new(worker: u32, receipts: Vec<Receipt, A>) -> ClosedPass<A>
         ensures { (result.worker ≡ worker) × (result.receipts ≡ receipts.items) }
     {
-        Slip { worker, receipts }
+        ClosedPass { worker, receipts }
     }
 
     /// All receipts, in the order of the attempts.

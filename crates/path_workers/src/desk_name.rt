@@ -10,10 +10,10 @@ use std::sync::ledger::Ledger;
 ///
 /// A function that opens a desk is generic in the name, and is called with [`Brand`]: the proof of that call says which desk is
 /// meant. That is how contracts distinguish the passes of one desk from those of another. It doesn't exist at run time.
-pub trait Opening: Ledger {
+pub trait DeskName: Ledger {
     ghost opened: { Account };
 }
 
-impl Opening for Brand {
+impl DeskName for Brand {
     ghost opened = { account_of (record { resources = []; operations = []; paths = [] }) 0 [] };
 }

@@ -2,7 +2,7 @@
 use Rattle.path_script.specs.declared.script.Step.TheVariants.{Enter}
 use Rattle.path_model.specs.declared.journal.Attempt.TheVariants.{Start}
 use Rattle.path_run.proofs.Taking.{entered_adds, blocked_tries, stalled_closes, memory_closes, room_closes, enter_fault}
-use Rattle.path_run.proofs.floor.Shift.start.Goals as goal
+use Rattle.path_run.proofs.monitor.RunState.start.Goals as goal
 
 pub returns-in_default-clause-run : goal.returns-in_default-clause-run
 returns-in_default-clause-run g c =

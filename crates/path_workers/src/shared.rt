@@ -7,8 +7,8 @@ ghost use Rattle.path_workers.specs.Attempts.{lines_of, place_of, receipts_then}
 ghost use Rattle.path_workers.specs.Later.{IsLater};
 
 use crate::answer::{Answer, Receipt};
-use crate::opening::Opening;
-use crate::stake::Stake;
+use crate::desk_name::DeskName;
+use crate::own_lines::OwnLines;
 use crate::steps::Steps;
 use path_model::{Attempt, Line, Reply};
 use std::alloc::Allocator;
@@ -17,18 +17,18 @@ use std::sync::ledger::{Blank, Book, Share};
 
 /// What is under the lock: the system, and the count of its lines since the desk was opened. Contracts see the system's account.
 #[derive(Drop)]
-pub struct Hall<L: Opening, S: Steps> {
+pub struct SharedSystem<L: DeskName, S: Steps> {
     system: S,
     count: u64,
     book: Book<L>,
     rest: Share<L>,
 }
 
-impl<L: Opening, S: Steps> Model for Hall<L, S> {
+impl<L: DeskName, S: Steps> Model for SharedSystem<L, S> {
     ghost use Rattle.std.specs.Coded.{codes};
     ghost use Rattle.path_decl.specs.Stored.{declaration_code};
     ghost use Rattle.path_system.specs.Accounts.{Account};
-    ghost use Rattle.path_workers.specs.Inner.Holdings.{IsHallOf};
+    ghost use Rattle.path_workers.specs.Inner.Holdings.{IsSharedBy};
 
     ghost Value = { Account };
 
@@ -36,19 +36,19 @@ impl<L: Opening, S: Steps> Model for Hall<L, S> {
 
     ghost view = { λ h. S.account h.system };
 
-    ghost invariant = { λ h. IsHallOf L.opened (S.account h.system) h.count h.book.total h.rest.parts h.rest.amount };
+    ghost invariant = { λ h. IsSharedBy L.opened (S.account h.system) h.count h.book.total h.rest.parts h.rest.amount };
 }
 
-impl<L: Opening, S: Steps> Hall<L, S> {
-    /// A hall over the system as it is now.
-    pub fn open(system: S, blank: Blank) -> Hall<L, S>
+impl<L: DeskName, S: Steps> SharedSystem<L, S> {
+    /// What is shared, over the system as it is now.
+    pub fn open(system: S, blank: Blank) -> SharedSystem<L, S>
         requires name { blank.name ≡ L.name }
         requires parts { (blank.parts ≡ L.parts) × (blank.parts ≡ 18446744073709551615) }
         requires opened { S.account system ≡ L.opened }
         ensures { result ≡ S.account system }
     {
         let (book, rest) = blank.open::<L>();
-        Hall {
+        SharedSystem {
             system,
             count: 0,
             book,
@@ -61,7 +61,7 @@ impl<L: Opening, S: Steps> Hall<L, S> {
         ensures system { S.account result ≡ self }
         ensures later { IsLater L.opened self }
     {
-        let Hall {
+        let SharedSystem {
             system,
             count: _,
             book: _,
@@ -77,27 +77,27 @@ impl<L: Opening, S: Steps> Hall<L, S> {
         self.system.journal()
     }
 
-    /// Closes the hall and returns the system. A stake of this desk is at most the number of lines since the desk was opened.
-    pub(crate) fn close_with(self, stake: Stake<L>) -> S
+    /// Returns the system. The own lines of a pass of this desk are at most as many as the lines since the desk was opened.
+    pub(crate) fn close_with(self, own_lines: OwnLines<L>) -> S
         ensures system { S.account result ≡ self }
         ensures later { IsLater L.opened self }
-        ensures few { stake + length L.opened.journal ≤ length self.journal }
+        ensures few { own_lines + length L.opened.journal ≤ length self.journal }
     {
-        let Hall {
+        let SharedSystem {
             system,
             count: _,
             mut book,
             rest: _,
         } = self;
-        stake.audit(&mut book);
+        own_lines.audit(&mut book);
         system
     }
 
-    /// Makes one step. If the journal gains a line, so does the stake, and its receipt is appended.
+    /// Makes one step. If the journal gains a line, so do the pass's own lines, and its receipt is appended.
     pub(crate) fn stamp<A: Allocator + Copy>(
         &mut self,
         receipts: &mut Vec<Receipt, A>,
-        stake: &mut Stake<L>,
+        own_lines: &mut OwnLines<L>,
         worker: u32,
         attempt: Attempt,
     ) -> Answer
@@ -112,7 +112,7 @@ impl<L: Opening, S: Steps> Hall<L, S> {
         ensures receipts { receipts.new.items ≡ receipts_then receipts.old.items attempt result.place result.reply }
         ensures capacity { vec_capacity receipts.new ≡ vec_capacity receipts.old }
         ensures len { vec_len receipts.new ≡ vec_len receipts.old + lines_of result.reply }
-        ensures stake { stake.new ≡ stake.old + lines_of result.reply }
+        ensures own_lines { own_lines.new ≡ own_lines.old + lines_of result.reply }
         ensures here { IfSome result.place (λ p. (length L.opened.journal ≤ p) × (p < 2 ^ 63)) }
     {
         let place = self.system.journal().len() as u64;
@@ -120,7 +120,7 @@ impl<L: Opening, S: Steps> Hall<L, S> {
         if let Reply::NoRoom = reply {
             return Answer { place: None, reply };
         }
-        stake.gain(&mut self.book, &mut self.rest);
+        own_lines.gain(&mut self.book, &mut self.rest);
         self.count += 1;
         receipts.push_reserved(Receipt {
             place,

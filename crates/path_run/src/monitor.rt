@@ -8,7 +8,7 @@ ghost use Rattle.path_run.specs.Waiting.{IsMarked};
 
 use crate::outcome::End;
 use path_model::{ActId, Attempt, OpId, OutOfMemory, Reply};
-use path_workers::{Hall, Opening, Pass, Steps};
+use path_workers::{DeskName, Pass, SharedSystem, Steps};
 use std::alloc::Allocator;
 use std::sync::{Condvar, Mutex, Wait};
 
@@ -24,8 +24,8 @@ pub enum Admission {
 
 /// What is under the lock: the system, and how many processes wait.
 #[derive(Drop)]
-pub struct Shift<L: Opening, S: Steps> {
-    hall: Hall<L, S>,
+pub struct RunState<L: DeskName, S: Steps> {
+    shared: SharedSystem<L, S>,
     /// How many finishes were admitted.
     pub finishes: u64,
     /// How many processes wait; each has tried since the last admitted finish.
@@ -36,14 +36,14 @@ pub struct Shift<L: Opening, S: Steps> {
     pub stalled: bool,
 }
 
-impl<L: Opening, S: Steps> Shift<L, S> {
-    /// A shift of `processes` processes, none of which waits.
-    fn new(hall: Hall<L, S>, processes: u64) -> Shift<L, S>
-        ensures hall { result.hall ≡ hall }
+impl<L: DeskName, S: Steps> RunState<L, S> {
+    /// The state of a run of `processes` processes, none of which waits.
+    fn new(shared: SharedSystem<L, S>, processes: u64) -> RunState<L, S>
+        ensures shared { result.shared ≡ shared }
         ensures left { (result.left ≡ processes) × (result.waiting ≡ 0) × (result.stalled ≡ false) }
     {
-        Shift {
-            hall,
+        RunState {
+            shared,
             finishes: 0,
             waiting: 0,
             left: processes,
@@ -52,7 +52,7 @@ impl<L: Opening, S: Steps> Shift<L, S> {
     }
 
     /// Makes one attempt. The pass gains its receipt, or none for `NoRoom`. Fails only if allocation fails.
-    fn told<A: Allocator + Copy>(
+    fn make_attempt<A: Allocator + Copy>(
         &mut self,
         pass: &mut Pass<L, A>,
         attempt: Attempt,
@@ -63,7 +63,7 @@ impl<L: Opening, S: Steps> Shift<L, S> {
         ensures run { HasGained attempt result pass.old.receipts pass.new.receipts }
         ensures finish { finishes_open attempt pass.old.receipts ≡ true → IsOk result }
     {
-        let answer = pass.make(&mut self.hall, attempt)?;
+        let answer = pass.make(&mut self.shared, attempt)?;
         Ok(answer.reply)
     }
 
@@ -79,7 +79,7 @@ impl<L: Opening, S: Steps> Shift<L, S> {
         ensures run { HasGained attempt result pass.old.receipts pass.new.receipts }
         ensures finish { finishes_open attempt pass.old.receipts ≡ true → IsOk result }
     {
-        let reply = self.told(pass, attempt)?;
+        let reply = self.make_attempt(pass, attempt)?;
         if let Reply::Finished = reply {
             self.finish_one();
         }
@@ -95,7 +95,7 @@ impl<L: Opening, S: Steps> Shift<L, S> {
         ensures worker { pass.new.worker ≡ pass.old.worker }
         ensures run { (gained : List Note) × (pass.new.receipts ≡ pass.old.receipts ++ gained) × HasBegun op gained result }
     {
-        let Ok(reply) = self.told(pass, Attempt::Start(op)) else {
+        let Ok(reply) = self.make_attempt(pass, Attempt::Start(op)) else {
             return Admission::Ended(End::NoMemory);
         };
         match reply {
@@ -111,7 +111,7 @@ impl<L: Opening, S: Steps> Shift<L, S> {
 
     /// One more process waits for a finish.
     fn wait_one(&mut self)
-        ensures same { (self.new.hall ≡ self.old.hall) × (self.new.finishes ≡ self.old.finishes) × (self.new.left ≡ self.old.left) }
+        ensures same { (self.new.shared ≡ self.old.shared) × (self.new.finishes ≡ self.old.finishes) × (self.new.left ≡ self.old.left) }
         ensures waiting { self.new.waiting ≡ min 18446744073709551615 (self.old.waiting + 1) }
         ensures stalled { IsMarked self.old.stalled self.new.waiting self.new.left self.new.stalled }
     {
@@ -121,7 +121,8 @@ impl<L: Opening, S: Steps> Shift<L, S> {
 
     /// One more process has ended.
     fn end_one(&mut self)
-        ensures same { (self.new.hall ≡ self.old.hall) × (self.new.finishes ≡ self.old.finishes) × (self.new.waiting ≡ self.old.waiting) }
+        ensures same { (self.new.shared ≡ self.old.shared) × (self.new.finishes ≡ self.old.finishes)
+            × (self.new.waiting ≡ self.old.waiting) }
         ensures left { self.new.left ≡ self.old.left - 1 }
         ensures stalled { IsMarked self.old.stalled self.new.waiting self.new.left self.new.stalled }
     {
@@ -131,7 +132,7 @@ impl<L: Opening, S: Steps> Shift<L, S> {
 
     /// A finish was admitted, so nobody waits for one any more.
     fn finish_one(&mut self)
-        ensures same { (self.new.hall ≡ self.old.hall) × (self.new.left ≡ self.old.left) × (self.new.stalled ≡ self.old.stalled) }
+        ensures same { (self.new.shared ≡ self.old.shared) × (self.new.left ≡ self.old.left) × (self.new.stalled ≡ self.old.stalled) }
         ensures finishes { self.new.finishes ≢ self.old.finishes }
         ensures waiting { self.new.waiting ≡ 0 }
     {
@@ -141,7 +142,7 @@ impl<L: Opening, S: Steps> Shift<L, S> {
 
     /// Sets `stalled` if somebody hasn't ended and each that hasn't waits.
     fn mark(&mut self)
-        ensures same { (self.new.hall ≡ self.old.hall) × (self.new.finishes ≡ self.old.finishes) × (self.new.waiting ≡ self.old.waiting)
+        ensures same { (self.new.shared ≡ self.old.shared) × (self.new.finishes ≡ self.old.finishes) × (self.new.waiting ≡ self.old.waiting)
             × (self.new.left ≡ self.old.left) }
         ensures stalled { IsMarked self.old.stalled self.old.waiting self.old.left self.new.stalled }
     {
@@ -150,45 +151,45 @@ impl<L: Opening, S: Steps> Shift<L, S> {
         }
     }
 
-    /// The hall, after all processes have ended.
-    pub fn into_hall(self) -> Hall<L, S>
-        ensures { result ≡ self.hall }
+    /// The shared system, after all processes have ended.
+    pub fn into_shared(self) -> SharedSystem<L, S>
+        ensures { result ≡ self.shared }
     {
-        let Shift {
-            hall,
+        let RunState {
+            shared,
             finishes: _,
             waiting: _,
             left: _,
             stalled: _,
         } = self;
-        hall
+        shared
     }
 }
 
 /// The lock, and the condition on which processes wait for a finish.
-pub struct Floor<L: Opening, S: Steps> {
-    pub shift: Mutex<Shift<L, S>>,
+pub struct Monitor<L: DeskName, S: Steps> {
+    pub state: Mutex<RunState<L, S>>,
     pub freed: Condvar,
 }
 
-impl<L: Opening, S: Steps> Floor<L, S> {
-    /// A floor for `processes` processes.
-    pub fn new(hall: Hall<L, S>, processes: u64) -> Floor<L, S> {
-        Floor {
-            shift: Mutex::new(Shift::new(hall, processes)),
+impl<L: DeskName, S: Steps> Monitor<L, S> {
+    /// A monitor for `processes` processes.
+    pub fn new(shared: SharedSystem<L, S>, processes: u64) -> Monitor<L, S> {
+        Monitor {
+            state: Mutex::new(RunState::new(shared, processes)),
             freed: Condvar::new(),
         }
     }
 
     /// Notes that one more process has ended, and wakes all that wait.
     pub fn end_one<R: Wait>(&self, rt: &R) {
-        self.shift.lock(rt).end_one();
+        self.state.lock(rt).end_one();
         self.freed.notify_all();
     }
 
-    /// The hall, after all processes have ended.
-    pub fn into_hall(self) -> Hall<L, S> {
-        let Floor { shift, freed: _ } = self;
-        shift.into_inner().into_hall()
+    /// The shared system, after all processes have ended.
+    pub fn into_shared(self) -> SharedSystem<L, S> {
+        let Monitor { state, freed: _ } = self;
+        state.into_inner().into_shared()
     }
 }

@@ -3,7 +3,7 @@ use Rattle.std.proofs.Common.{◌≡◌, length, ap, arith}
 use Rattle.path_model.specs.Journals.{with_line}
 use Rattle.path_system.specs.Accounts.{Account}
 use Rattle.path_workers.proofs.Later.{later_then, one_more}
-use Rattle.path_workers.proofs.hall.Hall.stamp.Goals as goal
+use Rattle.path_workers.proofs.shared.SharedSystem.stamp.Goals as goal
 
 pub invariant_of-self-2 : goal.invariant_of-self-2
 invariant_of-self-2 g c =
@@ -13,7 +13,7 @@ invariant_of-self-2 g c =
     let more = one_more before.journal c.args.worker c.args.attempt c.step-reply.result c.in_default.not-NoRoom in
     let grown : length after.journal ≡ length (with_line before.journal c.args.worker c.args.attempt c.step-reply.result) = ap (λ (x : Account). length x.journal) c.step-reply.ensures.journal in
     record {
-      later = later_then g.L.Opening.opened before after c.args.worker c.args.attempt c.step-reply.result c.self.invariant.later c.step-reply.ensures.journal;
+      later = later_then g.L.DeskName.opened before after c.args.worker c.args.attempt c.step-reply.result c.self.invariant.later c.step-reply.ensures.journal;
       counted = record {
         lines = omega (arith, more, grown, counted.lines);
         booked = omega (arith, c.gain.ensures.total, counted.booked);
