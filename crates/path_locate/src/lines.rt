@@ -8,7 +8,7 @@ use crate::finding::Finding;
 use crate::likely::likely_at;
 use crate::near::nearest_name;
 use crate::places::{Spot, behind, spot_at, spot_behind};
-use crate::wording::{Wrong, wanted_words};
+use crate::wording::Wrong;
 use path_decl::{Decl, counts, op_name};
 use path_fields::until;
 use path_lines::{Stop, Wanted, word};
@@ -50,7 +50,7 @@ fn nearest_at<A: Allocator + Copy>(
     }
 }
 
-/// The finding of a stop in the line of this number, counted from 0.
+/// The finding of a stop in the line of this number, counted from 0. The words say what could stand there.
 pub fn found<'a, A: Allocator + Copy>(
     alloc: A,
     decl: &Decl<A>,
@@ -58,11 +58,12 @@ pub fn found<'a, A: Allocator + Copy>(
     number: u32,
     stop: Stop,
     wrong: Wrong,
+    words: &str,
 ) -> Result<Finding<'a, A>, OutOfMemory>
     ensures { IfOk result (λ finding. IsSpotBehind text.now number finding.spot) }
 {
     let spot = spot_behind(text, number, stop.left);
-    let wanted = String::from_str(alloc, wanted_words(stop.wanted))?;
+    let wanted = String::from_str(alloc, words)?;
     let nearest = match stop.wanted {
         Wanted::Operation => nearest_at(alloc, decl, &spot)?,
         _ => String::new(alloc),

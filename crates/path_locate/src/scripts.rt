@@ -8,7 +8,7 @@ ghost use Rattle.path_locate.specs.Places.{IsLineSpot, IsSpotBehind, script_numb
 use crate::finding::Finding;
 use crate::lines::{found, line_of, too_long};
 use crate::places::behind;
-use crate::wording::Wrong;
+use crate::wording::{Wrong, wanted_words};
 use path_decl::Decl;
 use path_lines::{Stop, Wanted, stop_at};
 use path_model::OutOfMemory;
@@ -58,12 +58,28 @@ fn line_finding<'a, A: Allocator + Copy>(
     let wrong = Wrong::Script(fault);
     if ends_before(text, number) {
         let stop = stop_at(b"", Wanted::ProcessEnd);
-        let mut finding = found(alloc, decl, text, number, stop, wrong)?;
+        let mut finding = found(
+            alloc,
+            decl,
+            text,
+            number,
+            stop,
+            wrong,
+            wanted_words(stop.wanted),
+        )?;
         finding.likely = None;
         return Ok(finding);
     }
     let stop = stop_of(line_of(text, number), fault);
-    found(alloc, decl, text, number, stop, wrong)
+    found(
+        alloc,
+        decl,
+        text,
+        number,
+        stop,
+        wrong,
+        wanted_words(stop.wanted),
+    )
 }
 
 /// Where the text of a script has this fault, which [`read_script`](path_script::read_script) found in it; `None` if memory was wanting

@@ -6,7 +6,7 @@ ghost use Rattle.path_locate.specs.Places.{IsLineSpot, number_of};
 
 use crate::finding::Finding;
 use crate::lines::{found, line_of, too_long};
-use crate::wording::Wrong;
+use crate::wording::{KEPT_HEAD, Wrong, wanted_words};
 use path_decl::Decl;
 use path_journal::stop_in;
 use path_lines::{LIMIT, Stop, TextFault, Wanted, first_entry, stop_at};
@@ -22,13 +22,27 @@ pub enum TextKind {
     Journal,
 }
 
-/// Where the line of this number, counted from 0, stops being one of such a text; its end if it is one.
-fn stop_of<A: Allocator + Copy>(decl: &Decl<A>, kind: TextKind, number: u32, line: &[u8]) -> Stop {
-    let stop = match kind {
+/// Where the line of this number, counted from 0, stops being one of such a text; `None` if it is one, and lacks its line feed.
+fn stop_of<A: Allocator + Copy>(
+    decl: &Decl<A>,
+    kind: TextKind,
+    text: &[u8],
+    number: u32,
+    line: &[u8],
+) -> Option<Stop> {
+    match kind {
         TextKind::Attempts => first_entry(decl, line).err(),
-        TextKind::Journal => stop_in(decl, number, line),
-    };
-    stop.unwrap_or(stop_at(b"", Wanted::End))
+        TextKind::Journal => stop_in(decl, text, number, line),
+    }
+}
+
+/// What could stand where this line stops.
+fn words_at(line: &[u8], wanted: Wanted) -> &'static str {
+    if wanted == Wanted::Head && line.starts_with(b"journal 3") {
+        KEPT_HEAD
+    } else {
+        wanted_words(wanted)
+    }
 }
 
 /// Where a text of this kind has this fault, which [`read_attempts`](path_lines::read_attempts) or
@@ -50,6 +64,11 @@ pub fn text_finding<'a, A: Allocator + Copy>(
         TextFault::BadLine(number) => (number, Wrong::Line),
         TextFault::Undeclared(number) => (number, Wrong::Undeclared),
     };
-    let stop = stop_of(decl, kind, number, line_of(text, number));
-    Ok(Some(found(alloc, decl, text, number, stop, wrong)?))
+    let line = line_of(text, number);
+    let (stop, wrong) = match stop_of(decl, kind, text, number, line) {
+        Some(stop) => (stop, wrong),
+        None => (stop_at(b"", Wanted::End), Wrong::NoLineFeed),
+    };
+    let words = words_at(line, stop.wanted);
+    Ok(Some(found(alloc, decl, text, number, stop, wrong, words)?))
 }

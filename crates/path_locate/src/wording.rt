@@ -13,6 +13,8 @@ pub enum Wrong {
     Declaration(DeclFault),
     /// The line has none of the forms.
     Line,
+    /// The line lacks its line feed, where a line counts only with it.
+    NoLineFeed,
     /// The name isn't a declared operation.
     Undeclared,
     /// The text is longer than its limit.
@@ -55,6 +57,9 @@ fn script_words(fault: ScriptFault) -> &'static str {
     }
 }
 
+/// What could stand as the first line of a journal of version 3.
+pub const KEPT_HEAD: &str = "`journal 3 room N`, with N from 1 to 1048576";
+
 /// What could stand in a line.
 pub fn wanted_words(wanted: Wanted) -> &'static str {
     match wanted {
@@ -84,6 +89,7 @@ impl Display for Wrong {
         f.write_str(match self {
             Wrong::Declaration(fault) => declaration_words(*fault),
             Wrong::Line => "this line can't be read",
+            Wrong::NoLineFeed => "the file ends here without a line feed",
             Wrong::Undeclared => "this isn't a declared operation",
             Wrong::TooLong => "the text has more than 134,217,728 bytes",
             Wrong::Script(fault) => script_words(*fault),

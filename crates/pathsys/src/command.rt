@@ -1,163 +1,12 @@
 //! The words of the command line.
 
+use crate::help::{
+    AUDIT_HELP, CHECK_HELP, COMPILE_HELP, EXPLAIN_HELP, EXPLORE_HELP, FOLLOW_HELP, MORE_HELP,
+    PICTURE_HELP, RUN_HELP, TRACE_HELP,
+};
 use clap::{Arg, ArgAction, Command, value_parser};
 use path_model::MOST_LINES;
 use std::alloc::{AllocError, Global};
-
-/// The help text below the commands.
-const MORE_HELP: &str = "\
-A declaration lists the operations of each resource, and paths that say in which order they may run.
-Workers attempt to start, use and finish operations; each attempt gets a reply, one line each.
-
-Without a command, standard input is a declaration, a line %, and attempts, for which --room and --report
-stand as with trace. A file named - is standard input.
-
-pathsys <<'END'
-resource slot cell operation deposit, remove path deposit ; remove end end
-%
-1 start deposit
-2 start remove
-1 use 0 put 7
-1 finish 0
-2 start remove
-2 use 1 look
-END
-
-See docs/language.md for declarations, docs/attempts.md for attempts, replies and reports,
-docs/journals.md for journals and audits, docs/scripts.md for scripts of processes, and
-docs/explaining.md for what to do when something isn't as you want it.
-
-Exit statuses:
-  0  done
-  1  the declaration is refused
-  2  the command line is refused
-  3  a file or stream failed
-  4  the attempts, the journal or the script are refused
-  5  a line of the journal is wrong, or not all processes are done
-  6  out of memory";
-
-/// What help says of `check` below its options.
-const CHECK_HELP: &str = "\
-Example:
-  pathsys check examples/slot/declaration
-
-Exit statuses:
-  0  done
-  1  the declaration is refused
-  2  the command line is refused
-  3  a file or stream failed
-  6  out of memory
-
-See docs/language.md for declarations.";
-
-/// What help says of `compile` below its options.
-const COMPILE_HELP: &str = "\
-Example:
-  pathsys compile examples/slot/declaration
-
-Exit statuses:
-  0  done
-  1  the declaration is refused
-  2  the command line is refused
-  3  a file or stream failed
-  6  out of memory
-
-See docs/translation.md for how to read them.";
-
-/// What help says of `trace` below its options.
-const TRACE_HELP: &str = "\
-Example:
-  pathsys trace examples/knot/declaration examples/knot/attempts --report
-
-Exit statuses:
-  0  done
-  1  the declaration is refused
-  2  the command line is refused
-  3  a file or stream failed
-  4  the attempts are refused
-  6  out of memory
-
-See docs/language.md for declarations, docs/attempts.md for attempts, replies and reports.";
-
-/// What help says of `explain` below its options.
-const EXPLAIN_HELP: &str = "\
-Examples:
-  pathsys explain examples/slot/declaration
-  pathsys explain examples/slot/declaration examples/slot/attempts
-  pathsys explain examples/till/declaration --journal examples/till/journal
-
-Exit statuses:
-  0  done
-  1  the declaration is refused
-  2  the command line is refused
-  3  a file or stream failed
-  4  the attempts or the journal are refused
-  5  a line of the journal is wrong
-  6  out of memory
-
-See docs/explaining.md for worked cases.";
-
-/// What help says of `follow` below its options.
-const FOLLOW_HELP: &str = "\
-Example:
-  pathsys follow examples/slot/declaration < examples/slot/attempts
-
-Exit statuses:
-  0  done
-  1  the declaration is refused
-  2  the command line is refused
-  3  a file or stream failed
-  4  lines that aren't attempts were told on standard error and skipped
-  6  out of memory
-
-The line ? writes the report. See docs/explaining.md.";
-
-/// What help says of `picture` below its options.
-const PICTURE_HELP: &str = "\
-Example:
-  pathsys picture examples/pool/declaration examples/pool/attempts > pool.svg
-
-Exit statuses:
-  0  done
-  1  the declaration is refused
-  2  the command line is refused
-  3  a file or stream failed
-  4  the attempts or the journal are refused
-  6  out of memory
-
-See docs/picture.md for what is drawn.";
-
-/// What help says of `audit` below its options.
-const AUDIT_HELP: &str = "\
-Example:
-  pathsys audit examples/recorder/declaration examples/recorder/journal examples/recorder/next
-
-Exit statuses:
-  0  done
-  1  the declaration is refused
-  2  the command line is refused
-  3  a file or stream failed
-  4  a file isn't a journal, or names another room than the first
-  5  a line is wrong
-  6  out of memory
-
-See docs/language.md for declarations, docs/journals.md for journals and audits.";
-
-/// What help says of `run` below its options.
-const RUN_HELP: &str = "\
-Example:
-  pathsys run examples/forks/declaration examples/forks/script
-
-Exit statuses:
-  0  done
-  1  the declaration is refused
-  2  the command line is refused
-  3  a file or stream failed
-  4  the script is refused
-  5  not all processes are done
-  6  out of memory
-
-See docs/language.md for declarations, docs/scripts.md for scripts and how processes end.";
 
 /// A required file name.
 fn file<'a>(alloc: Global, id: &'a str, help: &'a str) -> Arg<'a> {
@@ -181,6 +30,17 @@ fn journal<'a>(alloc: Global) -> Result<Arg<'a>, AllocError> {
         .value_name("JOURNAL")
         .help("the file of a journal, in place of attempts")
         .conflicts_with("ATTEMPTS")
+}
+
+/// The files of a journal behind which attempts are made.
+fn after<'a>(alloc: Global) -> Arg<'a> {
+    Arg::new(alloc, "after")
+        .long("after")
+        .value_name("JOURNAL")
+        .num_args(1..)
+        .help(
+            "the file of a journal that the attempts go on from, or those of its segments, in order",
+        )
 }
 
 /// The flag that asks for a report.
@@ -218,9 +78,10 @@ fn trace<'a>(alloc: Global) -> Result<Command<'a>, AllocError> {
         .arg(file(alloc, "ATTEMPTS", "the file of the attempts"))?
         .arg(room(
             alloc,
-            "how many lines the journal has room for, 1 to 1048576",
+            "how many lines the journal has room for, 1 to 1048576, unless its file says so",
         ))?
-        .arg(report(alloc))
+        .arg(report(alloc))?
+        .arg(after(alloc))
 }
 
 /// The command that explains.
@@ -240,7 +101,32 @@ fn explain<'a>(alloc: Global) -> Result<Command<'a>, AllocError> {
         .arg(room(
             alloc,
             "how many lines the journal has room for, 1 to 1048576, unless its text says so",
-        ))
+        ))?
+        .arg(
+            after(alloc)
+                .requires_arg("ATTEMPTS")?
+                .conflicts_with("journal")?,
+        )
+}
+
+/// The file in which a follow keeps its journal.
+fn kept<'a>(alloc: Global) -> Arg<'a> {
+    Arg::new(alloc, "journal")
+        .long("journal")
+        .value_name("FILE")
+        .help("the file that keeps the journal: it is made, or gone on from")
+}
+
+/// When a follow writes its journal to the disk. Fails only if allocation fails.
+fn sync<'a>(alloc: Global) -> Result<Arg<'a>, AllocError> {
+    Arg::new(alloc, "sync")
+        .long("sync")
+        .value_name("WHEN")
+        .value_parser(["each", "close", "never"].as_slice())
+        .help(
+            "when lines are on the disk: each before its answer, which is the usual, all at the end, or as it comes",
+        )
+        .requires_arg("journal")
 }
 
 /// The command that answers attempts as they come.
@@ -251,8 +137,10 @@ fn follow<'a>(alloc: Global) -> Result<Command<'a>, AllocError> {
         .arg(file(alloc, "DECL", "the file of the declaration"))?
         .arg(room(
             alloc,
-            "how many lines the journal has room for, 1 to 1048576",
-        ))
+            "how many lines the journal has room for, 1 to 1048576, unless its file says so",
+        ))?
+        .arg(kept(alloc))?
+        .arg(sync(alloc)?)
 }
 
 /// The command that draws a picture.
@@ -304,6 +192,24 @@ fn run<'a>(alloc: Global) -> Result<Command<'a>, AllocError> {
         ))
 }
 
+/// The command that looks at every schedule of a script.
+fn explore<'a>(alloc: Global) -> Result<Command<'a>, AllocError> {
+    let most = Arg::new(alloc, "most")
+        .long("most")
+        .value_name("N")
+        .value_parser(value_parser!(u32).range(1..=i64::from(u32::MAX)))
+        .default_value("1000000")
+        .help("how many states are looked at before it gives up, 1 to 4294967295");
+    Command::new(alloc, "explore")
+        .about(
+            "Says whether every schedule of a script ends done, or writes a shortest that doesn't",
+        )
+        .after_help(EXPLORE_HELP)
+        .arg(file(alloc, "DECL", "the file of the declaration"))?
+        .arg(file(alloc, "SCRIPT", "the file of the script"))?
+        .arg(most)
+}
+
 /// The program with one more command. Fails if either couldn't be made.
 fn with<'a>(
     program: Result<Command<'a>, AllocError>,
@@ -336,5 +242,6 @@ pub fn command<'a>(alloc: Global) -> Result<Command<'a>, AllocError> {
     let program = with(program, follow(alloc));
     let program = with(program, picture(alloc));
     let program = with(program, audit(alloc));
-    with(program, run(alloc))
+    let program = with(program, run(alloc));
+    with(program, explore(alloc))
 }

@@ -2,8 +2,8 @@
 
 ghost use Rattle.std.specs.Prelude.{◌≤◌, length, IfOk};
 
+use cmd_base::{Fault, Status, read_all, tell};
 use path_lines::LIMIT;
-use path_streams::{Fault, Status, read_all, tell};
 use std::fs;
 use std::fs::OpenFile;
 use std::io::{ErrorKind, Write};

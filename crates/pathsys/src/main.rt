@@ -2,7 +2,10 @@
 #![tactic(auto)]
 
 mod command;
+mod commands;
 mod files;
+mod help;
+mod journals;
 mod perform;
 
 use crate::perform::perform;
@@ -12,5 +15,5 @@ use std::process::ExitCode;
 fn main(rt: HostRuntime) -> ExitCode {
     let is_typed = rt.stdin().is_terminal();
     let status = perform(&rt, is_typed, &mut rt.stdout(), &mut rt.stderr());
-    ExitCode::from(u8::from(status))
+    ExitCode::from(status)
 }

@@ -4,19 +4,18 @@ ghost use Rattle.std.specs.Prelude.{◌≡◌, ◌≢◌};
 ghost use Rattle.clap.specs.Words.{kind_of};
 
 use crate::command::command;
-use crate::files::{STDIN, read_named, read_stdin, tell_unread};
+use crate::commands::{
+    check, compile, explain, explore, follow, invite, picture, room_in, run, trace,
+};
+use crate::files::{STDIN, read_stdin, tell_unread};
+use crate::journals::audit;
 use clap::error::ErrorKind;
 use clap::{ArgMatches, Command, Error};
-use path_commands::{JournalFile, audit_bytes, audit_files, check_to, compile_to};
-use path_explain::{FileNames, explain_attempts, explain_declaration, explain_journal};
-use path_follow::follow_bytes;
-use path_picture::{picture_bytes, picture_journal_bytes};
-use path_processes::run_bytes;
-use path_refusals::{Source, Subject, tell_place};
-use path_streams::{Fault, Status, tell, whole};
-use path_trace::{ROOM, trace_bytes};
-use std::alloc::Allocator;
+use cmd_base::{Fault, Status, tell, whole};
+use cmd_refusals::{Source, Subject, tell_place};
+use cmd_trace::trace_bytes;
 use std::env;
+use std::fs::File;
 use std::io::Write;
 use std::rt::{Env, Files};
 use std::sync::Wait;
@@ -25,9 +24,6 @@ use std::thread::Threads;
 /// What to type where there is no command.
 const INVITATION: &str =
     "type a declaration, a line %, and attempts, and end with Ctrl-D; pathsys --help has an example";
-
-/// What to type to a follow.
-const FOLLOW_INVITATION: &str = "type attempts, one a line; ? writes the report, and Ctrl-D ends";
 
 /// Writes clap's message: help and the version on standard output, all else on standard error.
 fn tell_words<O: Write, E: Write>(error: &Error, out: &mut O, err: &mut E) -> Status
@@ -46,246 +42,6 @@ fn tell_words<O: Write, E: Write>(error: &Error, out: &mut O, err: &mut E) -> St
         Ok(()) => status,
         Err(error) => tell(err, Fault::of_writing(&error)),
     }
-}
-
-/// The bytes of the file under this id.
-fn file<'a, R: Files + Input + AllocGlobal>(
-    rt: &R,
-    words: &ArgMatches<'a>,
-    id: &str,
-) -> Result<Vec<u8>, Fault<'a>> {
-    read_named(rt, words.get_str(id).unwrap_or(""))
-}
-
-/// The name of the file under this id, as faults name it.
-fn name_of<'a>(words: &ArgMatches<'a>, id: &str) -> &'a str {
-    match words.get_str(id) {
-        Some("-") => STDIN,
-        Some(name) => name,
-        None => "",
-    }
-}
-
-/// Says on `err` where a text is at fault for which a command of these words ended with this status, and returns the status.
-fn with_place<A: Allocator + Copy, E: Write>(
-    alloc: A,
-    words: &ArgMatches<'_>,
-    declaration: &[u8],
-    subject: Subject<'_>,
-    status: Status,
-    err: &mut E,
-) -> Status
-    ensures { result ≡ status }
-{
-    let declaration = Source::whole(name_of(words, "DECL"), declaration);
-    let _said = tell_place(alloc, declaration, subject, status, err);
-    status
-}
-
-/// The room that the words name, or else the usual one.
-fn room_in(words: &ArgMatches<'_>) -> u32 {
-    words.get_one("room").unwrap_or(ROOM)
-}
-
-/// Prints the declaration of a file.
-fn check<'a, R: Files + Input + AllocGlobal, O: Write, E: Write>(
-    rt: &R,
-    words: &ArgMatches<'a>,
-    out: &mut O,
-    err: &mut E,
-) -> Result<Status, Fault<'a>> {
-    let declaration = file(rt, words, "DECL")?;
-    let alloc = rt.alloc();
-    let status = check_to(alloc, &declaration, out, err);
-    Ok(with_place(alloc, words, &declaration, Subject::Nothing, status, err))
-}
-
-/// Prints the semaphores of the declaration of a file.
-fn compile<'a, R: Files + Input + AllocGlobal, O: Write, E: Write>(
-    rt: &R,
-    words: &ArgMatches<'a>,
-    out: &mut O,
-    err: &mut E,
-) -> Result<Status, Fault<'a>> {
-    let declaration = file(rt, words, "DECL")?;
-    let alloc = rt.alloc();
-    let status = compile_to(alloc, &declaration, out, err);
-    Ok(with_place(alloc, words, &declaration, Subject::Nothing, status, err))
-}
-
-/// Traces the attempts of one file under the declaration of another.
-fn trace<'a, R: Files + Input + AllocGlobal, O: Write, E: Write>(
-    rt: &R,
-    words: &ArgMatches<'a>,
-    out: &mut O,
-    err: &mut E,
-) -> Result<Status, Fault<'a>> {
-    let declaration = file(rt, words, "DECL")?;
-    let attempts = file(rt, words, "ATTEMPTS")?;
-    let (alloc, room, report) = (rt.alloc(), room_in(words), words.get_flag("report"));
-    let status = trace_bytes(alloc, &declaration, room, report, &attempts, out, err);
-    let subject = Subject::Attempts(Source::whole(name_of(words, "ATTEMPTS"), &attempts));
-    Ok(with_place(alloc, words, &declaration, subject, status, err))
-}
-
-/// Explains the attempts or the journal of one file under the declaration of another, or that declaration.
-fn explain<'a, R: Files + Input + AllocGlobal, O: Write, E: Write>(
-    rt: &R,
-    words: &ArgMatches<'a>,
-    out: &mut O,
-    err: &mut E,
-) -> Result<Status, Fault<'a>> {
-    let declaration = file(rt, words, "DECL")?;
-    let (alloc, room) = (rt.alloc(), room_in(words));
-    let mut names = FileNames {
-        declaration: words.get_str("DECL").unwrap_or(""),
-        text: "",
-    };
-    if let Some(name) = words.get_str("journal") {
-        let journal = read_named(rt, name)?;
-        names.text = name;
-        return Ok(explain_journal(alloc, &declaration, room, &journal, names, out, err));
-    }
-    if let Some(name) = words.get_str("ATTEMPTS") {
-        let attempts = read_named(rt, name)?;
-        names.text = name;
-        return Ok(explain_attempts(alloc, &declaration, room, &attempts, names, out, err));
-    }
-    Ok(explain_declaration(alloc, &declaration, names, out, err))
-}
-
-/// Says on `err` how to go on, if standard input is typed: it would wait without a word.
-fn invite<E: Write>(is_typed: bool, what: &str, err: &mut E) {
-    if is_typed {
-        drop(writeln!(err, "{what}"));
-    }
-}
-
-/// Answers attempts from standard input under the declaration of a file.
-fn follow<'a, R: Files + Input + AllocGlobal, O: Write, E: Write>(
-    rt: &R,
-    is_typed: bool,
-    words: &ArgMatches<'a>,
-    out: &mut O,
-    err: &mut E,
-) -> Result<Status, Fault<'a>> {
-    let declaration = file(rt, words, "DECL")?;
-    let (alloc, room) = (rt.alloc(), room_in(words));
-    invite(is_typed, FOLLOW_INVITATION, err);
-    let mut input = rt.reader();
-    let status = follow_bytes(alloc, &declaration, room, &mut input, out, err);
-    Ok(with_place(alloc, words, &declaration, Subject::Nothing, status, err))
-}
-
-/// Draws the attempts or the journal of one file under the declaration of another.
-fn picture<'a, R: Files + Input + AllocGlobal, O: Write, E: Write>(
-    rt: &R,
-    words: &ArgMatches<'a>,
-    out: &mut O,
-    err: &mut E,
-) -> Result<Status, Fault<'a>> {
-    let declaration = file(rt, words, "DECL")?;
-    let (alloc, room) = (rt.alloc(), room_in(words));
-    if let Some(name) = words.get_str("journal") {
-        let journal = read_named(rt, name)?;
-        let status = picture_journal_bytes(alloc, &declaration, &journal, out, err);
-        let subject = Subject::Journal(Source::whole(name_of(words, "journal"), &journal), room);
-        return Ok(with_place(alloc, words, &declaration, subject, status, err));
-    }
-    let attempts = file(rt, words, "ATTEMPTS")?;
-    let status = picture_bytes(alloc, &declaration, room, &attempts, out, err);
-    let subject = Subject::Attempts(Source::whole(name_of(words, "ATTEMPTS"), &attempts));
-    Ok(with_place(alloc, words, &declaration, subject, status, err))
-}
-
-/// The files of a journal's segments, in order.
-fn journal_files<'a, R: Files + Input + AllocGlobal>(
-    rt: &R,
-    words: &ArgMatches<'a>,
-) -> Result<Vec<JournalFile>, Fault<'a>> {
-    let alloc = rt.alloc();
-    let mut files = Vec::new(alloc);
-    if let Some(names) = words.get_strs("JOURNAL") {
-        for name in names {
-            let text = read_named(rt, name)?;
-            let name = format!(in alloc; "{name}")?;
-            files.push(JournalFile { name, text })?;
-        }
-    }
-    Ok(files)
-}
-
-/// Says on `err`, in one line, which command shows why a line of a journal is wrong. What `err` doesn't take is lost.
-fn hint_at_explain<E: Write>(words: &ArgMatches<'_>, journal: &str, err: &mut E) {
-    let (declaration, room) = (words.get_str("DECL").unwrap_or(""), room_in(words));
-    drop(writeln!(
-        err,
-        "hint: pathsys explain {declaration} --journal {journal} --room {room} shows why"
-    ));
-}
-
-/// The name of a file, as faults name it.
-fn shown(name: &str) -> &str {
-    if name == "-" { STDIN } else { name }
-}
-
-/// Says on `err` where the first of these files is at fault that isn't a journal, for an audit of all that ended with this status; where
-/// the declaration is, if that is refused.
-fn tell_refused_file<A: Allocator + Copy, E: Write>(
-    alloc: A,
-    words: &ArgMatches<'_>,
-    declaration: &[u8],
-    files: &[JournalFile<A>],
-    status: Status,
-    err: &mut E,
-) {
-    let declaration = Source::whole(name_of(words, "DECL"), declaration);
-    let mut said = false;
-    for file in files {
-        if !said && status != Status::Unsound {
-            let subject = Subject::Journal(Source::whole(shown(&file.name), &file.text), 1);
-            said = tell_place(alloc, declaration, subject, status, err);
-        }
-    }
-}
-
-/// Audits the journal of one file, or its segments in several, under the declaration of another.
-fn audit<'a, R: Files + Input + AllocGlobal, O: Write, E: Write>(
-    rt: &R,
-    words: &ArgMatches<'a>,
-    out: &mut O,
-    err: &mut E,
-) -> Result<Status, Fault<'a>> {
-    let declaration = file(rt, words, "DECL")?;
-    let files = journal_files(rt, words)?;
-    let (alloc, room) = (rt.alloc(), room_in(words));
-    let [file] = files.as_slice() else {
-        let status = audit_files(alloc, &declaration, room, &files, out, err);
-        tell_refused_file(alloc, words, &declaration, &files, status, err);
-        return Ok(status);
-    };
-    let status = audit_bytes(alloc, &declaration, room, &file.text, out, err);
-    let subject = Subject::Journal(Source::whole(shown(&file.name), &file.text), room);
-    let status = with_place(alloc, words, &declaration, subject, status, err);
-    if status == Status::Unsound {
-        hint_at_explain(words, &file.name, err);
-    }
-    Ok(status)
-}
-
-/// Runs the script of one file under the declaration of another.
-fn run<'a, R: Files + Input + AllocGlobal + Threads + Wait + Sync, O: Write, E: Write>(
-    rt: &R,
-    words: &ArgMatches<'a>,
-    out: &mut O,
-    err: &mut E,
-) -> Result<Status, Fault<'a>> {
-    let declaration = file(rt, words, "DECL")?;
-    let script = file(rt, words, "SCRIPT")?;
-    let (alloc, room) = (rt.alloc(), room_in(words));
-    let status = run_bytes(rt, alloc, &declaration, room, &script, out, err);
-    let subject = Subject::Script(Source::whole(name_of(words, "SCRIPT"), &script));
-    Ok(with_place(alloc, words, &declaration, subject, status, err))
 }
 
 /// How many line feeds a text has.
@@ -321,15 +77,21 @@ fn without_words<'a, R: Input + AllocGlobal, O: Write, E: Write>(
     Ok(status)
 }
 
-/// Runs the command that clap matched.
-fn matched<'a, R: Files + Input + AllocGlobal + Threads + Wait + Sync, O: Write, E: Write>(
+/// Runs the command that clap matched. Returns the exit status.
+fn matched<
+    'a,
+    R: Files<File = File> + Input + AllocGlobal + Threads + Wait + Sync,
+    O: Write,
+    E: Write,
+>(
     rt: &R,
     is_typed: bool,
     matches: &ArgMatches<'a>,
     out: &mut O,
     err: &mut E,
-) -> Result<Status, Fault<'a>> {
-    match matches.subcommand() {
+) -> Result<u8, Fault<'a>> {
+    let status = match matches.subcommand() {
+        Some(("explore", words)) => return explore(rt, words, out, err),
         Some(("check", words)) => check(rt, words, out, err),
         Some(("compile", words)) => compile(rt, words, out, err),
         Some(("explain", words)) => explain(rt, words, out, err),
@@ -339,7 +101,8 @@ fn matched<'a, R: Files + Input + AllocGlobal + Threads + Wait + Sync, O: Write,
         Some(("run", words)) => run(rt, words, out, err),
         Some((_, words)) => trace(rt, words, out, err),
         None => without_words(rt, is_typed, matches, out, err),
-    }
+    }?;
+    Ok(u8::from(status))
 }
 
 /// How many files these words read from standard input: each that is named `-`, and the attempts of a follow.
@@ -369,43 +132,42 @@ fn words_for_clap(words: &[String]) -> &[String] {
     }
 }
 
-/// Runs the command that these words ask for.
-fn asked<R: Files + Input + AllocGlobal + Threads + Wait + Sync, O: Write, E: Write>(
+/// Runs the command that these words ask for. Returns the exit status.
+fn asked<R: Files<File = File> + Input + AllocGlobal + Threads + Wait + Sync, O: Write, E: Write>(
     rt: &R,
     is_typed: bool,
     words: &[String],
     out: &mut O,
     err: &mut E,
-) -> Status {
+) -> u8 {
     let Ok(command) = command(rt.alloc()) else {
-        return tell(err, Fault::OutOfMemory);
+        return u8::from(tell(err, Fault::OutOfMemory));
     };
     if files_from_stdin(words) > 1 {
-        return refuse_twice(command, out, err);
+        return u8::from(refuse_twice(command, out, err));
     }
     match command.try_get_matches_from(words_for_clap(words)) {
         Ok(matches) => match matched(rt, is_typed, &matches, out, err) {
             Ok(status) => status,
-            Err(fault) => tell_unread(rt, fault, err),
+            Err(fault) => u8::from(tell_unread(rt, fault, err)),
         },
-        Err(error) => tell_words(&error, out, err),
+        Err(error) => u8::from(tell_words(&error, out, err)),
     }
 }
 
-/// Runs the command that the command line asks for, and returns its status. If several things are at fault, the first in this order
+/// Runs the command that the command line asks for, and returns its exit status. If several things are at fault, the first in this order
 /// counts: words, files, declaration, attempts, journal or script, room. If standard input is typed, a command that reads it says so first.
-pub fn perform<R: Env + Files + Input + AllocGlobal + Threads + Wait + Sync, O: Write, E: Write>(
-    rt: &R,
-    is_typed: bool,
-    out: &mut O,
-    err: &mut E,
-) -> Status {
+pub fn perform<
+    R: Env + Files<File = File> + Input + AllocGlobal + Threads + Wait + Sync,
+    O: Write,
+    E: Write,
+>(rt: &R, is_typed: bool, out: &mut O, err: &mut E) -> u8 {
     let words = match env::args(rt) {
         Ok(words) => words,
-        Err(error) => return tell(err, Fault::of_arguments(&error)),
+        Err(error) => return u8::from(tell(err, Fault::of_arguments(&error))),
     };
     match words.collect::<Vec<String>>(rt.alloc()) {
         Ok(words) => asked(rt, is_typed, &words, out, err),
-        Err(_) => tell(err, Fault::OutOfMemory),
+        Err(_) => u8::from(tell(err, Fault::OutOfMemory)),
     }
 }

@@ -1,0 +1,4 @@
+pub mod Audits
+pub mod Files
+pub mod Segments
+pub mod Inner

@@ -1,0 +1,3 @@
+pub mod CallerLemmas
+mod Going
+mod Wrong

@@ -1,0 +1,11 @@
+-- A text is refused, or its explanation is written.
+use Rattle.cmd_base.specs.Statuses.{status_of}
+use Rattle.cmd_base.proofs.CallerLemmas.{ends_told, ends_written}
+use Rattle.cmd_explain.specs.Explanations.{ExplanationEnds}
+use Rattle.cmd_explain.proofs.explain.explain_attempts.Goals as goal
+
+pub returns-in-Ok : goal.returns-in-Ok
+returns-in-Ok g c = ends_written (ExplanationEnds c.args.declaration.now c.args.room c.args.attempts.now) _ _ _ _ _ _ c.as_bytes.ensures.value c.in-Ok.ensures.ok c.put_text.ensures
+
+pub returns-in-Err : goal.returns-in-Err
+returns-in-Err g c = ends_told _ _ (status_of c.in-Err.fault) _ c.in-Err.ensures.err c.tell_place.ensures

@@ -1,0 +1,10 @@
+//! From bytes to bytes: looks at every schedule of a script, and says that all of them end done, or shows the shortest that doesn't.
+#![tactic(auto)]
+
+mod explore;
+mod searched;
+mod standings;
+
+pub use explore::{explore_bytes, explore_to};
+pub use searched::Searched;
+pub use standings::standings_text;

@@ -1,0 +1,7 @@
+pub mod Written
+pub mod Answering
+pub mod Passing
+pub mod Stopping
+pub mod Reading
+pub mod Ending
+pub mod Behind

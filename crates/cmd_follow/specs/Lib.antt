@@ -1,0 +1,4 @@
+pub mod Follows
+pub mod Stops
+pub mod Inner
+pub mod Stored

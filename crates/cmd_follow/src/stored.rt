@@ -1,0 +1,269 @@
+//! Follows whose lines stand in a file.
+
+ghost use Rattle.std.specs.Prelude.{◌≡◌, ◌⊎◌, ◌++◌, ◌∷◌, [], true, false, List, ℕ, IfNone, IfOk, IfErr, OnOk};
+ghost use Rattle.std.specs.Io.KnownBytes.{Keeps};
+ghost use Rattle.path_model.specs.declared.journal.Line.{Line};
+ghost use Rattle.path_model.specs.Rooms.{IsRoom};
+ghost use Rattle.path_store.specs.Stores.{Finds};
+ghost use Rattle.cmd_base.specs.Refusals.{IsNoDeclaration};
+ghost use Rattle.cmd_follow.specs.Stored.{EndsUnopened, KeepsLines, WroteBehind};
+ghost use Rattle.cmd_follow.specs.Inner.Taken.{GoesOn};
+
+use crate::follow::follow_kept;
+use crate::keeper::{KeepFault, Keeper};
+use cmd_base::{Fault, Status, read_own, tell};
+use path_decl::Decl;
+use path_journal::version_in;
+use path_model::{Line, is_room};
+use path_store::{Device, DeviceFault, Opened, Store, StoreFault};
+use path_system::{Controller, TakeFault};
+use std::alloc::Allocator;
+use std::io::{Read, Write};
+
+/// When the lines of a follow are written to the disk.
+#[derive(Clone, Copy, Debug, PartialEq, Eq)]
+pub enum Syncing {
+    /// Each before its answer.
+    Each,
+    /// All of them at the end of the input.
+    Close,
+    /// When the operating system does it.
+    Never,
+}
+
+/// A store that keeps the lines of a follow.
+#[derive(Drop)]
+pub struct StoreKeeper<D: Device + Drop, B: Allocator + Copy> {
+    store: Store<D, B>,
+    syncing: Syncing,
+    /// Why a line isn't kept.
+    fault: Option<StoreFault>,
+}
+
+impl<D: Device + Drop, B: Allocator + Copy> StoreKeeper<D, B> {
+    /// Writes a line, and syncs if each line is to be.
+    fn write<A: Allocator + Copy>(&mut self, decl: &Decl<A>, line: Line) -> Result<(), StoreFault>
+        ensures { (ls : List Line) → KeepsLines D.holds D.may_leave self.old decl.now.declaration ls
+            → OnOk result (KeepsLines D.holds D.may_leave self.new decl.now.declaration (ls ++ line ∷ [])) }
+    {
+        self.store.append(decl, line)?;
+        let Syncing::Each = self.syncing else {
+            return Ok(());
+        };
+        self.store.sync()
+    }
+
+    /// Syncs at the end of a follow, unless the operating system is to do it.
+    fn close(&mut self) -> Result<(), StoreFault> {
+        if self.syncing == Syncing::Close {
+            self.store.sync()?;
+        }
+        Ok(())
+    }
+}
+
+/// How a fault of a store ends a follow.
+fn keep_fault(fault: StoreFault) -> KeepFault {
+    match fault {
+        StoreFault::OutOfMemory | StoreFault::Device(DeviceFault::OutOfMemory) =>
+            KeepFault::OutOfMemory,
+        _ => KeepFault::Unkept,
+    }
+}
+
+impl<D: Device + Drop, B: Allocator + Copy> Keeper for StoreKeeper<D, B> {
+    ghost keeps = { λ keeper d ls. KeepsLines D.holds D.may_leave keeper d ls };
+
+    fn keep<A: Allocator + Copy>(&mut self, decl: &Decl<A>, line: Line) -> Result<(), KeepFault> {
+        match self.write(decl, line) {
+            Ok(()) => Ok(()),
+            Err(fault) => {
+                self.fault = Some(fault);
+                Err(keep_fault(fault))
+            }
+        }
+    }
+}
+
+/// Takes these lines over. The first that isn't taken is returned, counted from 0, and why.
+fn go_on<D: path_shelf::Device, A: Allocator + Copy>(
+    system: &mut Controller<D, A>,
+    lines: &[Line],
+) -> Option<(usize, TakeFault)>
+    ensures { IfNone result (GoesOn system.old system.new × (system.new.journal ≡ system.old.journal ++ lines.now)) }
+{
+    for (n, line) in lines.iter().enumerate() {
+        if let Err(fault) = system.take_over(*line) {
+            return Some((n, fault));
+        }
+    }
+    None
+}
+
+/// Tells in one line on `err` why a store can't be opened, and returns the status.
+fn tell_store<E: Write>(err: &mut E, fault: StoreFault) -> Status
+    ensures { EndsUnopened result }
+{
+    let status = match fault {
+        StoreFault::Text(fault) => return tell(err, Fault::Text(fault)),
+        StoreFault::OutOfMemory | StoreFault::Device(DeviceFault::OutOfMemory) => {
+            return tell(err, Fault::OutOfMemory);
+        }
+        StoreFault::OtherHead => Status::TextRefused,
+        StoreFault::Device(_) | StoreFault::Broken => Status::StreamFailed,
+    };
+    match writeln!(err, "journal: {fault}") {
+        Ok(()) => status,
+        Err(_) => Status::StreamFailed,
+    }
+}
+
+/// Tells in one line on `err` why a line isn't kept, and returns the status.
+fn tell_unkept<E: Write>(err: &mut E, fault: StoreFault) -> Status
+    ensures { (result ≡ Status.NoMemory) ⊎ (result ≡ Status.StreamFailed) }
+{
+    match keep_fault(fault) {
+        KeepFault::OutOfMemory => tell(err, Fault::OutOfMemory),
+        KeepFault::Unkept => {
+            drop(writeln!(err, "journal: {fault}"));
+            Status::StreamFailed
+        }
+    }
+}
+
+/// Tells on `err` what was found in a file.
+fn tell_found<E: Write>(err: &mut E, lines: usize, cut: usize) -> Result<(), Status>
+    ensures { IfErr result (λ status. status ≡ Status.StreamFailed) }
+{
+    let word = if lines == 1 { "line" } else { "lines" };
+    let written = if cut == 0 {
+        writeln!(err, "journal: {lines} {word} found")
+    } else {
+        writeln!(
+            err,
+            "journal: {lines} {word} found, and {cut} bytes of a torn end cut off"
+        )
+    };
+    match written {
+        Ok(()) => Ok(()),
+        Err(_) => Err(Status::StreamFailed),
+    }
+}
+
+/// The room that the file names, or else this one.
+fn own_room<D: Device, A: Allocator + Copy>(
+    alloc: A,
+    device: &mut D,
+    room: u32,
+) -> Result<u32, StoreFault>
+    ensures { (b : List ℕ) → D.holds device.old b → D.holds device.new b }
+{
+    let text = device.read(alloc)?;
+    Ok(version_in(&text).room().unwrap_or(room))
+}
+
+/// Opens the store of a file. Its room is the one that the file names, or else this one.
+fn open_store<D: Device + Drop, A: Allocator + Copy>(
+    alloc: A,
+    decl: &Decl<A>,
+    room: u32,
+    device: D,
+) -> Result<(u32, Opened<D, A>), StoreFault>
+    ensures ok { IfOk result (λ p. IsRoom p.0 × ((b : List ℕ) → D.holds device b → Finds decl.now.declaration p.0 b p.1.lines.items)) }
+{
+    let mut device = device;
+    let room = own_room(alloc, &mut device, room)?;
+    if !is_room(room) {
+        return Err(StoreFault::OtherHead);
+    }
+    match Store::open(alloc, decl, room, device) {
+        Ok(opened) => Ok((room, opened)),
+        Err((fault, _device)) => Err(fault),
+    }
+}
+
+/// Tells on `err` the first line of a file that the lines before it don't give, and returns the status.
+fn tell_wrong<E: Write>(err: &mut E, line: usize) -> Status
+    ensures { (result ≡ Status.Unsound) ⊎ (result ≡ Status.StreamFailed) }
+{
+    match writeln!(err, "journal: wrong line {line}") {
+        Ok(()) => Status::Unsound,
+        Err(_) => Status::StreamFailed,
+    }
+}
+
+/// Ends a follow whose lines are kept: syncs them if that is left to its end, and tells why a line wasn't kept.
+fn closed<D: Device + Drop, B: Allocator + Copy, E: Write>(
+    keeper: StoreKeeper<D, B>,
+    status: Status,
+    err: &mut E,
+) -> Status
+    ensures { (result ≡ status) ⊎ (result ≡ Status.NoMemory) ⊎ (result ≡ Status.StreamFailed) }
+{
+    let mut keeper = keeper;
+    if let Some(fault) = keeper.fault {
+        return tell_unkept(err, fault);
+    }
+    match keeper.close() {
+        Ok(()) => status,
+        Err(fault) => tell_unkept(err, fault),
+    }
+}
+
+/// Answers the lines of the input as [`follow_bytes`](crate::follow_bytes) does, and keeps each line of the journal in a file, before its
+/// answer is written. If the file has lines, it goes on behind them: what is in progress there is in progress. With `Syncing::Each` whoever
+/// was answered finds the line after a crash at any moment. What was found is told on `err` in one line.
+///
+/// The room is the one that the file names; this one is that of a file that is begun.
+///
+/// `TextRefused`: also if the file isn't a journal of version 3, with the fault of [`read_cut`](path_journal::read_cut). `Unsound`: a line
+/// of the file has a reply that the lines before it don't owe. `StreamFailed`: also if the file can't be read or written; what wasn't kept
+/// isn't answered. The other statuses are those of [`follow_bytes`](crate::follow_bytes).
+pub fn follow_stored<D: Device + Drop, A: Allocator + Copy, R: Read, O: Write, E: Write>(
+    alloc: A,
+    declaration: &[u8],
+    room: u32,
+    syncing: Syncing,
+    device: D,
+    input: &mut R,
+    out: &mut O,
+    err: &mut E,
+) -> Status
+    // Each line of the input was an attempt or asked for the report, and its answer was written, and nothing else. The system went on
+    // behind the lines of the file.
+    ensures done { result ≡ Status.Done → WroteBehind (D.holds device) (R.remaining input.old) (O.contents out.old) (O.contents out.new)
+        declaration.now false }
+    // The file was refused and nothing written, or a line of the input was refused.
+    ensures refused { result ≡ Status.TextRefused → Keeps (O.contents out.old) (O.contents out.new)
+        ⊎ WroteBehind (D.holds device) (R.remaining input.old) (O.contents out.old) (O.contents out.new) declaration.now true }
+    // The text isn't a declaration, and nothing was written.
+    ensures undeclared { result ≡ Status.DeclarationRefused
+        → Keeps (O.contents out.old) (O.contents out.new) × IsNoDeclaration declaration.now }
+{
+    let (decl, devices) = match read_own(alloc, declaration) {
+        Ok(own) => own,
+        Err(fault) => return tell(err, fault),
+    };
+    let (room, opened) = match open_store(alloc, &decl, room, device) {
+        Ok(opened) => opened,
+        Err(fault) => return tell_store(err, fault),
+    };
+    if let Err(status) = tell_found(err, opened.lines.len(), opened.cut) {
+        return status;
+    }
+    let mut system = match Controller::open(alloc, decl, devices, room) {
+        Ok(system) => system,
+        Err((fault, _devices)) => return tell(err, Fault::Open(fault)),
+    };
+    if let Some((line, _fault)) = go_on(&mut system, &opened.lines) {
+        return tell_wrong(err, line);
+    }
+    drop(opened.lines);
+    let mut keeper = StoreKeeper {
+        store: opened.store,
+        syncing,
+        fault: None,
+    };
+    let status = follow_kept(alloc, system, &mut keeper, input, out, err);
+    closed(keeper, status, err)
+}

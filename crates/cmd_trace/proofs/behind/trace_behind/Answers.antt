@@ -1,0 +1,39 @@
+-- No system goes on, the attempts are refused, or they are traced.
+use Rattle.std.proofs.Common.{ℕ, List, subst}
+use Rattle.std.specs.Prelude.{map}
+use Rattle.path_model.specs.Declarations.{Declaration}
+use Rattle.path_shelf.specs.Own.{own_state}
+use Rattle.path_shelf.specs.States.{MayFail}
+use Rattle.cmd_base.specs.Ends.{RefusesText}
+use Rattle.cmd_base.specs.Refusals.{IsBadAttempts}
+use Rattle.cmd_base.specs.Statuses.{status_of}
+use Rattle.cmd_base.proofs.CallerLemmas.{ends_told, ends_written, unfailing}
+use Rattle.cmd_behind.specs.Behind.{behind_status}
+use Rattle.cmd_behind.proofs.CallerLemmas.{may_behind, may_unopened, same_declaration}
+use Rattle.cmd_trace.specs.Traces.{IsTraceBehind, TraceBehindEnds}
+use Rattle.cmd_trace.proofs.FailLemmas.{told_so}
+use Rattle.cmd_trace.proofs.behind.trace_behind.Goals as goal
+
+pub returns-in-Err : goal.returns-in-Err
+returns-in-Err g c =
+    let texts : List (List ℕ) = map (λ f. f.text.items) c.args.journal.now in
+    ends_told _ _ (behind_status c.in-Err.fault) _
+    (may_unopened c.args.declaration.now c.args.room texts (λ d. IsTraceBehind d c.args.room texts c.args.report c.args.attempts.now) (λ d. IsBadAttempts d c.args.attempts.now) (behind_status c.in-Err.fault) c.in-Err.ensures.err)
+    c.tell_behind.ensures
+
+pub returns-in-Ok-traced_on : goal.returns-in-Ok-traced_on
+returns-in-Ok-traced_on g c =
+    let texts : List (List ℕ) = map (λ f. f.text.items) c.args.journal.now in
+    let u = c.in-Ok.ensures.ok in
+    ends_written (TraceBehindEnds c.args.declaration.now c.args.room texts c.args.report c.args.attempts.now) _ _ _ _ _ _ c.as_slice.ensures.value
+    (u.0, u.1, (c.in-Ok.behind.system, u.2, told_so (MayFail (own_state {Y = g.row.A.Denot})) ⊥ c.in-Ok.behind.system c.args.report c.args.attempts.now _ unfailing c.in-Ok-traced_on.ensures.ok))
+    c.put_text.ensures
+
+pub returns-in-Err-traced_on : goal.returns-in-Err-traced_on
+returns-in-Err-traced_on g c =
+    let texts : List (List ℕ) = map (λ f. f.text.items) c.args.journal.now in
+    let u = c.in-Ok.ensures.ok in
+    ends_told _ _ (status_of c.in-Err-traced_on.fault) _
+    (may_behind c.args.declaration.now c.args.room texts (λ d. IsTraceBehind d c.args.room texts c.args.report c.args.attempts.now) (λ d. IsBadAttempts d c.args.attempts.now) u.0 (status_of c.in-Err-traced_on.fault) u.1
+    (subst (λ (d : Declaration). RefusesText ⊥ (IsBadAttempts d c.args.attempts.now) (status_of c.in-Err-traced_on.fault)) (same_declaration u.0 c.args.room texts c.in-Ok.behind.system u.2) c.in-Err-traced_on.ensures.err))
+    c.tell.ensures

@@ -1,4 +1,0 @@
-mod OpeningLemmas
-mod AuditLemmas
-mod SegmentLemmas
-pub mod CallerLemmas

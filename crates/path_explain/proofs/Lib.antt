@@ -1,7 +1,0 @@
-pub mod Kept
-pub mod Gathered
-pub mod StuckHere
-mod Explaining
-mod Judging
-mod Unexplained
-mod Unjudged

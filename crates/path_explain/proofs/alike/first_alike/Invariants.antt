@@ -1,7 +1,0 @@
--- No earlier path so far has the tree.
-use Rattle.std.proofs.Common.{◌≡◌, ℕ, ◌<◌}
-use Rattle.path_explain.specs.Standing.{tree_at}
-use Rattle.path_explain.proofs.alike.first_alike.Given as goal
-
-abbrev pub invariant-loop-number : goal.invariant-loop-number
-invariant-loop-number g l = (k : ℕ) → k < l.number → tree_at l.decl.declaration (record { 0 = k }) ≡ tree_at l.decl.declaration l.path → ⊥

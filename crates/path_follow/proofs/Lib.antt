@@ -1,6 +1,0 @@
-pub mod Written
-pub mod Answering
-pub mod Passing
-pub mod Stopping
-pub mod Reading
-pub mod Ending

@@ -1,3 +1,0 @@
-pub mod Follows
-pub mod Stops
-pub mod Inner

@@ -1,4 +1,0 @@
-pub mod EndLemmas
-pub mod RunLemmas
-pub mod TextLemmas
-pub mod Endings

@@ -1,5 +1,0 @@
-pub mod CallerLemmas
-pub mod WholeLemmas
-pub mod InputLemmas
-pub mod PutLemmas
-pub mod FaultLemmas

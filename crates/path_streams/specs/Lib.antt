@@ -1,4 +1,0 @@
-pub mod Statuses
-pub mod Refusals
-pub mod Writes
-pub mod Inputs

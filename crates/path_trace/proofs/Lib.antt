@@ -1,5 +1,0 @@
-pub mod FaultLemmas
-pub mod TraceLemmas
-pub mod FailLemmas
-pub mod OwnLemmas
-pub mod CallerLemmas

@@ -1,2 +1,0 @@
-pub mod ReportTexts
-pub mod Traces
