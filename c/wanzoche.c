@@ -11,6 +11,7 @@
 _Static_assert(sizeof(wanzoche) == 2 * sizeof(void *), "a pointer and a bool");
 _Static_assert(offsetof(wanzoche, live) == sizeof(void *), "the bool is second");
 _Static_assert(sizeof(wanzoche_answer) == 16, "a code and a number");
+_Static_assert(sizeof(wanzoche_taken) == 32, "two numbers and an answer");
 #endif
 
 wanzoche_answer path_c_open(wanzoche *, const uint8_t *, size_t, uint32_t, uint8_t *, size_t);
@@ -30,9 +31,19 @@ wanzoche_answer path_c_journal(wanzoche *, uint8_t *, size_t);
 wanzoche_answer path_c_rotate(wanzoche *);
 wanzoche_answer path_c_report(wanzoche *, uint8_t *, size_t);
 wanzoche_answer path_c_declaration(wanzoche *, uint8_t *, size_t);
+wanzoche_answer path_c_owed_start(wanzoche *, uint32_t, uint32_t);
+wanzoche_answer path_c_owed_use(wanzoche *, uint32_t, uint64_t, uint32_t, uint64_t);
+wanzoche_answer path_c_owed_finish(wanzoche *, uint32_t, uint64_t);
+wanzoche_answer path_c_take_over(wanzoche *, const uint8_t *, size_t, wanzoche_taken *);
+wanzoche_answer path_c_resume(wanzoche *, const uint8_t *, size_t, uint32_t, const uint8_t *, size_t, uint8_t *, size_t);
+wanzoche_answer path_c_resume_without_journal(wanzoche *, const uint8_t *, size_t, uint32_t, const uint8_t *, size_t, uint8_t *, size_t);
 wanzoche_answer path_c_audit(const uint8_t *, size_t, uint32_t, const uint8_t *, size_t, uint8_t *, size_t);
+wanzoche_answer path_c_explore(const uint8_t *, size_t, const uint8_t *, size_t, uint32_t, uint8_t *, size_t, uint8_t *, size_t);
+wanzoche_answer path_c_finding(const uint8_t *, size_t, uint8_t *, size_t);
 
 static const wanzoche_answer closed = {WANZOCHE_CLOSED, 0};
+
+static const wanzoche_taken none_taken = {0, 0, {0, 0}};
 
 /* A byte at a good address, for texts and buffers without bytes. */
 static uint8_t nothing[1];
@@ -184,6 +195,63 @@ wanzoche_answer wanzoche_declaration(wanzoche *handle, char *buffer,
     return path_c_declaration(handle, buffer_at(buffer), length_of(buffer, size));
 }
 
+wanzoche_answer wanzoche_owed_start(wanzoche *handle, uint32_t worker,
+                                    uint32_t operation) {
+    if (handle == NULL) return closed;
+    return path_c_owed_start(handle, worker, operation);
+}
+
+wanzoche_answer wanzoche_owed_use(wanzoche *handle, uint32_t worker,
+                                  uint64_t activation, uint32_t verb,
+                                  uint64_t number) {
+    if (handle == NULL) {
+        wanzoche_answer no_verb = {WANZOCHE_NO_VERB, 0};
+        return verb > WANZOCHE_ADD ? no_verb : closed;
+    }
+    return path_c_owed_use(handle, worker, activation, verb, number);
+}
+
+wanzoche_answer wanzoche_owed_finish(wanzoche *handle, uint32_t worker,
+                                     uint64_t activation) {
+    if (handle == NULL) return closed;
+    return path_c_owed_finish(handle, worker, activation);
+}
+
+wanzoche_answer wanzoche_take_over(wanzoche *handle, const char *text,
+                                   size_t length, wanzoche_taken *taken) {
+    wanzoche_taken unseen;
+    if (taken == NULL) taken = &unseen;
+    *taken = none_taken;
+    if (handle == NULL) return closed;
+    return path_c_take_over(handle, text_at(text), length_of(text, length),
+                            taken);
+}
+
+wanzoche_answer wanzoche_resume(wanzoche *handle, const char *text,
+                                size_t length, uint32_t room,
+                                const char *journal, size_t journal_length,
+                                char *message, size_t size) {
+    if (handle == NULL) return no_handle(message, size);
+    return path_c_resume(handle, text_at(text), length_of(text, length), room,
+                         text_at(journal), length_of(journal, journal_length),
+                         buffer_at(message), length_of(message, size));
+}
+
+wanzoche_answer wanzoche_resume_without_journal(wanzoche *handle,
+                                                const char *text,
+                                                size_t length, uint32_t room,
+                                                const char *journal,
+                                                size_t journal_length,
+                                                char *message, size_t size) {
+    if (handle == NULL) return no_handle(message, size);
+    return path_c_resume_without_journal(handle, text_at(text),
+                                         length_of(text, length), room,
+                                         text_at(journal),
+                                         length_of(journal, journal_length),
+                                         buffer_at(message),
+                                         length_of(message, size));
+}
+
 wanzoche_answer wanzoche_audit(const char *declaration, size_t length,
                                uint32_t room, const char *journal,
                                size_t journal_length, char *message,
@@ -192,6 +260,24 @@ wanzoche_answer wanzoche_audit(const char *declaration, size_t length,
                         room, text_at(journal),
                         length_of(journal, journal_length),
                         buffer_at(message), length_of(message, size));
+}
+
+wanzoche_answer wanzoche_explore(const char *declaration, size_t length,
+                                 const char *script, size_t script_length,
+                                 uint32_t most, char *journal,
+                                 size_t journal_size, char *message,
+                                 size_t size) {
+    return path_c_explore(text_at(declaration), length_of(declaration, length),
+                          text_at(script), length_of(script, script_length),
+                          most, buffer_at(journal),
+                          length_of(journal, journal_size),
+                          buffer_at(message), length_of(message, size));
+}
+
+wanzoche_answer wanzoche_explain(const char *text, size_t length, char *buffer,
+                                 size_t size) {
+    return path_c_finding(text_at(text), length_of(text, length),
+                          buffer_at(buffer), length_of(buffer, size));
 }
 
 const char *wanzoche_version(void) {
@@ -243,6 +329,17 @@ const char *wanzoche_words(uint32_t code) {
     case WANZOCHE_BAD_CAPACITY: return "bad capacity";
     case WANZOCHE_BAD_COUNT: return "bad count";
     case WANZOCHE_TOO_MANY: return "too many";
+    case WANZOCHE_TAKEN: return "taken";
+    case WANZOCHE_ALL_DONE: return "all done";
+    case WANZOCHE_STALLS: return "stalls";
+    case WANZOCHE_REFUSED: return "refused";
+    case WANZOCHE_UNDECIDED: return "undecided";
+    case WANZOCHE_SCRIPT_TOO_LONG: return "script too long";
+    case WANZOCHE_SCRIPT_BAD_LINE: return "bad line in script";
+    case WANZOCHE_SCRIPT_UNDECLARED: return "undeclared in script";
+    case WANZOCHE_SCRIPT_UNBALANCED: return "unbalanced in script";
+    case WANZOCHE_SCRIPT_TOO_DEEP: return "too deep in script";
+    case WANZOCHE_SCRIPT_TOO_MANY: return "too many in script";
     default: return "no such code";
     }
 }

@@ -38,7 +38,8 @@
 ** THREADS. A handle is for one thread at a time, which need not be the
 ** thread that opened it. Calls on one handle are ordered by a lock of the
 ** caller, or by the start or the join of a thread. Calls on different
-** handles need no order, nor does wanzoche_audit.
+** handles need no order, nor do wanzoche_audit, wanzoche_explore and
+** wanzoche_explain.
 **
 ** FORKS AND SIGNALS. No function is called from a signal handler. The child of
 ** a process with one thread has a copy of each handle, which is its own. The
@@ -49,10 +50,11 @@
 **
 ** MEMORY. A call allocates by the program's malloc, realloc and free, and
 ** only these calls do: wanzoche_open, wanzoche_open_without_journal,
-** wanzoche_journal, wanzoche_report, wanzoche_declaration and wanzoche_audit.
-** If it gets no memory it answers WANZOCHE_OUT_OF_MEMORY, keeps nothing, and
-** the handle is as it was. A start, a use, a finish and a rotation never lack
-** memory.
+** wanzoche_resume, wanzoche_resume_without_journal, wanzoche_take_over,
+** wanzoche_journal, wanzoche_report, wanzoche_declaration, wanzoche_audit,
+** wanzoche_explore and wanzoche_explain. If it gets no memory it answers
+** WANZOCHE_OUT_OF_MEMORY, keeps nothing, and the handle is as it was. A start,
+** a use, a finish and a rotation never lack memory.
 **
 ** TEXTS. A text that comes in is a pointer and a length, need not end with a
 ** zero byte, and isn't kept. A text that goes out ends with a zero byte,
@@ -118,6 +120,16 @@ typedef struct wanzoche_record {
 } wanzoche_record;
 
 /*
+** How much of a journal's text wanzoche_take_over has taken over.
+*/
+typedef struct wanzoche_taken {
+    uint64_t lines;       /* how many lines were taken, from the first on */
+    uint64_t bytes;       /* in how many bytes of the text whole lines stand */
+    wanzoche_answer owed; /* behind WANZOCHE_WRONG_LINE the reply that was owed
+                             to that line's attempt; else two zeros */
+} wanzoche_taken;
+
+/*
 ** The codes of answers. They never change their numbers.
 */
 enum {
@@ -170,7 +182,23 @@ enum {
     WANZOCHE_NESTED_BRACES = 42,
     WANZOCHE_BAD_CAPACITY = 43,      /* a queue's: 1 to 1,024 */
     WANZOCHE_BAD_COUNT = 44,         /* of braces: 1 to 65,535 */
-    WANZOCHE_TOO_MANY = 45           /* resources, operations, paths or names */
+    WANZOCHE_TOO_MANY = 45,          /* resources, operations, paths or names */
+
+    WANZOCHE_TAKEN = 46,             /* all whole lines were taken over */
+
+    /* What all schedules of a script come to */
+    WANZOCHE_ALL_DONE = 47,          /* number: the states looked at */
+    WANZOCHE_STALLS = 48,            /* number: the length of the journal */
+    WANZOCHE_REFUSED = 49,           /* number: the length of the journal */
+    WANZOCHE_UNDECIDED = 50,         /* number: the states looked at */
+
+    /* Why a text isn't a script; number: the line, from 0 */
+    WANZOCHE_SCRIPT_TOO_LONG = 51,   /* above 262,144 bytes; no number */
+    WANZOCHE_SCRIPT_BAD_LINE = 52,   /* not one, or none that can come there */
+    WANZOCHE_SCRIPT_UNDECLARED = 53, /* it enters an operation not declared */
+    WANZOCHE_SCRIPT_UNBALANCED = 54, /* it uses, leaves or ends wrongly */
+    WANZOCHE_SCRIPT_TOO_DEEP = 55,   /* it enters a 17th operation at once */
+    WANZOCHE_SCRIPT_TOO_MANY = 56    /* a 17th process, or a 4,097th step */
 };
 
 /*
@@ -187,11 +215,13 @@ enum {
 
 /*
 ** The most lines that a journal may have room for, the most operations that a
-** text may declare, and a size that is enough for each message.
+** text may declare, and a size that is enough for each message: that of
+** wanzoche_explore may have a line for each of 16 processes.
 */
 #define WANZOCHE_MOST_LINES 1048576
 #define WANZOCHE_MOST_OPERATIONS 256
 #define WANZOCHE_MESSAGE 64
+#define WANZOCHE_STANDINGS 1280
 
 /*
 ** Open a handle: a system of the declaration in a text, in which nothing has
@@ -328,6 +358,80 @@ uint32_t wanzoche_begin(wanzoche *handle, uint32_t worker, uint32_t operation,
 uint32_t wanzoche_end(wanzoche *handle, wanzoche_record *record);
 
 /*
+** The answers that wanzoche_start, wanzoche_use and wanzoche_finish would give
+** to the same arguments now. No attempt is made: no line is written, and nothing
+** changes. So a caller can put the line on a disk first, and then make the
+** attempt, which gets this reply if no other call came between.
+*/
+wanzoche_answer wanzoche_owed_start(wanzoche *handle, uint32_t worker,
+                                    uint32_t operation);
+wanzoche_answer wanzoche_owed_use(wanzoche *handle, uint32_t worker,
+                                  uint64_t activation, uint32_t verb,
+                                  uint64_t number);
+wanzoche_answer wanzoche_owed_finish(wanzoche *handle, uint32_t worker,
+                                     uint64_t activation);
+
+/*
+** Take over lines that were answered elsewhere, as by another process that
+** keeps the same log: each moves the system as if it had answered so here.
+** Nothing is taken whose reply isn't owed by all lines before it.
+**
+** The text is that of a journal, of any version, and may end anywhere: what
+** follows the last whole line, with its line feed, is left for a later call,
+** and `taken->bytes` says where that is. A first line that names a room is
+** passed over; lines that begin with `+` need one of version 3.
+**
+** WANZOCHE_TAKEN      all whole lines were taken; the number says how many
+** WANZOCHE_WRONG_LINE the number is that of the first line, from 0, whose reply
+**                     isn't owed; `taken->owed` says which is. Those before it
+**                     were taken, and no other. A line that says `device
+**                     failed` is right wherever the device would have served
+** WANZOCHE_JOURNAL_TOO_LONG, WANZOCHE_BAD_LINE, WANZOCHE_UNDECLARED_LINE
+**                     the text isn't a journal: a broken line has a whole one
+**                     behind it, or names what isn't declared; here a first
+**                     line that names the room counts. Nothing was taken
+** WANZOCHE_OUT_OF_MEMORY, WANZOCHE_CLOSED
+**                     nothing was taken
+**
+** The lines are kept as those of the handle's own attempts are, and take room
+** as they do. `taken` may be null.
+*/
+wanzoche_answer wanzoche_take_over(wanzoche *handle, const char *text,
+                                   size_t length, wanzoche_taken *taken);
+
+/*
+** Open a handle that goes on behind a journal: a system that answers from then
+** on as the one that wrote these lines would. What was live there is live,
+** under its number, and the devices have what they had.
+**
+** The first text is the declaration, and the second a journal under it, of any
+** version, which may end anywhere, as in wanzoche_take_over. A room that it
+** names counts instead of `room`. wanzoche_resume_without_journal opens a handle
+** as wanzoche_open_without_journal does; then any number of lines goes into any
+** room that has places for what was live at once.
+**
+** WANZOCHE_OPENED     the number says in how many bytes of the journal whole
+**                     lines stand: cut it there, and append to it
+** WANZOCHE_WRONG_LINE, WANZOCHE_JOURNAL_TOO_LONG, WANZOCHE_BAD_LINE,
+** WANZOCHE_UNDECLARED_LINE
+**                     as in wanzoche_take_over; a line above the room is wrong
+** all others          as of wanzoche_open
+**
+** Unless it answers WANZOCHE_OPENED, the handle is as it was. The message is
+** that of wanzoche_open, or of wanzoche_audit, or "wrong line 3".
+*/
+wanzoche_answer wanzoche_resume(wanzoche *handle, const char *text,
+                                size_t length, uint32_t room,
+                                const char *journal, size_t journal_length,
+                                char *message, size_t size);
+wanzoche_answer wanzoche_resume_without_journal(wanzoche *handle,
+                                                const char *text,
+                                                size_t length, uint32_t room,
+                                                const char *journal,
+                                                size_t journal_length,
+                                                char *message, size_t size);
+
+/*
 ** Whether a start of this operation would be admitted now, but for the room.
 ** Takes no line of the journal.
 **
@@ -444,6 +548,74 @@ wanzoche_answer wanzoche_audit(const char *declaration, size_t length,
                                uint32_t room, const char *journal,
                                size_t journal_length, char *message,
                                size_t size);
+
+/*
+** Look at every schedule of a script under a declaration, as `pathsys explore`
+** does: whether each of them ends done, or one stalls, where somebody waits
+** and nobody can go on, or one has a step refused, as a `take` from an empty
+** queue. It needs no handle, and starts no thread. docs/exploring.md says what
+** a schedule is, and docs/scripts.md what a script is.
+**
+** WANZOCHE_ALL_DONE   every schedule ends done; the number is how many states
+**                     were looked at
+** WANZOCHE_STALLS, WANZOCHE_REFUSED
+**                     the journal of a shortest schedule that goes wrong and a
+**                     zero byte are in the buffer: the text that `pathsys
+**                     explore` writes; the number is its length
+** WANZOCHE_UNDECIDED  there are more than `most` states, which is the number
+** WANZOCHE_TOO_SMALL  a journal could need number + 1 bytes, and the buffer has
+**                     fewer: 8 for each byte of the script, 2,097,152 at most,
+**                     and 65 more. Nothing was searched
+** WANZOCHE_TOO_LONG .. WANZOCHE_TOO_MANY
+**                     the first text isn't a declaration
+** WANZOCHE_SCRIPT_TOO_LONG .. WANZOCHE_SCRIPT_TOO_MANY
+**                     it is one, and the second text isn't a script under it
+** WANZOCHE_OUT_OF_MEMORY
+**
+** A null buffer has no bytes, so a call with one says at once which size is
+** enough. Only WANZOCHE_STALLS and WANZOCHE_REFUSED change the buffer.
+**
+** With these two the message has a line for each process, in the order of the
+** script: its name, `: `, and `done`, `under way`, `stalled NAME` with the
+** operation for which it waits, or `faulted REPLY`. WANZOCHE_STANDINGS bytes
+** are enough. Else it is that of wanzoche_open, behind `declaration: ` or
+** `script: ` if it is of a text, as "script: undeclared in line 1", and empty
+** after WANZOCHE_ALL_DONE and WANZOCHE_UNDECIDED.
+**
+** The time is that of the states: a step of each process in each. So is the
+** memory, which is given back: 8 bytes for each process, semaphore, counter and
+** operation, for each resource and each number that it contains, and some 40
+** more. Nothing stops the search but `most`: choose it by the time that there
+** is.
+*/
+wanzoche_answer wanzoche_explore(const char *declaration, size_t length,
+                                 const char *script, size_t script_length,
+                                 uint32_t most, char *journal,
+                                 size_t journal_size, char *message,
+                                 size_t size);
+
+/*
+** Say in words for people why a text isn't a declaration: what `pathsys check`
+** writes on standard error, with `declaration` in place of the file's name.
+** That is the line and the column, counted from 1, and what is wrong; the line
+** with a mark below the place; and where it is known what could stand there,
+** the nearest name that is declared, and the likely slip:
+**
+**     declaration:3:16: this isn't an operation of the path's resource
+**     path deposit ; remov end end
+**                    ^^^^^
+**     expected an operation that the resource declares
+**     nearest name: remove
+**
+** No program should read these words; they may change. It needs no handle.
+**
+** WANZOCHE_WRITTEN    the text and a zero byte are in the buffer; the number
+**                     is its length, 0 if the text is a declaration
+** WANZOCHE_TOO_SMALL  the buffer stays; it needs number + 1 bytes
+** WANZOCHE_OUT_OF_MEMORY
+*/
+wanzoche_answer wanzoche_explain(const char *text, size_t length, char *buffer,
+                                 size_t size);
 
 /*
 ** A code in words, as "blocked"; "no such code" if it is none. The text is

@@ -4,6 +4,7 @@
 **
 **     static wanzoche_monitor m;
 **     wanzoche_monitor_open(&m, text, strlen(text), 65536, why, sizeof why);
+**     deposit = (uint32_t)wanzoche_monitor_operation(&m, "deposit");
 **     ..
 **     wanzoche_answer a = wanzoche_enter(&m, me, deposit, -1);
 **     .. the operation ..
@@ -43,6 +44,7 @@
 #include <pthread.h>
 #include <sched.h>
 #include <stdlib.h>
+#include <string.h>
 #include <time.h>
 
 #ifdef __cplusplus
@@ -378,6 +380,20 @@ static inline wanzoche_answer wanzoche_leave(wanzoche_monitor *m, uint32_t worke
 static inline void wanzoche_leave_entry(void *entry) {
     wanzoche_entry *e = (wanzoche_entry *)entry;
     (void)wanzoche_leave(e->monitor, e->worker, e->activation);
+}
+
+/*
+** The number of the operation of this name; -1 if none is declared, and of a
+** monitor that isn't open. Ask once, and keep it: wanzoche_enter takes it.
+*/
+static inline int64_t wanzoche_monitor_operation(wanzoche_monitor *m,
+                                                 const char *name) {
+    int64_t number;
+    if (m == NULL || name == NULL || m->operations == 0) return -1;
+    pthread_mutex_lock(&m->lock);
+    number = wanzoche_operation(&m->system, name, strlen(name));
+    pthread_mutex_unlock(&m->lock);
+    return number;
 }
 
 /*

@@ -364,7 +364,8 @@ static void without_journal(void) {
     wanzoche_close(&w);
     CHECK(is(wanzoche_start(&w, 9, 0), WANZOCHE_CLOSED, 0));
     CHECK(is(wanzoche_open_without_journal(&w, SLOT, strlen(SLOT), 0, why, sizeof why), WANZOCHE_BAD_ROOM, 0) && !strcmp(why, "bad room"));
-    CHECK(is(wanzoche_open_without_journal(&w, "resource", 8, 4, why, sizeof why), WANZOCHE_UNEXPECTED, 8) && !strcmp(why, "unexpected at 8"));
+    CHECK(is(wanzoche_open_without_journal(&w, "resource", 8, 4, why, sizeof why), WANZOCHE_UNEXPECTED, 8));
+    CHECK(!strcmp(why, "unexpected at 8"));
     CHECK(is(wanzoche_open_without_journal(NULL, SLOT, strlen(SLOT), 64, why, sizeof why), WANZOCHE_CLOSED, 0) && why[0] == 0);
     CHECK(is(wanzoche_open_without_journal(&w, SLOT, strlen(SLOT), 1, NULL, 0), WANZOCHE_OPENED, 0));
     CHECK(is(wanzoche_start(&w, 1, 0), WANZOCHE_NO_ROOM, 0) && is(wanzoche_finish(&w, 1, 0), WANZOCHE_STALE, 0));
@@ -393,6 +394,122 @@ static void audits(void) {
     CHECK(is(wanzoche_audit(SLOT, strlen(SLOT), 1, much, 134217729, why, sizeof why), WANZOCHE_JOURNAL_TOO_LONG, 0));
     CHECK(!strcmp(why, "journal: too long"));
     free(much);
+}
+
+/* Why a text isn't a declaration, in the words of `pathsys check`; nothing of one that is. */
+static void explained(void) {
+    static const char bad[] = "resource slot cell\noperation deposit, remove\npath deposit ; remov end end\n";
+    static const char told[] = "declaration:3:16: this isn't an operation of the path's resource\n"
+                               "path deposit ; remov end end\n"
+                               "               ^^^^^\n"
+                               "expected an operation that the resource declares\n"
+                               "nearest name: remove\n";
+    char text[sizeof told], before[sizeof told];
+    CHECK(is(wanzoche_explain(bad, strlen(bad), text, sizeof text), WANZOCHE_WRITTEN, strlen(told)) && !strcmp(text, told));
+    memset(text, 'x', sizeof text);
+    memcpy(before, text, sizeof text);
+    CHECK(is(wanzoche_explain(bad, strlen(bad), text, sizeof text - 1), WANZOCHE_TOO_SMALL, strlen(told)));
+    CHECK(is(wanzoche_explain(bad, strlen(bad), NULL, 9), WANZOCHE_TOO_SMALL, strlen(told)));
+    CHECK(!memcmp(text, before, sizeof text));
+    CHECK(is(wanzoche_explain(SLOT, strlen(SLOT), text, 1), WANZOCHE_WRITTEN, 0) && text[0] == 0 && text[1] == 'x');
+    CHECK(is(wanzoche_explain(SLOT, strlen(SLOT), NULL, 9), WANZOCHE_TOO_SMALL, 0));
+    CHECK(wanzoche_explain(NULL, 9, text, sizeof text).code == WANZOCHE_WRITTEN && !strncmp(text, "declaration:1:1: ", 17));
+    char *much = calloc(65537, 1), large[4096];
+    CHECK(wanzoche_explain(much, 65537, large, sizeof large).code == WANZOCHE_WRITTEN);
+    CHECK(strstr(large, "the text has more than 65,536 bytes") != NULL);
+    free(much);
+}
+
+static const char CROSSWISE[] = "process p\nenter a\nenter b\nleave\nleave\nend\nprocess q\nenter b\nenter a\nleave\nleave\nend\n";
+static const char EMPTY[] = "process p\nenter b\nuse take\nleave\nend\nprocess q\nend\n";
+static const char LOCKS[] = "resource one cell operation a path a end end resource two queue 1 operation b path b end end";
+
+static wanzoche_answer explored(const char *script, uint32_t most, char *journal, size_t size, char *why) {
+    return wanzoche_explore(LOCKS, strlen(LOCKS), script, strlen(script), most, journal, size, why, WANZOCHE_STANDINGS);
+}
+
+/* A stall, a refused step, no schedule that goes wrong, and too many states to say. */
+static void searches(void) {
+    char journal[1024] = "?", why[WANZOCHE_STANDINGS] = "?", few[6];
+    CHECK(is(explored("process p\nenter a\nuse put 7\nleave\nend\n", 9, journal, sizeof journal, why), WANZOCHE_ALL_DONE, 4));
+    CHECK(!strcmp(journal, "?") && why[0] == 0);
+    CHECK(is(explored(CROSSWISE, 100, journal, sizeof journal, why), WANZOCHE_STALLS, 107));
+    CHECK(!strcmp(journal, "journal 2 room 1048576\n0 start a: started 0\n1 start b: started 1\n"
+                           "0 start b: blocked 1\n1 start a: blocked 0\n"));
+    CHECK(!strcmp(why, "p: stalled b\nq: stalled a\n"));
+    CHECK(is(wanzoche_audit(LOCKS, strlen(LOCKS), 0, journal, strlen(journal), why, 1), WANZOCHE_SOUND, 0));
+    CHECK(is(explored(EMPTY, 100, journal, sizeof journal, why), WANZOCHE_REFUSED, 64));
+    CHECK(!strcmp(journal, "journal 2 room 1048576\n0 start b: started 0\n0 use 0 take: empty\n"));
+    CHECK(!strcmp(why, "p: faulted empty\nq: done\n"));
+    strcpy(journal, "?");
+    CHECK(is(explored(CROSSWISE, 2, journal, sizeof journal, why), WANZOCHE_UNDECIDED, 2) && !strcmp(journal, "?") && why[0] == 0);
+    CHECK(is(explored(CROSSWISE, 0, journal, sizeof journal, why), WANZOCHE_UNDECIDED, 0));
+    CHECK(is(explored("", 1, journal, sizeof journal, why), WANZOCHE_ALL_DONE, 1));
+    CHECK(is(wanzoche_explore(LOCKS, strlen(LOCKS), NULL, 9, 1, journal, sizeof journal, NULL, 9), WANZOCHE_ALL_DONE, 1));
+    wanzoche_answer a = wanzoche_explore(LOCKS, strlen(LOCKS), CROSSWISE, strlen(CROSSWISE), 99, journal, sizeof journal, few, sizeof few);
+    CHECK(is(a, WANZOCHE_STALLS, strlen(journal)) && !strcmp(few, "p: st"));
+}
+
+/* A buffer that could be too small, and each fault of a text: nothing is searched, and the buffer stays. */
+static void searches_nothing(void) {
+    static const struct { const char *script; uint32_t code; uint64_t line; const char *why; } table[] = {
+        {"process p\nenter a\nleav\nend\n", WANZOCHE_SCRIPT_BAD_LINE, 2, "script: bad line 2"},
+        {"process p\n", WANZOCHE_SCRIPT_BAD_LINE, 1, "script: bad line 1"},
+        {"process p\nenter c\nleave\nend\n", WANZOCHE_SCRIPT_UNDECLARED, 1, "script: undeclared in line 1"},
+        {"process p\nleave\nend\n", WANZOCHE_SCRIPT_UNBALANCED, 1, "script: unbalanced in line 1"},
+    };
+    char journal[2048] = "?", why[WANZOCHE_STANDINGS], *much = malloc(262145);
+    uint64_t wanted = 8 * strlen(CROSSWISE) + 64;
+    CHECK(is(explored(CROSSWISE, 100, NULL, sizeof journal, why), WANZOCHE_TOO_SMALL, wanted) && !strcmp(why, "too small"));
+    CHECK(is(explored(CROSSWISE, 100, journal, wanted, why), WANZOCHE_TOO_SMALL, wanted) && !strcmp(journal, "?"));
+    CHECK(is(wanzoche_explore("resource", 8, CROSSWISE, 4, 9, journal, 64, NULL, 9), WANZOCHE_TOO_SMALL, 96));
+    for (size_t n = 0; n < sizeof table / sizeof *table; n++) {
+        CHECK(is(explored(table[n].script, 9, journal, sizeof journal, why), table[n].code, table[n].line) && !strcmp(why, table[n].why));
+        CHECK(!strcmp(journal, "?"));
+    }
+    CHECK(is(wanzoche_explore("resource", 8, "x", 1, 9, journal, sizeof journal, why, sizeof why), WANZOCHE_UNEXPECTED, 8));
+    CHECK(!strcmp(why, "declaration: unexpected at 8") && !strcmp(journal, "?"));
+    CHECK(is(wanzoche_explore(NULL, 8, NULL, 9, 9, journal, sizeof journal, why, 0), WANZOCHE_UNEXPECTED, 0));
+    strcpy(journal, "process p\n");
+    for (unsigned n = 0; n < 17; n++) strcat(journal, "enter a\n");
+    CHECK(is(explored(journal, 9, much, 262145, why), WANZOCHE_SCRIPT_TOO_DEEP, 17) && !strcmp(why, "script: too deep in line 17"));
+    journal[0] = 0;
+    for (unsigned n = 0; n < 17; n++) strcat(journal, "process p\nend\n");
+    CHECK(is(explored(journal, 9, much, 262145, why), WANZOCHE_SCRIPT_TOO_MANY, 32) && !strcmp(why, "script: too many in line 32"));
+    memset(much, '\n', 262145);
+    char *large = malloc(2097217);
+    CHECK(is(wanzoche_explore(LOCKS, strlen(LOCKS), much, 262145, 9, large, 2097216, why, sizeof why), WANZOCHE_TOO_SMALL, 2097216));
+    CHECK(is(wanzoche_explore(LOCKS, strlen(LOCKS), much, 262145, 9, large, 2097217, why, sizeof why), WANZOCHE_SCRIPT_TOO_LONG, 0));
+    CHECK(!strcmp(why, "script: too long"));
+    free(large);
+    free(much);
+}
+
+/* One process of so many of these steps, behind an `enter` and before `behind`: the journal of its one schedule that goes wrong, which is
+ * as long as any can be, fits where the call takes a buffer. */
+static void is_long(const char *device, const char *first, const char *step, unsigned steps, const char *behind) {
+    size_t size = 64 + strlen(first) + strlen(behind) + steps * strlen(step), length = 0;
+    char declaration[256], *script = malloc(size), why[WANZOCHE_STANDINGS];
+    snprintf(declaration, sizeof declaration, "resource r %s operation a, z path a end path z end end", device);
+    for (unsigned n = 0; n < 15; n++) length += (size_t)sprintf(script + length, "process p\nend\n");
+    script = realloc(script, size + length);
+    length += (size_t)sprintf(script + length, "process p\n%s", first);
+    for (unsigned n = 0; n < steps; n++) length += (size_t)sprintf(script + length, "%s", step);
+    length += (size_t)sprintf(script + length, "%s", behind);
+    size_t most = 8 * length + 65;
+    char *journal = malloc(most);
+    wanzoche_answer a = wanzoche_explore(declaration, strlen(declaration), script, length, 9999, journal, most, why, sizeof why);
+    CHECK((a.code == WANZOCHE_STALLS || a.code == WANZOCHE_REFUSED) && a.number < most - 1 && strlen(journal) == a.number);
+    if (a.code != WANZOCHE_STALLS && a.code != WANZOCHE_REFUSED) printf("%s: %s\n", wanzoche_words(a.code), why);
+    free(journal);
+    free(script);
+}
+
+static void longest_journals(void) {
+    is_long("tally", "enter a\nuse add 18446744073709551615\n", "use look\n", 4092, "use add 1\nleave\nend\n");
+    is_long("queue 1", "enter a\nuse put 18446744073709551615\n", "use look\n", 4092, "use put 1\nleave\nend\n");
+    is_long("cell", "", "enter a\nleave\n", 2046, "enter a\nuse take\nleave\nend\n");
+    is_long("cell", "enter a\n", "enter z\nleave\n", 2046, "enter a\nleave\nleave\nend\n");
 }
 
 /* The child of a process with one thread has a copy of the handle, which is its own. */
@@ -461,9 +578,173 @@ static void replies(void) {
     CHECK(!is_reply(WANZOCHE_CLOSED, "") && !is_reply(WANZOCHE_NO_VERB, "") && !is_reply(WANZOCHE_CAN_START, ""));
 }
 
+/* What an attempt would be answered is what it is answered then, and nothing changes by asking. */
+static void owed(void) {
+    wanzoche w = WANZOCHE_CLOSED_HANDLE, *handles[] = {NULL, &w};
+    for (int n = 0; n < 2; n++) {
+        CHECK(is(wanzoche_owed_start(handles[n], 1, 0), WANZOCHE_CLOSED, 0));
+        CHECK(is(wanzoche_owed_use(handles[n], 1, 0, WANZOCHE_LOOK, 0), WANZOCHE_CLOSED, 0));
+        CHECK(is(wanzoche_owed_use(handles[n], 1, 0, 4, 0), WANZOCHE_NO_VERB, 0));
+        CHECK(is(wanzoche_owed_finish(handles[n], 1, 0), WANZOCHE_CLOSED, 0));
+    }
+    CHECK(is(open_with(&w, THREE, 16, NULL), WANZOCHE_OPENED, 0));
+    CHECK(is(wanzoche_owed_start(&w, 1, 3), WANZOCHE_STARTED, 0) && is(wanzoche_owed_start(&w, 1, 9), WANZOCHE_UNKNOWN_OPERATION, 0));
+    CHECK(wanzoche_lines(&w) == 0 && wanzoche_live(&w) == 0 && is(wanzoche_start(&w, 1, 3), WANZOCHE_STARTED, 0));
+    CHECK(is(wanzoche_owed_start(&w, 2, 4), WANZOCHE_BLOCKED, 0) && is(wanzoche_owed_finish(&w, 2, 0), WANZOCHE_NOT_YOURS, 0));
+    CHECK(is(wanzoche_owed_use(&w, 1, 0, WANZOCHE_TAKE, 0), WANZOCHE_EMPTY, 0));
+    CHECK(is(wanzoche_owed_use(&w, 1, 0, WANZOCHE_PUT, 5), WANZOCHE_USED, 1));
+    CHECK(is(wanzoche_use(&w, 1, 0, WANZOCHE_PUT, 5), WANZOCHE_USED, 1));
+    CHECK(is(wanzoche_owed_use(&w, 1, 0, WANZOCHE_PUT, 6), WANZOCHE_FULL, 0));
+    CHECK(is(wanzoche_owed_use(&w, 1, 0, WANZOCHE_ADD, 6), WANZOCHE_NOT_OFFERED, 0));
+    CHECK(is(wanzoche_owed_use(&w, 1, 0, WANZOCHE_TAKE, 0), WANZOCHE_USED, 5));
+    CHECK(is(wanzoche_owed_use(&w, 1, 0, WANZOCHE_TAKE, 0), WANZOCHE_USED, 5));
+    CHECK(is(wanzoche_owed_use(&w, 2, 0, WANZOCHE_TAKE, 0), WANZOCHE_NOT_YOURS, 0));
+    CHECK(is(wanzoche_owed_use(&w, 1, 8, WANZOCHE_TAKE, 0), WANZOCHE_STALE, 0));
+    CHECK(is(wanzoche_start(&w, 1, 2), WANZOCHE_STARTED, 1));
+    CHECK(is(wanzoche_owed_use(&w, 1, 1, WANZOCHE_ADD, UINT64_MAX), WANZOCHE_USED, UINT64_MAX));
+    CHECK(is(wanzoche_use(&w, 1, 1, WANZOCHE_ADD, 7), WANZOCHE_USED, 7));
+    CHECK(is(wanzoche_owed_use(&w, 1, 1, WANZOCHE_ADD, UINT64_MAX), WANZOCHE_OVERFLOW, 0));
+    CHECK(is(wanzoche_start(&w, 1, 0), WANZOCHE_STARTED, 2) && is(wanzoche_owed_use(&w, 1, 2, WANZOCHE_PUT, 9), WANZOCHE_USED, 0));
+    CHECK(is(wanzoche_owed_finish(&w, 1, 2), WANZOCHE_FINISHED, 0) && is(wanzoche_owed_finish(&w, 1, 9), WANZOCHE_STALE, 0));
+    CHECK(wanzoche_lines(&w) == 5 && wanzoche_live(&w) == 3 && wanzoche_room_left(&w) == 8);
+    while (wanzoche_room_left(&w) > 0) wanzoche_use(&w, 1, 2, WANZOCHE_LOOK, 0);
+    CHECK(is(wanzoche_owed_start(&w, 1, 1), WANZOCHE_NO_ROOM, 0) && is(wanzoche_owed_use(&w, 1, 2, WANZOCHE_LOOK, 0), WANZOCHE_NO_ROOM, 0));
+    CHECK(is(wanzoche_owed_finish(&w, 1, 9), WANZOCHE_NO_ROOM, 0) && is(wanzoche_owed_finish(&w, 1, 2), WANZOCHE_FINISHED, 0));
+    wanzoche_close(&w);
+}
+
+/* The lines of two workers at the three resources, each with another kind of answer. */
+static const char LINES[] = "1 start push: started 0\n2 start pop: blocked 0\n1 use 0 put 5: used 1\n1 use 0 put 6: full\n"
+                            "2 use 0 look: not yours\n1 finish 0: finished\n1 finish 0: stale\n2 start pop: started 1\n"
+                            "2 use 1 take: used 5\n2 use 1 take: empty\n1 start add1: started 2\n1 use 2 add 4: device failed\n"
+                            "1 use 2 add 4: used 4\n1 use 2 put 4: not offered\n1 start put1: started 3\n1 use 3 put 8: used 0\n";
+
+/* Whether both handles have the same lines and the same report. */
+static bool agree(wanzoche *one, wanzoche *other) {
+    static char texts[4][1024];
+    CHECK(wanzoche_report(one, texts[0], 1024).code == WANZOCHE_WRITTEN && wanzoche_report(other, texts[1], 1024).code == WANZOCHE_WRITTEN);
+    wanzoche_journal(one, texts[2], 1024);
+    wanzoche_journal(other, texts[3], 1024);
+    return !strcmp(texts[0], texts[1]) && !strcmp(texts[2], texts[3]);
+}
+
+/* A handle that has taken over all lines. */
+static wanzoche behind_all(void) {
+    wanzoche w = WANZOCHE_CLOSED_HANDLE;
+    CHECK(is(open_with(&w, THREE, 64, NULL), WANZOCHE_OPENED, 0));
+    CHECK(is(wanzoche_take_over(&w, LINES, strlen(LINES), NULL), WANZOCHE_TAKEN, 16));
+    return w;
+}
+
+/* How many lines a text of this length has whole, and in how many bytes they stand. */
+static uint64_t whole(const char *text, size_t length, size_t *bytes) {
+    uint64_t lines = 0;
+    *bytes = 0;
+    for (size_t n = 0; n < length; n++)
+        if (text[n] == '\n') lines++, *bytes = n + 1;
+    return lines;
+}
+
+/* Lines are taken over in two pieces, cut anywhere: the rest of a cut line comes with the second piece. */
+static void takes_over(void) {
+    wanzoche all = behind_all();
+    CHECK(wanzoche_lines(&all) == 16 && wanzoche_live(&all) == 3 && is(wanzoche_owed_use(&all, 1, 2, WANZOCHE_LOOK, 0), WANZOCHE_USED, 4));
+    for (size_t cut = 0; cut <= strlen(LINES); cut++) {
+        wanzoche w = WANZOCHE_CLOSED_HANDLE;
+        wanzoche_taken taken = {9, 9, {9, 9}};
+        size_t bytes;
+        uint64_t lines = whole(LINES, cut, &bytes);
+        CHECK(is(open_with(&w, THREE, 64, NULL), WANZOCHE_OPENED, 0));
+        CHECK(is(wanzoche_take_over(&w, LINES, cut, &taken), WANZOCHE_TAKEN, lines));
+        CHECK(taken.lines == lines && taken.bytes == bytes && is(taken.owed, 0, 0) && wanzoche_lines(&w) == lines);
+        CHECK(is(wanzoche_take_over(&w, LINES + bytes, strlen(LINES) - bytes, &taken), WANZOCHE_TAKEN, 16 - lines));
+        CHECK(taken.lines == 16 - lines && taken.bytes == strlen(LINES) - bytes && agree(&w, &all));
+        wanzoche_close(&w);
+    }
+    wanzoche_close(&all);
+}
+
+static wanzoche_answer takes(wanzoche *w, const char *text, wanzoche_taken *taken) {
+    return wanzoche_take_over(w, text, strlen(text), taken);
+}
+
+/* A line whose reply isn't owed isn't taken, and the reply that is owed is told. */
+static void takes_no_forged_line(void) {
+    wanzoche w = WANZOCHE_CLOSED_HANDLE;
+    wanzoche_taken taken = {9, 9, {9, 9}};
+    CHECK(is(wanzoche_take_over(NULL, LINES, 8, &taken), WANZOCHE_CLOSED, 0) && taken.lines == 0 && taken.bytes == 0);
+    CHECK(is(taken.owed, 0, 0));
+    CHECK(is(takes(&w, LINES, NULL), WANZOCHE_CLOSED, 0));
+    CHECK(is(open_with(&w, SLOT, 4, NULL), WANZOCHE_OPENED, 0));
+    CHECK(is(takes(&w, "1 start deposit: started 0\n1 use 0 put 7: used 1\n1 finish 0: finished\n", &taken), WANZOCHE_WRONG_LINE, 1));
+    CHECK(taken.lines == 1 && taken.bytes == 70 && is(taken.owed, WANZOCHE_USED, 0) && wanzoche_lines(&w) == 1 && wanzoche_live(&w) == 1);
+    CHECK(is(takes(&w, "2 start remove: blocked 1\n", &taken), WANZOCHE_WRONG_LINE, 0) && is(taken.owed, WANZOCHE_BLOCKED, 0));
+    CHECK(is(takes(&w, "1 start deposit: no room\n", &taken), WANZOCHE_WRONG_LINE, 0) && is(taken.owed, WANZOCHE_BLOCKED, 0));
+    CHECK(is(takes(&w, "1 finish 0: device failed\n", &taken), WANZOCHE_WRONG_LINE, 0) && is(taken.owed, WANZOCHE_FINISHED, 0));
+    CHECK(is(takes(&w, "1 use 0 look: device failed\n", &taken), WANZOCHE_TAKEN, 1) && taken.bytes == 28);
+    CHECK(is(takes(&w, "hello\n1 finish 0: finished\n", &taken), WANZOCHE_BAD_LINE, 0) && taken.lines == 0 && taken.bytes == 0);
+    CHECK(is(takes(&w, "1 finish 0: finished\n1 start steal: blocked 0\n", &taken), WANZOCHE_UNDECLARED_LINE, 1) && wanzoche_live(&w) == 1);
+    CHECK(is(takes(&w, "journal 3 room 900\n+1 use 0 look: used 0\n1 fin", &taken), WANZOCHE_TAKEN, 1) && taken.bytes == 41);
+    CHECK(is(takes(&w, "1 use 0 look: used 0\n", &taken), WANZOCHE_WRONG_LINE, 0) && is(taken.owed, WANZOCHE_NO_ROOM, 0));
+    CHECK(is(takes(&w, "hello", &taken), WANZOCHE_TAKEN, 0) && taken.bytes == 0);
+    CHECK(is(wanzoche_take_over(&w, NULL, 9, &taken), WANZOCHE_TAKEN, 0));
+    CHECK(is(takes(&w, "1 finish 0: finished\n", &taken), WANZOCHE_TAKEN, 1) && wanzoche_live(&w) == 0 && wanzoche_lines(&w) == 4);
+    wanzoche_close(&w);
+}
+
+static wanzoche_answer goes_on(wanzoche *w, const char *text, const char *journal, uint32_t room, char *why) {
+    return wanzoche_resume(w, text, strlen(text), room, journal, strlen(journal), why, WANZOCHE_MESSAGE);
+}
+
+/* A handle goes on behind a journal that is cut anywhere, as the one that wrote its whole lines. */
+static void resumes(void) {
+    wanzoche all = behind_all();
+    for (size_t cut = 0; cut <= strlen(LINES); cut++) {
+        wanzoche w = WANZOCHE_CLOSED_HANDLE, bare = w;
+        size_t bytes;
+        uint64_t lines = whole(LINES, cut, &bytes);
+        CHECK(is(wanzoche_resume(&w, THREE, strlen(THREE), 64, LINES, cut, NULL, 0), WANZOCHE_OPENED, bytes));
+        CHECK(is(wanzoche_resume_without_journal(&bare, THREE, strlen(THREE), 5, LINES, cut, NULL, 0), WANZOCHE_OPENED, bytes));
+        CHECK(wanzoche_lines(&w) == lines && wanzoche_lines(&bare) == 0 && wanzoche_live(&w) == wanzoche_live(&bare));
+        CHECK(is(wanzoche_take_over(&w, LINES + bytes, strlen(LINES) - bytes, NULL), WANZOCHE_TAKEN, 16 - lines));
+        CHECK(is(wanzoche_take_over(&bare, LINES + bytes, strlen(LINES) - bytes, NULL), WANZOCHE_TAKEN, 16 - lines));
+        CHECK(agree(&w, &all) && is(wanzoche_use(&bare, 1, 3, WANZOCHE_LOOK, 0), WANZOCHE_USED, 8));
+        CHECK(is(wanzoche_journal(&bare, NULL, 0), WANZOCHE_NO_JOURNAL, 0));
+        wanzoche_close(&w);
+        wanzoche_close(&bare);
+    }
+    wanzoche_close(&all);
+}
+
+/* What can't be gone on from is told, and the handle stays closed. */
+static void resumes_nothing_wrong(void) {
+    wanzoche w = WANZOCHE_CLOSED_HANDLE;
+    char why[WANZOCHE_MESSAGE] = "?";
+    CHECK(is(goes_on(NULL, SLOT, "", 4, why), WANZOCHE_CLOSED, 0) && why[0] == 0);
+    CHECK(is(goes_on(&w, SLOT, "1 start deposit: started 0\n1 finish 0: stale\n", 4, why), WANZOCHE_WRONG_LINE, 1));
+    CHECK(!strcmp(why, "wrong line 1"));
+    CHECK(is(goes_on(&w, SLOT, "hello\n1 start deposit: started 0\n", 4, why), WANZOCHE_BAD_LINE, 0));
+    CHECK(!strcmp(why, "journal: bad line 0"));
+    CHECK(is(goes_on(&w, SLOT, "1 start steal: blocked 0\n", 4, why), WANZOCHE_UNDECLARED_LINE, 0));
+    CHECK(!strcmp(why, "journal: undeclared in line 0"));
+    CHECK(is(goes_on(&w, "resource", "", 4, why), WANZOCHE_UNEXPECTED, 8) && !strcmp(why, "declaration: unexpected at 8"));
+    CHECK(is(goes_on(&w, SLOT, "", 0, why), WANZOCHE_BAD_ROOM, 0) && !strcmp(why, "bad room"));
+    CHECK(is(wanzoche_start(&w, 1, 0), WANZOCHE_CLOSED, 0));
+    /* The room that the journal names counts. */
+    CHECK(is(goes_on(&w, SLOT, "journal 2 room 2\n1 start deposit: started 0\n2 start remove: blocked 0\n", 64, why),
+             WANZOCHE_WRONG_LINE, 1));
+    CHECK(is(goes_on(&w, SLOT, "journal 3 room 3\n1 start deposit: started 0\n+2 start remo", 0, why), WANZOCHE_OPENED, 44) && why[0] == 0);
+    CHECK(wanzoche_room_left(&w) == 1 && is(goes_on(&w, SLOT, "", 4, why), WANZOCHE_ALREADY_OPEN, 0) && !strcmp(why, "already open"));
+    CHECK(is(wanzoche_finish(&w, 1, 0), WANZOCHE_FINISHED, 0));
+    wanzoche_close(&w);
+    CHECK(is(wanzoche_resume(&w, NULL, 9, 4, NULL, 9, NULL, 9), WANZOCHE_UNEXPECTED, 0));
+    CHECK(is(wanzoche_resume(&w, SLOT, strlen(SLOT), 4, NULL, 9, NULL, 9), WANZOCHE_OPENED, 0) && wanzoche_lines(&w) == 0);
+    wanzoche_close(&w);
+}
+
 static void words(void) {
-    CHECK(!strcmp(wanzoche_words(WANZOCHE_BLOCKED), "blocked") && !strcmp(wanzoche_words(46), "no such code"));
-    for (uint32_t code = 0; code <= WANZOCHE_TOO_MANY; code++)
+    CHECK(!strcmp(wanzoche_words(WANZOCHE_BLOCKED), "blocked") && !strcmp(wanzoche_words(57), "no such code"));
+    for (uint32_t code = 0; code <= WANZOCHE_SCRIPT_TOO_MANY; code++)
         CHECK((code > WANZOCHE_NO_JOURNAL && code < WANZOCHE_TOO_LONG) == !strcmp(wanzoche_words(code), "no such code"));
 }
 
@@ -481,8 +762,17 @@ int main(void) {
     rotations();
     without_journal();
     audits();
+    explained();
+    searches();
+    searches_nothing();
+    longest_journals();
     forks();
     replies();
+    owed();
+    takes_over();
+    takes_no_forged_line();
+    resumes();
+    resumes_nothing_wrong();
     words();
     printf("calls: %d failures\n", failures);
     return failures != 0;

@@ -130,8 +130,36 @@ static wanzoche_answer declares(void) {
     return wanzoche_declaration(&w, text, sizeof text);
 }
 
+static wanzoche_answer explains(void) {
+    return wanzoche_explain("path deposit ; remov", 20, text, sizeof text);
+}
+
 static wanzoche_answer audits(void) {
     return wanzoche_audit(SLOT, strlen(SLOT), 64, text, (size_t)text_length, NULL, 0);
+}
+
+static const char STALLS[] = "process p\nenter remove\nleave\nend\n", DONE[] = "process p\nenter deposit\nuse put 7\nleave\nend\n";
+
+static wanzoche_answer explores(const char *script) {
+    return wanzoche_explore(SLOT, strlen(SLOT), script, strlen(script), 99, text, sizeof text, NULL, 0);
+}
+
+static wanzoche_answer finds_a_stall(void) {
+    return explores(STALLS);
+}
+
+static wanzoche_answer finds_none(void) {
+    return explores(DONE);
+}
+
+static const char LINE[] = "1 start deposit: started 0\n";
+
+static wanzoche_answer resumes(void) {
+    return wanzoche_resume(&w, SLOT, strlen(SLOT), 64, LINE, strlen(LINE), NULL, 0);
+}
+
+static wanzoche_answer takes_over(void) {
+    return wanzoche_take_over(&w, "1 finish 0: finished\n", 21, NULL);
 }
 
 static int each_in_turn(const char *name, wanzoche_answer (*call)(void), uint32_t wanted) {
@@ -170,7 +198,15 @@ int main(void) {
     bad |= each_in_turn("report", reports, WANZOCHE_WRITTEN);
     bad |= each_in_turn("declaration", declares, WANZOCHE_WRITTEN);
     text_length = 0;
+    bad |= each_in_turn("explain", explains, WANZOCHE_WRITTEN);
     bad |= each_in_turn("audit", audits, WANZOCHE_SOUND);
+    text[0] = 0;
+    bad |= each_in_turn("explore", finds_none, WANZOCHE_ALL_DONE) || text[0] != 0;
+    bad |= each_in_turn("explore a stall", finds_a_stall, WANZOCHE_STALLS) || strncmp(text, "journal 2 room 1048576\n", 23);
+    wanzoche_close(&w);
+    bad |= each_in_turn("resume", resumes, WANZOCHE_OPENED);
+    bad |= each_in_turn("take over", takes_over, WANZOCHE_TAKEN);
+    bad |= wanzoche_lines(&w) != 2 || wanzoche_live(&w) != 0;
     wanzoche_close(&w);
     if (blocks != 0) printf("%ld blocks are left\n", blocks), bad = 1;
     printf("failing: %d\n", bad);

@@ -154,6 +154,7 @@ static void closed_ones(void) {
         CHECK(wanzoche_monitor_report(monitors[n], text, sizeof text).code == WANZOCHE_CLOSED);
         CHECK(wanzoche_monitor_journal(monitors[n], text, sizeof text).code == WANZOCHE_CLOSED);
         CHECK(wanzoche_monitor_rotate(monitors[n]).code == WANZOCHE_CLOSED);
+        CHECK(wanzoche_monitor_operation(monitors[n], "deposit") == -1);
     }
     CHECK(wanzoche_monitor_open(NULL, SLOT, strlen(SLOT), 1, why, sizeof why).code == WANZOCHE_CLOSED);
     CHECK(wanzoche_monitor_open(&m, "resource", 8, 1, why, sizeof why).code == WANZOCHE_UNEXPECTED && !strcmp(why, "unexpected at 8"));
@@ -356,6 +357,8 @@ static void without_journal(void) {
         CHECK(wanzoche_enter(&m, 2, n % 2, 0).code == WANZOCHE_NO_ROOM);
         CHECK(wanzoche_leave(&m, 1, a.number).code == WANZOCHE_FINISHED);
     }
+    CHECK(wanzoche_monitor_operation(&m, "deposit") == 0 && wanzoche_monitor_operation(&m, "remove") == 1);
+    CHECK(wanzoche_monitor_operation(&m, "remov") == -1 && wanzoche_monitor_operation(&m, NULL) == -1);
     CHECK(wanzoche_monitor_report(&m, text, sizeof text).code == WANZOCHE_WRITTEN);
     CHECK(!strcmp(text, "startable deposit\nblocked remove 0\nfrozen no\n"));
     CHECK(wanzoche_monitor_journal(&m, text, sizeof text).code == WANZOCHE_NO_JOURNAL);

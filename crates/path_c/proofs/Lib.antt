@@ -1,3 +1,4 @@
 pub mod AsBox
+pub mod Refused
 pub mod Taking
 pub mod Told

@@ -8,6 +8,8 @@ use Rattle.path_lex.specs.declared.fault.DeclFault.{DeclFault}
 use Rattle.path_lex.specs.declared.fault.DeclFault.TheVariants as declarations
 use Rattle.path_lines.specs.declared.texts.TextFault.{TextFault}
 use Rattle.path_lines.specs.declared.texts.TextFault.TheVariants as texts
+use Rattle.path_script.specs.declared.fault.ScriptFault.{ScriptFault}
+use Rattle.path_script.specs.declared.fault.ScriptFault.TheVariants as scripts
 use Rattle.path_audit.specs.declared.journals.Verdict.{Verdict}
 use Rattle.path_audit.specs.declared.journals.Verdict.TheVariants as verdicts
 use Rattle.path_system.specs.declared.calls.StartRefusal.{StartRefusal}
@@ -18,46 +20,48 @@ use Rattle.path_service.specs.declared.fault.JournalFault.{JournalFault}
 use Rattle.path_service.specs.declared.fault.JournalFault.TheVariants as journals
 use Rattle.path_service.specs.declared.fault.AuditRefusal.{AuditRefusal}
 use Rattle.path_service.specs.declared.fault.AuditRefusal.TheVariants as audits
-use Rattle.path_c.specs.declared.answer.Answer.{Answer}
+use Rattle.path_service.specs.declared.fault.ExploreRefusal.{ExploreRefusal}
+use Rattle.path_service.specs.declared.fault.ExploreRefusal.TheVariants as searches
+use Rattle.path_service.specs.declared.fault.ResumeRefusal.{ResumeRefusal}
+use Rattle.path_service.specs.declared.fault.ResumeRefusal.TheVariants as resumes
+use Rattle.path_service.specs.declared.taking.TakenText.{TakenText}
+use Rattle.path_c.specs.declared.answer.CodedAnswer.{CodedAnswer}
 
-abbrev pub numbered : ℕ → ℕ → Answer
+abbrev pub numbered : ℕ → ℕ → CodedAnswer
 numbered code number = record { code = code; number = number }
 
-abbrev pub plain : ℕ → Answer
+abbrev pub plain : ℕ → CodedAnswer
 plain code = numbered code 0
 
 -- calls that get no reply
-abbrev pub closed : Answer
+abbrev pub closed : CodedAnswer
 closed = plain 0
 
-abbrev pub no_verb : Answer
+abbrev pub no_verb : CodedAnswer
 no_verb = plain 14
 
-abbrev pub has_rotated : Answer
+abbrev pub has_rotated : CodedAnswer
 has_rotated = plain 16
 
-abbrev pub opened : Answer
+abbrev pub opened : CodedAnswer
 opened = plain 19
 
-abbrev pub already_open : Answer
+abbrev pub already_open : CodedAnswer
 already_open = plain 20
 
-abbrev pub out_of_memory : Answer
+abbrev pub out_of_memory : CodedAnswer
 out_of_memory = plain 22
 
 -- no lines are kept
-abbrev pub no_journal : Answer
+abbrev pub no_journal : CodedAnswer
 no_journal = plain 28
 
--- a text of this length is in the buffer, or the buffer is too small for it
-abbrev pub written : ℕ → Answer
-written n = numbered 17 n
-
-abbrev pub too_small : ℕ → Answer
+-- the buffer is too small for a text of this length
+abbrev pub too_small : ℕ → CodedAnswer
 too_small n = numbered 18 n
 
 -- a reply
-abbrev pub reply_answer : Reply → Answer
+abbrev pub reply_answer : Reply → CodedAnswer
 reply_answer (replies.Started n) = numbered 1 n.0
 reply_answer (replies.Blocked p) = numbered 2 p.0
 reply_answer replies.UnknownOperation = plain 3
@@ -73,14 +77,14 @@ reply_answer replies.NotYours = plain 12
 reply_answer replies.NoRoom = plain 13
 
 -- whether an operation may start
-abbrev pub may_answer : {U : Type 0} → Result U StartRefusal → Answer
+abbrev pub may_answer : {U : Type 0} → Result U StartRefusal → CodedAnswer
 may_answer (Ok u) = plain 15
 may_answer (Err (starts.Blocked p)) = numbered 2 p.0
 may_answer (Err starts.UnknownOperation) = plain 3
 may_answer (Err starts.NoRoom) = plain 13
 
 -- why a text isn't a declaration, with the place in it
-abbrev pub declaration_answer : DeclFault → Answer
+abbrev pub declaration_answer : DeclFault → CodedAnswer
 declaration_answer declarations.OutOfMemory = out_of_memory
 declaration_answer declarations.TooLong = plain 32
 declaration_answer (declarations.BadByte at) = numbered 33 at
@@ -98,34 +102,66 @@ declaration_answer (declarations.BadCount at) = numbered 44 at
 declaration_answer (declarations.TooMany at) = numbered 45 at
 
 -- why a service can't be opened
-abbrev pub fault_answer : ServiceFault → Answer
+abbrev pub fault_answer : ServiceFault → CodedAnswer
 fault_answer (services.Declaration fault) = declaration_answer fault
 fault_answer services.BadRoom = plain 21
 fault_answer services.OutOfMemory = out_of_memory
 
 -- why there is no text of a journal
-abbrev pub text_answer : JournalFault → Answer
+abbrev pub text_answer : JournalFault → CodedAnswer
 text_answer journals.NotKept = no_journal
 text_answer journals.OutOfMemory = out_of_memory
 
 -- a verdict, with the wrong line
-abbrev pub verdict_answer : Verdict → Answer
+abbrev pub verdict_answer : Verdict → CodedAnswer
 verdict_answer verdicts.Sound = plain 23
 verdict_answer (verdicts.WrongLine n) = numbered 24 n
 
 -- why a text isn't a journal, with the line at fault
-abbrev pub journal_answer : TextFault → Answer
+abbrev pub journal_answer : TextFault → CodedAnswer
 journal_answer texts.TooLong = plain 25
 journal_answer (texts.BadLine n) = numbered 26 n
 journal_answer (texts.Undeclared n) = numbered 27 n
 journal_answer texts.OutOfMemory = out_of_memory
 
 -- why a text has no verdict
-abbrev pub refusal_answer : AuditRefusal → Answer
+abbrev pub refusal_answer : AuditRefusal → CodedAnswer
 refusal_answer (audits.Declaration fault) = declaration_answer fault
 refusal_answer (audits.Journal fault) = journal_answer fault
 refusal_answer audits.BadRoom = plain 21
 refusal_answer audits.OutOfMemory = out_of_memory
+
+-- how many lines of a text were taken over, or the first that isn't owed
+abbrev pub stopped_answer : ℕ → Option Reply → CodedAnswer
+stopped_answer n None = numbered 46 n
+stopped_answer n (Some reply) = numbered 24 n
+
+abbrev pub taken_answer : TakenText → CodedAnswer
+taken_answer t = stopped_answer t.lines t.owed
+
+-- why nothing goes on behind a journal
+abbrev pub resume_answer : ResumeRefusal → CodedAnswer
+resume_answer (resumes.Declaration fault) = declaration_answer fault
+resume_answer (resumes.Journal fault) = journal_answer fault
+resume_answer resumes.BadRoom = plain 21
+resume_answer (resumes.WrongLine n reply) = numbered 24 n
+resume_answer resumes.OutOfMemory = out_of_memory
+
+-- why a text isn't a script, with the line at fault
+abbrev pub script_answer : ScriptFault → CodedAnswer
+script_answer scripts.TooLong = plain 51
+script_answer (scripts.BadLine n) = numbered 52 n
+script_answer (scripts.Undeclared n) = numbered 53 n
+script_answer (scripts.Unbalanced n) = numbered 54 n
+script_answer (scripts.TooDeep n) = numbered 55 n
+script_answer (scripts.TooMany n) = numbered 56 n
+script_answer scripts.OutOfMemory = out_of_memory
+
+-- why no schedules are searched
+abbrev pub search_answer : ExploreRefusal → CodedAnswer
+search_answer (searches.Declaration fault) = declaration_answer fault
+search_answer (searches.Script fault) = script_answer fault
+search_answer searches.OutOfMemory = out_of_memory
 
 -- the verbs with the number n, by their codes from 0
 abbrev verbs : ℕ → List (Option Verb)

@@ -1,3 +1,5 @@
 pub mod Answers
 pub mod Held
 pub mod Calls
+pub mod Taken
+pub mod Searched

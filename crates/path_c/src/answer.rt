@@ -2,19 +2,23 @@
 
 ghost use Rattle.std.specs.Prelude.{◌≡◌};
 ghost use Rattle.path_c.specs.Answers.{declaration_answer, fault_answer, journal_answer, may_answer, numbered, plain, refusal_answer};
-ghost use Rattle.path_c.specs.Answers.{reply_answer, text_answer, verdict_answer};
+ghost use Rattle.path_c.specs.Answers.{reply_answer, resume_answer, script_answer, search_answer};
+ghost use Rattle.path_c.specs.Answers.{taken_answer, text_answer, verdict_answer};
 
 use path_audit::Verdict;
 use path_lex::DeclFault;
 use path_lines::TextFault;
 use path_model::Reply;
-use path_service::{AuditRefusal, JournalFault, ServiceFault};
+use path_script::ScriptFault;
+use path_service::{
+    AuditRefusal, ExploreRefusal, JournalFault, ResumeRefusal, ServiceFault, TakenText,
+};
 use path_system::StartRefusal;
 
 /// A code of `wanzoche.h`, and the number that it says, or 0.
 #[repr(C)]
 #[derive(Clone, Copy, Debug, PartialEq, Eq)]
-pub struct Answer {
+pub struct CodedAnswer {
     /// Which answer.
     pub code: u32,
     /// As of a start that is admitted the activation, and of a fault its place.
@@ -39,19 +43,27 @@ pub(crate) const ALREADY_OPEN: u32 = 20;
 pub(crate) const OUT_OF_MEMORY: u32 = 22;
 /// The handle keeps no lines.
 pub(crate) const NO_JOURNAL: u32 = 28;
+/// Every schedule ends done.
+pub(crate) const ALL_DONE: u32 = 47;
+/// A schedule stalls.
+pub(crate) const STALLS: u32 = 48;
+/// A schedule has a step refused.
+pub(crate) const REFUSED: u32 = 49;
+/// There are more states than were to be looked at.
+pub(crate) const UNDECIDED: u32 = 50;
 
 /// An answer without a number.
-pub(crate) fn plainly(code: u32) -> Answer
+pub(crate) fn plainly(code: u32) -> CodedAnswer
     ensures { result ≡ plain code }
 {
-    Answer { code, number: 0 }
+    CodedAnswer { code, number: 0 }
 }
 
 /// An answer with a number.
-pub(crate) fn with(code: u32, number: u64) -> Answer
+pub(crate) fn with(code: u32, number: u64) -> CodedAnswer
     ensures { result ≡ numbered code number }
 {
-    Answer { code, number }
+    CodedAnswer { code, number }
 }
 
 /// The code of a reply.
@@ -91,14 +103,14 @@ fn number_of(reply: Reply) -> u64
 
 /// The answer of a reply.
 #[inline(always)]
-pub(crate) fn replied(reply: Reply) -> Answer
+pub(crate) fn replied(reply: Reply) -> CodedAnswer
     ensures { result ≡ reply_answer reply }
 {
     with(code_of(reply), number_of(reply))
 }
 
 /// The answer of whether an operation may start.
-pub(crate) fn may(told: Result<(), StartRefusal>) -> Answer
+pub(crate) fn may(told: Result<(), StartRefusal>) -> CodedAnswer
     ensures { result ≡ may_answer told }
 {
     match told {
@@ -110,7 +122,7 @@ pub(crate) fn may(told: Result<(), StartRefusal>) -> Answer
 }
 
 /// The answer of a text that isn't a declaration.
-fn undeclared(fault: DeclFault) -> Answer
+pub(crate) fn undeclared(fault: DeclFault) -> CodedAnswer
     ensures { result ≡ declaration_answer fault }
 {
     match fault {
@@ -133,7 +145,7 @@ fn undeclared(fault: DeclFault) -> Answer
 }
 
 /// The answer of a service that can't be opened.
-pub(crate) fn unopened(fault: ServiceFault) -> Answer
+pub(crate) fn unopened(fault: ServiceFault) -> CodedAnswer
     ensures { result ≡ fault_answer fault }
 {
     match fault {
@@ -144,7 +156,7 @@ pub(crate) fn unopened(fault: ServiceFault) -> Answer
 }
 
 /// The answer where there is no text of a journal.
-pub(crate) fn no_text(fault: JournalFault) -> Answer
+pub(crate) fn no_text(fault: JournalFault) -> CodedAnswer
     ensures { result ≡ text_answer fault }
 {
     match fault {
@@ -154,7 +166,7 @@ pub(crate) fn no_text(fault: JournalFault) -> Answer
 }
 
 /// The answer of a verdict.
-pub(crate) fn judged(verdict: Verdict) -> Answer
+pub(crate) fn judged(verdict: Verdict) -> CodedAnswer
     ensures { result ≡ verdict_answer verdict }
 {
     match verdict {
@@ -164,7 +176,7 @@ pub(crate) fn judged(verdict: Verdict) -> Answer
 }
 
 /// The answer of a text that isn't a journal.
-fn no_journal(fault: TextFault) -> Answer
+pub(crate) fn no_journal(fault: TextFault) -> CodedAnswer
     ensures { result ≡ journal_answer fault }
 {
     match fault {
@@ -176,7 +188,7 @@ fn no_journal(fault: TextFault) -> Answer
 }
 
 /// The answer of a text without a verdict.
-pub(crate) fn unjudged(refusal: AuditRefusal) -> Answer
+pub(crate) fn unjudged(refusal: AuditRefusal) -> CodedAnswer
     ensures { result ≡ refusal_answer refusal }
 {
     match refusal {
@@ -184,5 +196,54 @@ pub(crate) fn unjudged(refusal: AuditRefusal) -> Answer
         AuditRefusal::Journal(fault) => no_journal(fault),
         AuditRefusal::BadRoom => plainly(21),
         AuditRefusal::OutOfMemory => plainly(OUT_OF_MEMORY),
+    }
+}
+
+/// The answer of lines that were taken over.
+pub(crate) fn taken_over(taken: TakenText) -> CodedAnswer
+    ensures { result ≡ taken_answer taken }
+{
+    match taken.owed {
+        None => with(46, taken.lines as u64),
+        Some(_) => with(24, taken.lines as u64),
+    }
+}
+
+/// The answer where nothing goes on behind a journal.
+pub(crate) fn unresumed(refusal: ResumeRefusal) -> CodedAnswer
+    ensures { result ≡ resume_answer refusal }
+{
+    match refusal {
+        ResumeRefusal::Declaration(fault) => undeclared(fault),
+        ResumeRefusal::Journal(fault) => no_journal(fault),
+        ResumeRefusal::BadRoom => plainly(21),
+        ResumeRefusal::WrongLine(line, _) => with(24, line as u64),
+        ResumeRefusal::OutOfMemory => plainly(OUT_OF_MEMORY),
+    }
+}
+
+/// The answer of a text that isn't a script.
+fn no_script(fault: ScriptFault) -> CodedAnswer
+    ensures { result ≡ script_answer fault }
+{
+    match fault {
+        ScriptFault::TooLong => plainly(51),
+        ScriptFault::BadLine(line) => with(52, u64::from(line)),
+        ScriptFault::Undeclared(line) => with(53, u64::from(line)),
+        ScriptFault::Unbalanced(line) => with(54, u64::from(line)),
+        ScriptFault::TooDeep(line) => with(55, u64::from(line)),
+        ScriptFault::TooMany(line) => with(56, u64::from(line)),
+        ScriptFault::OutOfMemory => plainly(OUT_OF_MEMORY),
+    }
+}
+
+/// The answer where no schedules are searched.
+pub(crate) fn unsearched(refusal: ExploreRefusal) -> CodedAnswer
+    ensures { result ≡ search_answer refusal }
+{
+    match refusal {
+        ExploreRefusal::Declaration(fault) => undeclared(fault),
+        ExploreRefusal::Script(fault) => no_script(fault),
+        ExploreRefusal::OutOfMemory => plainly(OUT_OF_MEMORY),
     }
 }

@@ -8,13 +8,13 @@ ghost use Rattle.path_system.specs.Accounts.{all_lines, rotated};
 ghost use Rattle.path_c.specs.Answers.{closed, has_rotated, no_verb, verb_at};
 ghost use Rattle.path_c.specs.Calls.{IsAnswered, IsStartable, IsVerb};
 
-use crate::answer::{Answer, CLOSED, NO_VERB, ROTATED, may, plainly, replied};
+use crate::answer::{CLOSED, CodedAnswer, NO_VERB, ROTATED, may, plainly, replied};
 use crate::handle::Handle;
 use path_model::{ActId, Attempt, OpId, Verb};
 use std::alloc::Global;
 
 /// The verb of a code and its number.
-fn verb_of(code: u32, number: u64) -> Option<Verb>
+pub(crate) fn verb_of(code: u32, number: u64) -> Option<Verb>
     ensures verb { result ≡ verb_at code number }
     ensures known { IsSome result ↔ (code < 4) }
 {
@@ -29,7 +29,7 @@ fn verb_of(code: u32, number: u64) -> Option<Verb>
 
 /// One attempt at the service of a handle.
 #[inline(always)]
-fn step(alloc: Global, handle: &mut Handle, worker: u32, attempt: Attempt) -> Answer
+fn step(alloc: Global, handle: &mut Handle, worker: u32, attempt: Attempt) -> CodedAnswer
     ensures live { handle.new.live ≡ handle.old.live }
     ensures closed { handle.old.live ≡ false → result ≡ closed }
     ensures stepped { handle.old.live ≡ true → IsAnswered handle.old.held.service worker attempt result handle.new.held.service }
@@ -51,7 +51,7 @@ pub extern "C" fn path_c_start(
     handle: &mut Handle,
     worker: u32,
     operation: u32,
-) -> Answer
+) -> CodedAnswer
     ensures live { handle.new.live ≡ handle.old.live }
     ensures closed { handle.old.live ≡ false → result ≡ closed }
     ensures stepped { handle.old.live ≡ true → IsAnswered handle.old.held.service worker (Start (record { 0 = operation }))
@@ -70,7 +70,7 @@ pub extern "C" fn path_c_use(
     activation: u64,
     verb: u32,
     number: u64,
-) -> Answer
+) -> CodedAnswer
     ensures live { handle.new.live ≡ handle.old.live }
     ensures closed { handle.old.live ≡ false → verb < 4 → result ≡ closed }
     ensures no_verb { 4 ≤ verb → (result ≡ no_verb) × (handle.new ≡ handle.old) }
@@ -95,7 +95,7 @@ pub extern "C" fn path_c_finish(
     handle: &mut Handle,
     worker: u32,
     activation: u64,
-) -> Answer
+) -> CodedAnswer
     ensures live { handle.new.live ≡ handle.old.live }
     ensures closed { handle.old.live ≡ false → result ≡ closed }
     ensures stepped { handle.old.live ≡ true → IsAnswered handle.old.held.service worker (Finish (record { 0 = activation }))
@@ -106,7 +106,11 @@ pub extern "C" fn path_c_finish(
 
 /// Whether an operation may start now, or the first path that forbids it.
 #[unsafe(no_mangle)]
-pub extern "C" fn path_c_can_start(alloc: Global, handle: &mut Handle, operation: u32) -> Answer
+pub extern "C" fn path_c_can_start(
+    alloc: Global,
+    handle: &mut Handle,
+    operation: u32,
+) -> CodedAnswer
     ensures live { handle.new.live ≡ handle.old.live }
     ensures closed { handle.old.live ≡ false → result ≡ closed }
     ensures kept { handle.old.live ≡ true → handle.new.held.service ≡ handle.old.held.service }
@@ -125,7 +129,7 @@ pub extern "C" fn path_c_can_start(alloc: Global, handle: &mut Handle, operation
 
 /// The lines so far are given up, and the room counts anew.
 #[unsafe(no_mangle)]
-pub extern "C" fn path_c_rotate(alloc: Global, handle: &mut Handle) -> Answer
+pub extern "C" fn path_c_rotate(alloc: Global, handle: &mut Handle) -> CodedAnswer
     ensures live { handle.new.live ≡ handle.old.live }
     ensures closed { handle.old.live ≡ false → result ≡ closed }
     ensures rotated { handle.old.live ≡ true

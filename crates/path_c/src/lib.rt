@@ -4,8 +4,11 @@
 
 mod answer;
 mod calls;
+mod exploring;
+mod finding;
 mod handle;
 mod listed;
 mod opening;
 mod parts;
+mod resume;
 mod texts;

@@ -8,7 +8,7 @@ ghost use Rattle.path_c.specs.Answers.{already_open, opened};
 ghost use Rattle.path_c.specs.Calls.{IsJudged, IsUnjudged, IsUnopened};
 
 use crate::answer::{
-    ALREADY_OPEN, Answer, OPENED, OUT_OF_MEMORY, judged, plainly, unjudged, unopened,
+    ALREADY_OPEN, CodedAnswer, OPENED, OUT_OF_MEMORY, judged, plainly, unjudged, unopened,
 };
 use crate::handle::Handle;
 use crate::texts::{put_front, put_words};
@@ -54,7 +54,7 @@ fn open(
     room: u32,
     keeps: bool,
     message: &mut [u8],
-) -> Answer
+) -> CodedAnswer
     ensures opened { result ≡ opened → (handle.old.live ≡ false) × (handle.new.live ≡ true)
         × (handle.new.held.service.keeps ≡ keeps) × IsOpened text.now room handle.new.held.service.account }
     ensures already { handle.old.live ≡ true → result ≡ already_open }
@@ -87,7 +87,7 @@ pub extern "C" fn path_c_open(
     text: &[u8],
     room: u32,
     message: &mut [u8],
-) -> Answer
+) -> CodedAnswer
     ensures opened { result ≡ opened → (handle.old.live ≡ false) × (handle.new.live ≡ true)
         × (handle.new.held.service.keeps ≡ true) × IsOpened text.now room handle.new.held.service.account }
     ensures already { handle.old.live ≡ true → result ≡ already_open }
@@ -106,7 +106,7 @@ pub extern "C" fn path_c_open_without_journal(
     text: &[u8],
     room: u32,
     message: &mut [u8],
-) -> Answer
+) -> CodedAnswer
     ensures opened { result ≡ opened → (handle.old.live ≡ false) × (handle.new.live ≡ true)
         × (handle.new.held.service.keeps ≡ false) × IsOpened text.now room handle.new.held.service.account }
     ensures already { handle.old.live ≡ true → result ≡ already_open }
@@ -166,7 +166,7 @@ pub extern "C" fn path_c_audit(
     room: u32,
     journal: &[u8],
     message: &mut [u8],
-) -> Answer
+) -> CodedAnswer
     ensures told { IsJudged text.now room journal.now result ⊎ IsUnjudged text.now room journal.now result }
     ensures message { 0 < length message.old → Contains message.new 0 }
 {

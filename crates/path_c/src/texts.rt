@@ -5,9 +5,11 @@ ghost use Rattle.path_journal.specs.JournalTexts.{lines_text};
 ghost use Rattle.path_print.specs.Printed.{printed};
 ghost use Rattle.path_system.specs.Accounts.{all_lines};
 ghost use Rattle.path_c.specs.Answers.{closed, no_journal, out_of_memory};
-ghost use Rattle.path_c.specs.Calls.{IsGiven, IsReportGiven, with_text};
+ghost use Rattle.path_c.specs.Calls.{IsGiven, IsGivenAs, IsReportGiven, with_text};
 
-use crate::answer::{Answer, CLOSED, OUT_OF_MEMORY, TOO_SMALL, WRITTEN, no_text, plainly, with};
+use crate::answer::{
+    CLOSED, CodedAnswer, OUT_OF_MEMORY, TOO_SMALL, WRITTEN, no_text, plainly, with,
+};
 use crate::handle::Handle;
 use std::alloc::Global;
 use std::fmt::Display;
@@ -42,21 +44,32 @@ pub(crate) fn put_words<T: Display + Drop>(alloc: Global, buffer: &mut [u8], fau
     }
 }
 
-/// Writes a text and a zero byte to a buffer, if they fit.
-fn give(buffer: &mut [u8], text: &[u8]) -> Answer
-    ensures { IsGiven text.now buffer.old result buffer.new }
+/// Writes a text and a zero byte to a buffer, if they fit, and answers with this code and the length of the text.
+pub(crate) fn give_as(code: u32, buffer: &mut [u8], text: &[u8]) -> CodedAnswer
+    ensures { IsGivenAs code text.now buffer.old result buffer.new }
 {
     let length = text.len() as u64;
     if text.len() >= buffer.len() {
         return with(TOO_SMALL, length);
     }
     put_whole(buffer, text);
-    with(WRITTEN, length)
+    with(code, length)
+}
+
+/// Writes a text and a zero byte to a buffer, if they fit.
+pub(crate) fn give(buffer: &mut [u8], text: &[u8]) -> CodedAnswer
+    ensures { IsGiven text.now buffer.old result buffer.new }
+{
+    give_as(WRITTEN, buffer, text)
 }
 
 /// The text of the lines since the last rotation, if they are kept.
 #[unsafe(no_mangle)]
-pub extern "C" fn path_c_journal(alloc: Global, handle: &mut Handle, buffer: &mut [u8]) -> Answer
+pub extern "C" fn path_c_journal(
+    alloc: Global,
+    handle: &mut Handle,
+    buffer: &mut [u8],
+) -> CodedAnswer
     ensures live { handle.new.live ≡ handle.old.live }
     ensures kept { handle.old.live ≡ true → handle.new.held.service ≡ handle.old.held.service }
     ensures closed { handle.old.live ≡ false → (result ≡ closed) × (buffer.new ≡ buffer.old) }
@@ -81,7 +94,11 @@ pub extern "C" fn path_c_journal(alloc: Global, handle: &mut Handle, buffer: &mu
 
 /// The text of a report.
 #[unsafe(no_mangle)]
-pub extern "C" fn path_c_report(alloc: Global, handle: &mut Handle, buffer: &mut [u8]) -> Answer
+pub extern "C" fn path_c_report(
+    alloc: Global,
+    handle: &mut Handle,
+    buffer: &mut [u8],
+) -> CodedAnswer
     ensures live { handle.new.live ≡ handle.old.live }
     ensures kept { handle.old.live ≡ true → handle.new.held.service ≡ handle.old.held.service }
     ensures closed { handle.old.live ≡ false → (result ≡ closed) × (buffer.new ≡ buffer.old) }
@@ -108,7 +125,7 @@ pub extern "C" fn path_c_declaration(
     alloc: Global,
     handle: &mut Handle,
     buffer: &mut [u8],
-) -> Answer
+) -> CodedAnswer
     ensures live { handle.new.live ≡ handle.old.live }
     ensures kept { handle.old.live ≡ true → handle.new.held.service ≡ handle.old.held.service }
     ensures closed { handle.old.live ≡ false → (result ≡ closed) × (buffer.new ≡ buffer.old) }

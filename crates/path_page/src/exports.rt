@@ -1,17 +1,23 @@
 //! The exports. Each takes memory for its work, and never gives it back: a page hands in other memory at the next call, or makes the
 //! module anew. It returns the exit status that the program would end with, 0 to 6; or 7 if a buffer is too short for its text, and then
-//! both buffers stay. `lengths` says in both cases how long the texts are. Memory that is too small for a call is status 6, out of
-//! memory, however small it is. 3, a stream that failed, never comes.
+//! both buffers stay; or 8 if a search came to no answer, for which the program ends with 7. `lengths` says in both cases how long the
+//! texts are. Memory that is too small for a call is status 6, out of memory, however small it is. 3, a stream that failed, never comes.
 //!
 //! The page owes, unchecked: what [`Memory`] says; buffers and texts that overlap neither each other nor the memory; no null address,
 //! also for an empty text; and 0 or 1 for a `bool`.
 
-ghost use Rattle.path_answers.specs.Answers.{IsAuditAnswer, IsCheckAnswer, IsCompileAnswer, IsPictureAnswer, IsTraceAnswer};
-ghost use Rattle.path_answers.specs.Answers.{IsExplainAnswer, IsJudgeAnswer};
-ghost use Rattle.path_page.specs.Told.{IsTold};
+ghost use Rattle.path_print.specs.Printed.{printed};
+ghost use Rattle.cmd_trace.specs.Traces.{TraceEnds};
+ghost use Rattle.cmd_check.specs.Outputs.{OutputEnds, compiled_text};
+ghost use Rattle.cmd_audit.specs.Audits.{AuditEnds};
+ghost use Rattle.cmd_explain.specs.Explanations.{ExplanationEnds};
+ghost use Rattle.cmd_explain.specs.Judgements.{JudgementEnds};
+ghost use Rattle.cmd_picture.specs.Pictures.{PictureEnds};
+ghost use Rattle.cmd_answers.specs.Answers.{Answers};
+ghost use Rattle.path_page.specs.Told.{IsSearchTold, IsTold};
 
-use crate::tell::{Lengths, tell};
-use path_answers::{audit, check, compile, explain, judge, picture, trace};
+use crate::tell::{Lengths, UNDECIDED, tell, tell_as};
+use cmd_answers::{SearchAnswer, audit, check, compile, explain, explore, judge, picture, trace};
 use path_arena::{Arena, Memory};
 
 /// The trace of attempts in a journal with room for so many lines, and behind it the report if `report` is set.
@@ -26,7 +32,7 @@ pub extern "C" fn path_page_trace(
     err: &mut [u8],
     lengths: &mut Lengths,
 ) -> u32
-    ensures { IsTold (IsTraceAnswer declaration.now room report attempts.now) result lengths.new.out lengths.new.err
+    ensures { IsTold (Answers (TraceEnds declaration.now room report attempts.now)) result lengths.new.out lengths.new.err
         out.old out.new err.old err.new }
 {
     let arena = Arena::new(memory);
@@ -43,7 +49,7 @@ pub extern "C" fn path_page_check(
     err: &mut [u8],
     lengths: &mut Lengths,
 ) -> u32
-    ensures { IsTold (IsCheckAnswer declaration.now) result lengths.new.out lengths.new.err out.old out.new err.old err.new }
+    ensures { IsTold (Answers (OutputEnds printed declaration.now)) result lengths.new.out lengths.new.err out.old out.new err.old err.new }
 {
     let arena = Arena::new(memory);
     let answer = check(&arena, declaration);
@@ -59,7 +65,8 @@ pub extern "C" fn path_page_compile(
     err: &mut [u8],
     lengths: &mut Lengths,
 ) -> u32
-    ensures { IsTold (IsCompileAnswer declaration.now) result lengths.new.out lengths.new.err out.old out.new err.old err.new }
+    ensures { IsTold (Answers (OutputEnds compiled_text declaration.now)) result lengths.new.out lengths.new.err
+        out.old out.new err.old err.new }
 {
     let arena = Arena::new(memory);
     let answer = compile(&arena, declaration);
@@ -77,7 +84,7 @@ pub extern "C" fn path_page_audit(
     err: &mut [u8],
     lengths: &mut Lengths,
 ) -> u32
-    ensures { IsTold (IsAuditAnswer declaration.now room journal.now) result lengths.new.out lengths.new.err
+    ensures { IsTold (Answers (AuditEnds declaration.now room journal.now)) result lengths.new.out lengths.new.err
         out.old out.new err.old err.new }
 {
     let arena = Arena::new(memory);
@@ -97,7 +104,7 @@ pub extern "C" fn path_page_explain(
     err: &mut [u8],
     lengths: &mut Lengths,
 ) -> u32
-    ensures { IsTold (IsExplainAnswer declaration.now room attempts.now) result lengths.new.out lengths.new.err
+    ensures { IsTold (Answers (ExplanationEnds declaration.now room attempts.now)) result lengths.new.out lengths.new.err
         out.old out.new err.old err.new }
 {
     let arena = Arena::new(memory);
@@ -117,7 +124,7 @@ pub extern "C" fn path_page_judge(
     err: &mut [u8],
     lengths: &mut Lengths,
 ) -> u32
-    ensures { IsTold (IsJudgeAnswer declaration.now room journal.now) result lengths.new.out lengths.new.err
+    ensures { IsTold (Answers (JudgementEnds declaration.now room journal.now)) result lengths.new.out lengths.new.err
         out.old out.new err.old err.new }
 {
     let arena = Arena::new(memory);
@@ -136,10 +143,30 @@ pub extern "C" fn path_page_picture(
     err: &mut [u8],
     lengths: &mut Lengths,
 ) -> u32
-    ensures { IsTold (IsPictureAnswer declaration.now room attempts.now) result lengths.new.out lengths.new.err
+    ensures { IsTold (Answers (PictureEnds declaration.now room attempts.now)) result lengths.new.out lengths.new.err
         out.old out.new err.old err.new }
 {
     let arena = Arena::new(memory);
     let answer = picture(&arena, declaration, room, attempts);
     tell(&answer, out, err, lengths)
+}
+
+/// What all schedules of a script come to, of which at most so many states are looked at.
+#[unsafe(no_mangle)]
+pub extern "C" fn path_page_explore(
+    memory: Memory,
+    declaration: &[u8],
+    script: &[u8],
+    most: u32,
+    out: &mut [u8],
+    err: &mut [u8],
+    lengths: &mut Lengths,
+) -> u32
+    ensures { IsSearchTold declaration.now script.now most result lengths.new.out lengths.new.err out.old out.new err.old err.new }
+{
+    let arena = Arena::new(memory);
+    match explore(&arena, declaration, script, most) {
+        SearchAnswer::Ended(answer) => tell(&answer, out, err, lengths),
+        SearchAnswer::Undecided(answer) => tell_as(UNDECIDED, &answer, out, err, lengths),
+    }
 }

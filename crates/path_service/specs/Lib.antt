@@ -2,4 +2,6 @@ pub mod ReadFaults
 pub mod Serving
 pub mod Services
 pub mod Verdicts
+pub mod Searches
+pub mod Taken
 pub mod Inner

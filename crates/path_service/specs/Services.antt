@@ -16,10 +16,12 @@ use Rattle.path_decl.specs.Text.{IsDeclarationText}
 use Rattle.path_system.specs.declared.calls.StartRefusal.{StartRefusal}
 use Rattle.path_system.specs.declared.calls.StartRefusal.TheVariants as starts
 use Rattle.path_system.specs.Accounts.{Account, account_of, all_lines, StayBut}
-use Rattle.path_trace.specs.Traces.{own_states}
-use Rattle.path_commands.specs.Audits.{Under}
+use Rattle.cmd_base.specs.Own.{own_states}
+use Rattle.cmd_base.specs.Refusals.{Under}
 use Rattle.path_service.specs.declared.fault.ServiceFault.{ServiceFault}
 use Rattle.path_service.specs.declared.fault.ServiceFault.TheVariants as faults
+use Rattle.path_service.specs.declared.fault.ResumeRefusal.{ResumeRefusal}
+use Rattle.path_service.specs.declared.fault.ResumeRefusal.TheVariants as refusals
 use Rattle.path_service.specs.ReadFaults.{IsReadFault}
 use Rattle.path_service.specs.Serving.{Serving, settled}
 
@@ -33,6 +35,18 @@ abbrev pub IsServiceFault : List ℕ → ℕ → ServiceFault → Type 0
 IsServiceFault text room (faults.Declaration fault) = IsReadFault text fault
 IsServiceFault text room faults.BadRoom = Under text (λ d. IsBadRoom room)
 IsServiceFault text room faults.OutOfMemory = Unit {0}
+
+-- why no service is opened over a declaration that was read
+abbrev pub IsUnserved : ℕ → ServiceFault → Type 0
+IsUnserved room (faults.Declaration fault) = ⊥
+IsUnserved room faults.BadRoom = IsBadRoom room
+IsUnserved room faults.OutOfMemory = Unit {0}
+
+-- the same, as a refusal to go on behind a journal
+abbrev pub as_refusal : ServiceFault → ResumeRefusal
+as_refusal (faults.Declaration fault) = refusals.Declaration fault
+as_refusal faults.BadRoom = refusals.BadRoom
+as_refusal faults.OutOfMemory = refusals.OutOfMemory
 
 -- the reply is owed by all lines before, and the journal gains a line with it if there is room; no device fails
 pub record IsStep (old : Account) (worker : ℕ) (attempt : Attempt) (reply : Reply) (new : Account) : Type 0 where

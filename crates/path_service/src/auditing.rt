@@ -4,10 +4,10 @@ ghost use Rattle.std.specs.Prelude.{◌≡◌, IfOk, IfErr};
 ghost use Rattle.path_service.specs.Verdicts.{IsAuditRefusal, IsVerdictOn, refusal_of};
 
 use crate::fault::AuditRefusal;
+use cmd_audit::verdict_on;
+use cmd_base::Fault;
 use path_audit::{AuditFault, Verdict};
-use path_commands::verdict_on;
 use path_read::read;
-use path_streams::Fault;
 use std::alloc::Allocator;
 
 /// Why a text under a declaration has no verdict, as what an audit was refused for says.

@@ -1,12 +1,15 @@
-//! Why a service can't be opened, and why a text has no verdict.
+//! Why a service can't be opened or go on behind a journal, why a text has no verdict, and why no schedules are searched.
 
 ghost use Rattle.std.specs.Prelude.{◌≡◌};
 ghost use Rattle.path_service.specs.declared.fault.ServiceFault.TheVariants as faults;
 ghost use Rattle.path_service.specs.declared.fault.JournalFault.TheVariants as journals;
+ghost use Rattle.path_service.specs.declared.fault.ExploreRefusal.TheVariants as searches;
+ghost use Rattle.path_service.specs.Services.{as_refusal};
 
 use path_lex::DeclFault;
 use path_lines::TextFault;
-use path_model::OutOfMemory;
+use path_model::{OutOfMemory, Reply};
+use path_script::ScriptFault;
 use thiserror::Error;
 
 /// Why a service can't be opened.
@@ -65,4 +68,58 @@ pub enum AuditRefusal {
     /// An allocation failed.
     #[error("out of memory")]
     OutOfMemory,
+}
+
+/// Why the schedules of a script aren't searched.
+#[derive(Clone, Copy, Debug, PartialEq, Eq, Error)]
+pub enum ExploreRefusal {
+    /// The first text isn't a declaration.
+    #[error("declaration: {0}")]
+    Declaration(DeclFault),
+    /// The second text isn't a script.
+    #[error("script: {0}")]
+    Script(ScriptFault),
+    /// An allocation failed.
+    #[error("out of memory")]
+    OutOfMemory,
+}
+
+impl From<OutOfMemory> for ExploreRefusal {
+    ghost from_gives = { λ _ e. e ≡ searches.OutOfMemory };
+
+    fn from(_error: OutOfMemory) -> ExploreRefusal {
+        ExploreRefusal::OutOfMemory
+    }
+}
+
+/// Why no service goes on behind a journal.
+#[derive(Clone, Copy, Debug, PartialEq, Eq, Error)]
+pub enum ResumeRefusal {
+    /// The first text isn't a declaration.
+    #[error("declaration: {0}")]
+    Declaration(DeclFault),
+    /// The second text isn't a journal.
+    #[error("journal: {0}")]
+    Journal(TextFault),
+    /// The room is 0 or above 1,048,576 lines.
+    #[error("bad room")]
+    BadRoom,
+    /// The reply of this line, counted from 0, isn't owed by the lines before it: this one is.
+    #[error("wrong line {0}")]
+    WrongLine(usize, Reply),
+    /// An allocation failed.
+    #[error("out of memory")]
+    OutOfMemory,
+}
+
+impl From<ServiceFault> for ResumeRefusal {
+    ghost from_gives = { λ fault e. e ≡ as_refusal fault };
+
+    fn from(fault: ServiceFault) -> ResumeRefusal {
+        match fault {
+            ServiceFault::Declaration(fault) => ResumeRefusal::Declaration(fault),
+            ServiceFault::BadRoom => ResumeRefusal::BadRoom,
+            ServiceFault::OutOfMemory => ResumeRefusal::OutOfMemory,
+        }
+    }
 }

@@ -5,11 +5,16 @@
 #![tactic(auto)]
 
 mod auditing;
+mod exploring;
 mod fault;
 mod lines;
+mod resume;
 mod service;
+mod taking;
 mod texts;
 
 pub use auditing::audit_text;
-pub use fault::{AuditRefusal, JournalFault, ServiceFault};
+pub use exploring::{Found, WrongSchedule, explore_text};
+pub use fault::{AuditRefusal, ExploreRefusal, JournalFault, ResumeRefusal, ServiceFault};
 pub use service::Service;
+pub use taking::TakenText;

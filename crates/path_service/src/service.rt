@@ -1,19 +1,21 @@
 //! A controller over the program's own devices, with the lines of its journal if they are kept.
 
-ghost use Rattle.std.specs.Prelude.{◌≡◌, ◌≤◌, length, map, slice_get, Some, Contains, true, false, IfOk, IfErr, IfSome, IfNone, MatchOption};
+ghost use Rattle.std.specs.Prelude.{◌≡◌, ◌≤◌, length, map, slice_get, Some, Contains, true, false};
+ghost use Rattle.std.specs.Prelude.{IfOk, IfErr, IfSome, IfNone, MatchOption};
 ghost use Rattle.std.specs.Str.{IsUtf8};
 ghost use Rattle.path_model.specs.Journals.{admitted_history};
-ghost use Rattle.path_system.specs.Accounts.{all_lines, rotated, IsSystem};
-ghost use Rattle.path_service.specs.Services.{IsOpened, IsServed, IsServiceFault, MayStart};
+ghost use Rattle.path_system.specs.Accounts.{account_of, all_lines, rotated, IsSystem};
+ghost use Rattle.cmd_base.specs.Own.{own_states};
+ghost use Rattle.path_service.specs.Services.{IsOpened, IsServed, IsServiceFault, IsUnserved, MayStart};
 
 use crate::fault::ServiceFault;
 use crate::lines::Lines;
-use path_decl::{counts, operation};
+use cmd_base::own_devices;
+use path_decl::{Decl, counts, operation};
 use path_model::{Attempt, Line, OpId, Reply, is_room};
 use path_read::read;
 use path_shelf::OwnDevice;
 use path_system::{Controller, StartRefusal};
-use path_trace::own_devices;
 use std::alloc::Global;
 use std::marker::Model;
 
@@ -23,9 +25,9 @@ use std::marker::Model;
 /// Contracts see what they see of a system, and whether the lines are kept. Dropping a service drops its devices, whatever is live.
 #[derive(Drop)]
 pub struct Service {
-    lines: Option<Lines>,
+    pub(crate) lines: Option<Lines>,
     /// Last, because a controller keeps its declaration last.
-    controller: Controller<OwnDevice>,
+    pub(crate) controller: Controller<OwnDevice>,
 }
 
 impl Model for Service {
@@ -44,7 +46,28 @@ impl Model for Service {
     ghost invariant = { λ s. IsReady s.controller s.lines };
 }
 
-/// A controller of the declaration in a text, over devices of its own, to which nothing has been attempted.
+/// A controller of a declaration, over devices of its own, to which nothing has been attempted.
+pub(crate) fn controller_over(
+    alloc: Global,
+    decl: Decl,
+    room: u32,
+) -> Result<Controller<OwnDevice>, ServiceFault>
+    ensures ok { IfOk result (λ controller. controller ≡ account_of decl.declaration room (own_states decl.declaration)) }
+    ensures system { IfOk result (λ controller. IsSystem controller) }
+    ensures err { IfErr result (IsUnserved room) }
+{
+    if !is_room(room) {
+        drop(decl);
+        return Err(ServiceFault::BadRoom);
+    }
+    let devices = own_devices(alloc, &decl)?;
+    match Controller::open(alloc, decl, devices, room) {
+        Ok(controller) => Ok(controller),
+        Err((_fault, _devices)) => Err(ServiceFault::OutOfMemory),
+    }
+}
+
+/// The same of the declaration in a text.
 fn controller_of(
     alloc: Global,
     text: &[u8],
@@ -54,18 +77,9 @@ fn controller_of(
     ensures system { IfOk result (λ controller. IsSystem controller) }
     ensures err { IfErr result (IsServiceFault text.now room) }
 {
-    let decl = match read(alloc, text) {
-        Ok(decl) => decl,
-        Err(fault) => return Err(ServiceFault::Declaration(fault)),
-    };
-    if !is_room(room) {
-        drop(decl);
-        return Err(ServiceFault::BadRoom);
-    }
-    let devices = own_devices(alloc, &decl)?;
-    match Controller::open(alloc, decl, devices, room) {
-        Ok(controller) => Ok(controller),
-        Err((_fault, _devices)) => Err(ServiceFault::OutOfMemory),
+    match read(alloc, text) {
+        Ok(decl) => controller_over(alloc, decl, room),
+        Err(fault) => Err(ServiceFault::Declaration(fault)),
     }
 }
 

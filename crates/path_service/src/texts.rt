@@ -5,15 +5,15 @@ ghost use Rattle.std.specs.String.{string_bytes};
 ghost use Rattle.path_journal.specs.JournalTexts.{lines_text};
 ghost use Rattle.path_print.specs.Printed.{printed};
 ghost use Rattle.path_system.specs.Accounts.{all_lines};
-ghost use Rattle.path_trace.specs.Traces.{IsReportText};
+ghost use Rattle.cmd_base.specs.ReportTexts.{IsReportText};
 ghost use Rattle.path_service.specs.declared.fault.JournalFault.TheVariants as journals;
 
 use crate::fault::JournalFault;
 use crate::service::Service;
+use cmd_base::write_report;
 use path_journal::write_journal;
 use path_model::OutOfMemory;
 use path_print::print;
-use path_trace::write_report;
 use std::alloc::Global;
 
 impl Service {
