@@ -1,8 +1,0 @@
-//! The tests of explanations.
-
-mod attempts;
-mod declarations;
-mod endings;
-mod hostile;
-mod journals;
-mod refusals;

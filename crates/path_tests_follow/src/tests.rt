@@ -1,6 +1,0 @@
-//! The tests of follows.
-
-mod ends;
-mod failing;
-mod follows;
-mod readers;

@@ -1,4 +1,0 @@
-//! The tests of answers.
-
-mod answers;
-mod buffers;

@@ -1,7 +1,0 @@
-//! Tests of public calls.
-
-mod crashes;
-mod cuts;
-mod declaration;
-mod failing;
-mod stores;

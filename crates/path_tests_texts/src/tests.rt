@@ -1,9 +1,0 @@
-//! The tests of texts.
-
-mod attempts;
-mod declaration;
-mod fields;
-mod journals;
-mod lines;
-mod stops;
-mod verbs;

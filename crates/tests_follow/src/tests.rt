@@ -1,0 +1,7 @@
+//! The tests of follows.
+
+mod ends;
+mod failing;
+mod follows;
+mod readers;
+mod stored;

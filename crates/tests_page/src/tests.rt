@@ -1,0 +1,5 @@
+//! The tests of answers.
+
+mod answers;
+mod buffers;
+mod searches;
