@@ -54,6 +54,7 @@ void rattle_dealloc(void *at) {
 
 #ifndef LIBRARY
 #include <errno.h>
+#include <signal.h>
 #include <sys/types.h>
 
 int rattle_errno(void);
@@ -74,9 +75,14 @@ void rattle_set_errno(int error) {
 static char **words;
 static size_t word_count;
 
-static void keep_words(int count, char **all) {
+/*
+** Before main. A file that has reached its limit is told by the call that
+** writes to it, and not by a signal, which would end the program.
+*/
+static void begin(int count, char **all) {
     words = all;
     word_count = (size_t)count;
+    signal(SIGXFSZ, SIG_IGN);
 }
 
 /*
@@ -109,14 +115,13 @@ ssize_t rattle_env(const char *name, unsigned char *buffer, size_t size) {
 #ifdef __GLIBC__
 /* glibc hands the words of the command line to what runs before main. */
 __attribute__((constructor)) static void before_main(int count, char **all) {
-    keep_words(count, all);
+    begin(count, all);
 }
 #else
 /*
 ** Other C libraries don't, so the Makefile links with --wrap=main. The rest are
 ** names that only glibc has.
 */
-#include <signal.h>
 #include <sys/syscall.h>
 #include <unistd.h>
 
@@ -128,7 +133,7 @@ struct statx;
 int statx(int folder, const char *path, int flags, unsigned mask, struct statx *to);
 
 int __wrap_main(int count, char **all) {
-    keep_words(count, all);
+    begin(count, all);
     return __real_main(count, all);
 }
 
