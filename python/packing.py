@@ -34,6 +34,14 @@ CORE = "_core.abi3.so"
 SOURCES = ["Makefile", "VERSION", "c/wanzoche.c", "include/wanzoche.h", "include/wanzoche_monitor.h", "dist/system.c", "dist/NOTICE"]
 SOURCES += ["python/wanzoche/_core.c"]
 SOURCES += ["dist/{}/path_c.s".format(processor) for processor in ("x86_64", "aarch64")]
+# The command's man page and completions, by where pip puts them below the prefix.
+SHARED = {
+    "share/man/man1/wanzoche.1": "man/wanzoche.1",
+    "share/bash-completion/completions/wanzoche": "completions/wanzoche.bash",
+    "share/zsh/site-functions/_wanzoche": "completions/_wanzoche",
+    "share/fish/vendor_completions.d/wanzoche.fish": "completions/wanzoche.fish",
+}
+SOURCES += sorted(SHARED.values())
 # By the number of a processor in an ELF file.
 PROCESSORS = {62: "x86_64", 183: "aarch64"}
 # The oldest glibc that wheels are tagged for. It is the one of manylinux2014.
@@ -51,9 +59,17 @@ def _project() -> Dict[str, str]:
     return dict(re.findall(r'^([\w-]+) = "(.*)"$', table, re.M))
 
 
+def _extras() -> Dict[str, str]:
+    """What each extra of pyproject.toml needs, by its name."""
+    table = _read("pyproject.toml").decode().split("[project.optional-dependencies]", 1)[1].split("\n[", 1)[0]
+    return dict(re.findall(r'^([\w-]+) = \["(.*)"\]$', table, re.M))
+
+
 def _metadata(project: Dict[str, str]) -> bytes:
     head = ["Metadata-Version: 2.1", "Name: " + PACKAGE, "Version: " + project["version"], "Summary: " + project["description"]]
     head += ["Requires-Python: " + project["requires-python"], "Description-Content-Type: text/markdown"]
+    for extra, needs in _extras().items():
+        head += ["Provides-Extra: " + extra, "Requires-Dist: {}; extra == '{}'".format(needs, extra)]
     return "\n".join(head).encode() + b"\n\n" + _read(project["readme"])
 
 
@@ -116,7 +132,7 @@ def _record(files: Dict[str, bytes], name: str) -> bytes:
 
 
 def _modules() -> List[str]:
-    return sorted(name for name in os.listdir(os.path.join(HERE, PACKAGE)) if name.endswith((".py", ".pyi", ".typed")))
+    return sorted(name for name in os.listdir(os.path.join(HERE, PACKAGE)) if name.endswith((".py", ".pyi", ".typed", ".sql")))
 
 
 def _date() -> int:
@@ -133,10 +149,13 @@ def write_wheel(library: bytes, core: Optional[bytes], folder: str) -> str:
     files["{}/{}".format(PACKAGE, LIBRARY)] = library
     if core is not None:
         files["{}/{}".format(PACKAGE, CORE)] = core
+    for place, name in SHARED.items():
+        files["{}.data/data/{}".format(own, place)] = _read(_sources(), name)
     files[info + "METADATA"] = _metadata(project)
     python, abi, platforms = tag.split("-")
     tags = "".join("Tag: {}-{}-{}\n".format(python, abi, platform) for platform in platforms.split("."))
     files[info + "WHEEL"] = ("Wheel-Version: 1.0\nGenerator: {} {}\nRoot-Is-Purelib: false\n".format(PACKAGE, project["version"]) + tags).encode()
+    files[info + "entry_points.txt"] = "[console_scripts]\n{0} = {0}._command:main\n".format(PACKAGE).encode()
     files[info + "RECORD"] = _record(files, info + "RECORD")
     made = "{}-{}.whl".format(own, tag)
     with zipfile.ZipFile(os.path.join(folder, made), "w", zipfile.ZIP_DEFLATED) as wheel:

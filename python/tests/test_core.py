@@ -377,7 +377,8 @@ class Circles(Cores):
             name.leads, leads.entry = leads, paths(name)
 
         def through_timeout(paths, leads):
-            leads.entry = paths("read", timeout=[leads])
+            seconds = type("Seconds", (float,), {})(1.0)
+            seconds.leads, leads.entry = leads, paths("read", timeout=seconds)
 
         def through_entry(paths, leads):
             leads.entry = paths("read")

@@ -1,13 +1,20 @@
 """What entries, refusals, reports and journals are."""
 
+import asyncio
 import concurrent.futures
 import copy
 import gc
+import math
 import multiprocessing
 import os
+import pathlib
 import pickle
+import re
+import threading
+import time
 import unittest
 import weakref
+from unittest import mock
 
 import wanzoche
 from wanzoche import (
@@ -105,10 +112,75 @@ class Entries(unittest.TestCase):
         with paths("get") as entry:
             self.assertEqual(entry.take(), 5)
             self.assertEqual(entry.look(), 6)
-            with self.assertRaisesRegex(UseRefused, "^add 3 in get: not offered$"):
+            with self.assertRaisesRegex(UseRefused, "^add 3 in get: not offered: line is a queue 8, which has put, take and look$"):
                 entry.add(3)
             with self.assertRaises(OverflowError):
                 entry.put(1 << 64)
+            for wrong in ("5", 5.0, None):
+                with self.assertRaisesRegex(TypeError, "^a device holds whole numbers, not {!r}$".format(wrong)):
+                    entry.put(wrong)
+
+
+class Mistakes(unittest.TestCase):
+    """What a user may get wrong is said at the call, and not when two first want the same."""
+
+    def test_limits_of_time(self):
+        paths = Paths(BOOK)
+        for wrong, kind in (("2", TypeError), (b"2", TypeError), ([2], TypeError), (math.nan, ValueError), (10**400, ValueError)):
+            told = re.escape("a limit of time is None or a number of seconds, not {!r}".format(wrong))
+            for call in (paths, paths.enter, paths.aio):
+                with self.assertRaisesRegex(kind, "^{}$".format(told)):
+                    call("read", wrong)
+        for seconds in (None, 0, 2, 0.5, math.inf, 10**300, True):
+            paths.enter("read", seconds).leave()
+        for seconds in (60, math.inf, 10**300):  # also where it has to wait
+            entry, until = paths.enter("read"), time.monotonic() + 60
+            with concurrent.futures.ThreadPoolExecutor() as others:
+                waits = others.submit(lambda: paths.enter("write", seconds).leave())
+                while not (paths.waiting() or waits.done() or time.monotonic() > until):
+                    time.sleep(0.001)
+                entry.leave()
+                self.assertIsNone(waits.result(60))
+
+    def test_what_is_no_declaration(self):
+        for wrong in (3, None, pathlib.Path("pool.paths"), ["path"]):
+            for call in (Paths, lambda text: wanzoche.audit(text, "")):
+                with self.assertRaisesRegex(TypeError, "^a declaration is a text, not .*read_text"):
+                    call(wrong)
+        for name in ("pool.paths", "/etc/pool"):
+            with self.assertRaisesRegex(DeclarationError, r"is this the name of a file\? Its text is pathlib.Path\(FILE\).read_text\(\)"):
+                Paths(name)
+        with self.assertRaisesRegex(DeclarationError, "^(?!.*file)"):
+            Paths("resource")
+        for text in (bytearray(SLOT.encode()), memoryview(SLOT.encode())):
+            self.assertEqual(Paths(text).operations, ("deposit", "remove"))
+
+    def test_rooms_and_logs(self):
+        with self.assertRaisesRegex(TypeError, "^the room is 1 to 1,048,576 lines, not '5'$"):
+            Paths(SLOT, room="5")
+        with self.assertRaisesRegex(ValueError, "^the room is 1 to 1,048,576 lines, not 0$"):
+            Paths(SLOT, room=0)
+        with self.assertRaisesRegex(TypeError, "^a log is a callable, a list, or a file that is open for text, not 'paths.log'$"):
+            Paths(SLOT, log="paths.log")
+
+    def test_a_guard_without_its_operation(self):
+        paths = Paths(SLOT)
+        with self.assertRaisesRegex(TypeError, r"^name the operation: `@paths.guards\(..\)` with one of deposit, remove$"):
+
+            @paths.guards
+            def fills():
+                pass
+
+    def test_a_task_that_takes_the_entry_of_a_thread(self):
+        paths = Paths(SLOT)
+
+        async def fills():
+            async with paths("deposit"):
+                pass
+
+        with self.assertRaisesRegex(TypeError, r"^write `async with paths.aio\('deposit'\)`: this entry is for `with` in a thread$"):
+            asyncio.run(fills())
+        paths.enter("deposit", 0).leave()
 
 
 class Refusals(unittest.TestCase):
@@ -116,7 +188,8 @@ class Refusals(unittest.TestCase):
         paths = Paths(SLOT)
         self.assertIsNone(paths.try_enter("remove"))
         why = paths.why("remove")
-        self.assertEqual(str(why), "remove is blocked: path 0 of slot: deposit ; remove; in progress: nothing of it")
+        self.assertEqual(str(why), "remove is blocked: path 0 of slot: deposit ; remove; in progress: nothing of it; may begin next: deposit")
+        self.assertEqual((why.in_progress, why.may_begin), ((), ("deposit",)))
         with paths("deposit"):
             why = paths.why("remove")
             self.assertEqual(str(why), "remove is blocked: path 0 of slot: deposit ; remove; in progress: deposit by thread 1")
@@ -128,8 +201,9 @@ class Refusals(unittest.TestCase):
         with paths("read"):
             with self.assertRaisesRegex(Timeout, "^write is blocked for 0.01 seconds: path 0 of book: .* in progress: read by thread 1$"):
                 paths.enter("write", timeout=0.01)
-            with self.assertRaises(TimeoutError):
-                paths.enter("write", timeout=0)
+            for seconds in (0, -1, -0.5):  # it is tried once
+                with self.assertRaisesRegex(TimeoutError, "^write is blocked: path 0 of book: "):
+                    paths.enter("write", timeout=seconds)
         with paths("write", timeout=0):
             pass
 
@@ -138,7 +212,12 @@ class Refusals(unittest.TestCase):
             Paths("resource slot cell\noperation deposit, remove\npath deposit ; remoove end\nend")
         error = caught.exception
         self.assertEqual((error.line, error.column), (3, 16))
-        self.assertEqual(str(error), "undeclared in line 3, column 16:\n  path deposit ; remoove end\n                 ^")
+        self.assertEqual(
+            str(error),
+            "undeclared in line 3, column 16: this isn't an operation of the path's resource\n  path deposit ; remoove end\n"
+            "                 ^^^^^^^\n  expected an operation that the resource declares\n  nearest name: remove",
+        )
+        self.assertEqual(str(pickle.loads(pickle.dumps(error))), str(error))
         with self.assertRaises(ValueError):
             Paths("")
         with self.assertRaisesRegex(DeclarationError, "^text too long$"):
@@ -378,6 +457,123 @@ class WithoutJournal(unittest.TestCase):
             Paths(SLOT, journal=False, room=0)
         with self.assertRaises(DeclarationError):
             Paths("resource", journal=False)
+
+
+class Resumed(unittest.TestCase):
+    """Paths that go on behind the lines of a journal."""
+
+    def journal(self):
+        """Of a line in which 7 and 8 were put: 7 is being taken, and two puts are over."""
+        paths = Paths(LINE)
+        for number in (7, 8):
+            with paths("put") as entry:
+                entry.put(number)
+        kept = paths.enter("get")
+        kept.take()
+        text = paths.journal()
+        kept.leave()
+        return text
+
+    def test_they_answer_as_the_one_that_wrote_it_would(self):
+        text = self.journal()
+        stored = "journal 3 room 99\n" + text.replace("\n", "\n+", 3)
+        for given in (text, text.encode(), text[:-1] + "\n2 start", text + "\0" * 600, stored, stored + "+2 sta"):
+            for options in ({}, {"room": 4}, {"journal": False}):
+                with self.subTest((given, options)), Paths(LINE, resume=given, **options) as paths:
+                    self.assertEqual(paths.resumed, len(stored if given[:1] in "j" else text) if isinstance(given, str) else len(text))
+                    (lost,) = paths.report().lost
+                    self.assertEqual(lost, wanzoche.Live(2, "thread 1", "get"))
+                    self.assertIsNone(paths.try_enter("get"))
+                    self.assertEqual(paths.recover(lost), 1)
+                    self.assertEqual((paths.recover("thread 1"), paths.report().lost), (0, ()))
+                    with paths("get") as entry:
+                        self.assertEqual((entry.token, entry.worker, entry.look()), (3, "thread 2", 8))
+
+    def test_its_lines_and_the_new_ones_are_one_journal(self):
+        text = self.journal()
+        log = []
+        with Paths(LINE, resume=text, room=5, log=log) as paths:
+            self.assertEqual(paths.journal(), "")
+            paths.recover(1)
+            for _ in range(3):
+                paths.enter("put").leave()
+            self.assertTrue(log)
+            self.assertTrue(paths.audit(text + "".join(log) + paths.journal()))
+        with Paths(LINE, resume=text) as paths:
+            with self.assertRaisesRegex(ValueError, "^these paths go on behind a journal: audit that, and then journal"):
+                paths.audit()
+        with Paths(LINE, resume="") as paths:
+            self.assertEqual((paths.resumed, paths.report().lost, Paths(LINE).resumed), (0, (), None))
+
+    def test_each_cut(self):
+        """The lines before it are taken, and what follows them isn't counted."""
+        text = self.journal()
+        for head in ("", "journal 3 room 1048576\n"):
+            whole = head + text
+            for cut in range(len(whole) + 1):
+                with self.subTest(cut), Paths(LINE, resume=whole[:cut]) as paths:
+                    self.assertEqual(paths.resumed, whole.rfind("\n", 0, cut) + 1)
+                    lines = whole[: paths.resumed][len(head) :]
+                    self.assertEqual(len(paths.report().live), lines.count("started") - lines.count("finished"))
+
+    def test_a_journal_of_many_pieces(self):
+        log = []
+        paths = Paths(BOOK, log=log)
+        for _ in range(700):
+            paths.enter("write").leave()
+        text = "".join(log) + paths.journal()
+        for piece in (37, 300, 1 << 20):
+            for room in (2, 3, 1000):
+                with mock.patch.object(wanzoche._resumed, "PIECE", piece), Paths(BOOK, resume=text + "1 sta", room=room) as again:
+                    with again("read") as entry:
+                        self.assertEqual((again.resumed, entry.token), (len(text), 700))
+            broken = text.replace("\n1 finish 350", "\n1 finnish 350")
+            with mock.patch.object(wanzoche._resumed, "PIECE", piece), self.assertRaises(JournalError) as caught:
+                Paths(BOOK, resume=broken)
+            self.assertEqual(caught.exception.line, 702)
+
+    def test_a_line_that_is_not_owed_is_named(self):
+        text = self.journal()
+        wrong = text + "3 start get: started 3\n3 finish 3: finished\n"
+        for head in (0, 1):
+            with self.assertRaises(JournalError) as caught:
+                Paths(LINE, resume="journal 2 room 99\n" * head + wrong)
+            told = "wrong line 8, which is line {} counted from 1:\n  3 start get: started 3\n`blocked 2` is owed"
+            self.assertEqual(str(caught.exception), told.format(9 + head))
+            self.assertEqual((caught.exception.line, caught.exception.owed), (9 + head, "blocked 2"))
+            self.assertEqual(str(pickle.loads(pickle.dumps(caught.exception))), str(caught.exception))
+        broken, unknown = text + "hello\n" + text, "1 start steal: started 0\n"
+        for wrong, told in ((broken, "^bad line 8, which is line 9"), (unknown, "^undeclared in line 0, ")):
+            with self.assertRaisesRegex(JournalError, told):
+                Paths(LINE, resume=wrong)
+        with self.assertRaisesRegex(wanzoche.OutOfRoom, "^no room for line 1 of the journal: 0 in progress, in a room of 1$"):
+            Paths(LINE, resume=text, room=1)
+
+    def test_only_those_of_before_are_recovered(self):
+        text = self.journal()
+        with Paths(LINE, resume=text) as paths:
+            entry = paths.enter("put")
+            for worker in (entry.worker, 2, 77, "thread 3"):
+                with self.assertRaisesRegex(ValueError, "^thread .* isn't of the journal that these paths go on behind$"):
+                    paths.recover(worker)
+            told = []
+
+            def gets():
+                with paths("get", timeout=20) as entry:
+                    told.append(entry.token)
+
+            thread = threading.Thread(target=gets)
+            thread.start()
+            while not paths.waiting():
+                time.sleep(0.001)
+            paths.recover("thread 1")
+            thread.join(20)
+            self.assertEqual(told, [4])
+            entry.leave()
+
+    def test_a_store_takes_none(self):
+        with self.assertRaisesRegex(ValueError, "^a store is the journal itself: it takes no `log`, no `journal` and no `resume`$"):
+            Paths(LINE, resume="", store="/nowhere")
 
 
 class Ends(unittest.TestCase):

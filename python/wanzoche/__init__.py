@@ -6,47 +6,64 @@
 ...     entry.put(7)
 0
 >>> print(paths.why("deposit"))
-deposit is blocked: path 0 of slot: deposit ; remove; in progress: nothing of it
+deposit is blocked: path 0 of slot: deposit ; remove; in progress: nothing of it; may begin next: remove
 """
 
 from ._entries import AsyncEntry, Entry
 from ._errors import (
     Blocked,
     Closed,
+    CorruptStore,
     DeclarationError,
     Forked,
     JournalError,
+    Lost,
     NoJournal,
     NotInProgress,
+    OtherDeclaration,
     OutOfRoom,
+    ScriptError,
+    StoreError,
+    StoreInUse,
     Timeout,
     UnknownOperation,
     UseRefused,
     WanzocheError,
 )
+from ._exploring import Exploration, explore
 from ._paths import Paths, audit
+from ._stored import StoredPaths
 from ._texts import Live, Path, Report, Verdict
 
 __all__ = [
     "AsyncEntry",
     "Blocked",
     "Closed",
+    "CorruptStore",
     "DeclarationError",
     "Entry",
+    "Exploration",
     "Forked",
     "JournalError",
     "Live",
+    "Lost",
     "NoJournal",
     "NotInProgress",
+    "OtherDeclaration",
     "OutOfRoom",
     "Path",
     "Paths",
     "Report",
+    "ScriptError",
+    "StoreError",
+    "StoreInUse",
+    "StoredPaths",
     "Timeout",
     "UnknownOperation",
     "UseRefused",
     "Verdict",
     "WanzocheError",
     "audit",
+    "explore",
 ]
 __version__ = "0.1.0"

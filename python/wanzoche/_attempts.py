@@ -2,6 +2,7 @@
 
 from __future__ import annotations
 
+import math
 from typing import TYPE_CHECKING, Generator, Optional, Protocol, Type
 
 from . import _native as native
@@ -73,12 +74,25 @@ def admitted(operation: Operation, code: int, worker: int) -> bool:
     return code == native.STARTED
 
 
+def check_seconds(timeout: Optional[float]) -> None:
+    """Raises TypeError for what is no limit of time, and ValueError for a number that is none: `nan`, or a whole one past all floats."""
+    if timeout is None:
+        return
+    try:
+        seconds = float(timeout)
+    except (TypeError, ValueError, OverflowError):
+        seconds = math.nan
+    if isinstance(timeout, (str, bytes)) or math.isnan(seconds):
+        kind = ValueError if isinstance(timeout, (int, float)) else TypeError
+        raise kind("a limit of time is None or a number of seconds, not {!r}".format(timeout))
+
+
 def raise_if_late(operation: Operation, waiter: Waiter) -> None:
     """Raises `Timeout` if the time is over, and a path still forbids the start."""
     left = waiter.left()
     why = operation._paths.why(operation._name) if left is not None and left <= 0 else None
     if why is not None:
-        raise Timeout(why.operation, why.path, why.resource, why.text, why.in_progress, operation._timeout)
+        raise Timeout(why.operation, why.path, why.resource, why.text, why.in_progress, operation._timeout, why.may_begin)
 
 
 def _admitted_by_now(operation: Operation, worker: int, waiter: Waiter) -> bool:

@@ -1,6 +1,6 @@
-"""What is quick of paths and entries: see `_core.c`."""
+"""What is quick of paths, entries and stores: see `_core.c`."""
 
-from typing import Any, Dict, Optional, Set, Type
+from typing import Any, Dict, Optional, Set, Tuple, Type
 
 from ._entries import Entry as _PublicEntry
 from ._paths import Paths
@@ -36,3 +36,31 @@ class Entry:
     def _worker(self) -> int: ...
     def _begin(self, worker: int, /) -> int: ...
     def _end(self) -> int: ...
+
+class Turns:
+    worker: int
+    _segment: int
+    _base: int
+    _end: int
+    _added: int
+    _looked: float
+    _was_cut: bool
+    _is_ready: bool
+    def _set_out(
+        self,
+        calls: Tuple[int, ...],
+        handle: int,
+        page: int,
+        lock: object,
+        held: Dict[int, Any],
+        dropped: object,
+        holder: object,
+        operations: int,
+        has_futex: bool,
+        /,
+    ) -> None: ...
+    def _be_ready(self, lines: int, beside: int, left: int, /) -> None: ...
+    def _start_now(self, held: Any, op: int, name: bytes, caller: int, counts: int, /) -> Optional[Tuple[int, int]]: ...
+    def _finish_now(self, held: Any, /) -> Optional[Tuple[int, int]]: ...
+
+def highest_worker(text: bytes, /) -> int: ...

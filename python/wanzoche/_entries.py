@@ -3,21 +3,45 @@
 from __future__ import annotations
 
 from types import TracebackType
-from typing import TYPE_CHECKING, Optional, Type
+from typing import TYPE_CHECKING, NoReturn, Optional, Type
 
 from . import _native as native
+from ._attempts import Operation
 from ._errors import NotInProgress, OutOfRoom, UseRefused
 from ._form import core
-from ._texts import worker_name
+from ._texts import device_of, worker_name
 
 if TYPE_CHECKING or core is None:
-    from ._plain import Calls, System
+    from ._plain import Calls as Calls
     from ._plain import Entry as Base
+    from ._plain import System as System
 else:
-    from ._quick import Calls, System
+    from ._quick import Calls as Calls
     from ._quick import Entry as Base
+    from ._quick import System as System
 
 _VERBS = ("put {}", "take", "look", "add {}")
+_OFFERED = {"cell": "put and look", "queue": "put, take and look", "tally": "add and look"}
+
+
+def raise_refused_use(operation: Operation, code: int, verb: int, number: int) -> NoReturn:
+    """Raises what a use gets that is refused."""
+    if code == native.NO_ROOM:
+        told = "no room for a use in {}: a room of {} lines is all for what is in progress"
+        raise OutOfRoom(told.format(operation._name, operation._paths._room))
+    told = "{} in {}: {}".format(_VERBS[verb].format(number), operation._name, native.words(code).decode())
+    if code == native.NOT_OFFERED:
+        resource, law = device_of(operation._paths._text_of(native.declaration), operation._name)
+        told += ": {} is a {}, which has {}".format(resource, law, _OFFERED[law.split()[0]])
+    raise UseRefused(told)
+
+
+def check_number(number: int) -> None:
+    """Raises TypeError for what is no whole number, and OverflowError for one that no device holds."""
+    if not isinstance(number, int):
+        raise TypeError("a device holds whole numbers, not {!r}".format(number))
+    if not 0 <= number < 1 << 64:
+        raise OverflowError("a device holds numbers from 0 to 2**64 - 1, not {}".format(number))
 
 
 class Entry(Base):
@@ -42,6 +66,12 @@ class Entry(Base):
         return int(self._operation._number)
 
     @property
+    def token(self) -> int:
+        """The same number, for what the operation guards: it rises with each start, over a store with those of all processes. Who keeps the
+        highest that it saw can refuse one that comes too late. Raises `NotInProgress` likewise."""
+        return self.activation
+
+    @property
     def worker(self) -> str:
         """Who began it: `thread 3` or `task 3`. Raises `NotInProgress` before it is begun and when it is over."""
         self._has_to_be_live()
@@ -63,9 +93,16 @@ class Entry(Base):
         """Adds to the resource's tally: the new total."""
         return self._use(native.ADD, number)
 
+    async def __aenter__(self) -> NoReturn:
+        raise TypeError("write `async with paths.aio({!r})`: this entry is for `with` in a thread".format(self.operation))
+
+    async def __aexit__(
+        self, kind: Optional[Type[BaseException]], error: Optional[BaseException], trace: Optional[TracebackType]
+    ) -> None:
+        pass
+
     def _use(self, verb: int, number: int) -> int:
-        if not 0 <= number < 1 << 64:
-            raise OverflowError("a device holds numbers from 0 to 2**64 - 1, not {}".format(number))
+        check_number(number)
         self._has_to_be_live()
         operation = self._operation
         paths = operation._paths
@@ -78,11 +115,7 @@ class Entry(Base):
             return int(answer.number)
         if answer.code == native.CLOSED:
             raise paths._closed()
-        if answer.code == native.NO_ROOM:
-            told = "no room for a use in {}: a room of {} lines is all for what is in progress"
-            raise OutOfRoom(told.format(operation._name, paths._room))
-        told = native.words(answer.code).decode()
-        raise UseRefused("{} in {}: {}".format(_VERBS[verb].format(number), operation._name, told))
+        raise_refused_use(operation, answer.code, verb, number)
 
     def _has_to_be_live(self) -> None:
         if not self._operation._live:
@@ -106,7 +139,7 @@ class AsyncEntry(Entry):
     def __enter__(self) -> "AsyncEntry":
         raise TypeError("write `async with paths.aio({!r})`, or `with paths({!r})` for threads".format(self.operation, self.operation))
 
-    async def __aenter__(self) -> "AsyncEntry":
+    async def __aenter__(self) -> "AsyncEntry":  # type: ignore[override]
         await self._enter_as_task()
         return self
 

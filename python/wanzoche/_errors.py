@@ -15,10 +15,14 @@ class WanzocheError(Exception):
 
 
 class DeclarationError(WanzocheError, ValueError):
-    """The text isn't a declaration. `offset` is where in its bytes; `line` and `column` count from 1."""
+    """The text isn't a declaration. `offset` is where in its bytes; `line` and `column` count from 1.
 
-    def __init__(self, why: str, text: bytes, offset: Optional[int]) -> None:
-        self._made_of = (why, text, offset)
+    The message shows the line with a mark below the place, and says what could stand there, which declared name is nearest, and what slip
+    is likely, where that is known: `words`, which begin behind a colon.
+    """
+
+    def __init__(self, why: str, text: bytes, offset: Optional[int], words: str = "") -> None:
+        self._made_of = (why, text, offset, words)
         self.offset = offset
         self.line: Optional[int] = None
         self.column: Optional[int] = None
@@ -30,13 +34,30 @@ class DeclarationError(WanzocheError, ValueError):
         begin = before.rfind(b"\n") + 1
         self.column = len(before[begin:].decode("utf-8", "replace")) + 1
         shown = text[begin:].split(b"\n", 1)[0].decode("utf-8", "replace")
-        super().__init__(
-            "{} in line {}, column {}:\n  {}\n  {}^".format(why, self.line, self.column, shown, " " * (self.column - 1))
-        )
+        words = words or "\n{}\n{}^".format(shown, " " * (self.column - 1))
+        told = "{} in line {}, column {}:{}".format(why, self.line, self.column, words)
+        super().__init__(told.rstrip("\n").replace("\n", "\n  "))
 
 
 class JournalError(WanzocheError, ValueError):
-    """The text isn't a journal. `line` counts from 1; None if the text is too long."""
+    """The text isn't a journal, or paths can't go on behind it, since a reply isn't owed: then `owed` is the one that is. `line` counts
+    from 1; None if the text is too long."""
+
+    def __init__(self, why: str, text: bytes, number: Optional[int], owed: Optional[str] = None, head: bool = False) -> None:
+        self._made_of = (why, text, number, owed, head)
+        self.line: Optional[int] = None
+        self.owed = owed
+        if number is None:
+            super().__init__(why)
+            return
+        self.line = number + 1 + head
+        shown = text.split(b"\n", self.line)[number + head].decode("utf-8", "replace")
+        told = "" if owed is None else "\n`{}` is owed".format(owed)
+        super().__init__("{} {}, which is line {} counted from 1:\n  {}{}".format(why, number, self.line, shown, told))
+
+
+class ScriptError(WanzocheError, ValueError):
+    """The text isn't a script. `line` counts from 1; None if the text is too long."""
 
     def __init__(self, why: str, text: bytes, number: Optional[int]) -> None:
         self._made_of = (why, text, number)
@@ -45,8 +66,9 @@ class JournalError(WanzocheError, ValueError):
             super().__init__(why)
             return
         self.line = number + 1
-        shown = text.split(b"\n", self.line)[number].decode("utf-8", "replace")
-        super().__init__("{} {}, which is line {} counted from 1:\n  {}".format(why, number, self.line, shown))
+        behind = text.split(b"\n", self.line)[number:]
+        shown = behind[0].decode("utf-8", "replace") if behind and (behind[0] or behind[1:]) else "(the text ends inside a process)"
+        super().__init__("{}, which is line {} counted from 1:\n  {}".format(why, self.line, shown))
 
 
 class NoJournal(WanzocheError):
@@ -60,21 +82,30 @@ class UnknownOperation(WanzocheError, LookupError):
 class Blocked(WanzocheError):
     """A path forbids the start.
 
-    `path` is its number and `text` what it says, `resource` whose it is, and `in_progress` the operations of the path that
-    are in progress, each with who runs it.
+    `path` is its number and `text` what it says, `resource` whose it is, `in_progress` the operations of the path that are in progress,
+    each with who runs it, and `may_begin` those of its operations that no path forbids now.
     """
 
     def __init__(
-        self, operation: str, path: int, resource: str, text: str, in_progress: Sequence[Tuple[str, str]], after: Optional[float] = None
+        self,
+        operation: str,
+        path: int,
+        resource: str,
+        text: str,
+        in_progress: Sequence[Tuple[str, str]],
+        after: Optional[float] = None,
+        may_begin: Sequence[str] = (),
     ) -> None:
-        self._made_of = (operation, path, resource, text, tuple(in_progress), after)
+        self._made_of = (operation, path, resource, text, tuple(in_progress), after, tuple(may_begin))
         self.operation = operation
         self.path = path
         self.resource = resource
         self.text = text
         self.in_progress = tuple(in_progress)
-        running = ", ".join("{} by {}".format(*each) for each in in_progress) or "nothing of it"
-        waited = "" if after is None else " for {:g} seconds".format(after)
+        self.may_begin = tuple(may_begin)
+        running = ", ".join("{} by {}".format(*each) for each in in_progress)
+        running = running or "nothing of it; may begin next: {}".format(", ".join(may_begin) or "nothing")
+        waited = " for {:g} seconds".format(after) if after is not None and after > 0 else ""
         super().__init__(
             "{} is blocked{}: path {} of {}: {}; in progress: {}".format(operation, waited, path, resource, text, running)
         )
@@ -96,9 +127,39 @@ class OutOfRoom(WanzocheError):
     """More operations are in progress than the room has places for, or 4,294,967,295 were started."""
 
 
+class StoreError(WanzocheError, OSError):
+    """The store can't be opened, read, written or synced. What the system said is its `__cause__`."""
+
+
+class StoreInUse(StoreError):
+    """Another program has the store's journal to itself."""
+
+
+class OtherDeclaration(StoreError):
+    """The store is one of another declaration."""
+
+
+class CorruptStore(StoreError):
+    """A line of the journal isn't owed, isn't a line, or is gone. These paths refuse to go on.
+
+    `line` is its number in the file, from 1, where the head is the first; None if lines are gone. Over PostgreSQL it is its place in the
+    table, from 0.
+    """
+
+    def __init__(self, told: str, line: Optional[int] = None) -> None:
+        self._made_of = (told, line)
+        self.line = line
+        super().__init__(told)
+
+
+class Lost(WanzocheError):
+    """The operation was finished by others, which took this process for dead or were told to. What this process does to what it guards
+    may meet the operations of others: let the resource refuse it by the entry's `token`."""
+
+
 class Closed(WanzocheError):
     """The paths were closed."""
 
 
 class Forked(Closed):
-    """The paths belong to the parent of this process. Open others in the child."""
+    """The paths belong to the parent of this process, and nothing of them is shared with it. Open others in the child."""

@@ -35,6 +35,24 @@ class Record(ctypes.Structure):
     _live: bool
 
 
+class Activation(ctypes.Structure):
+    """An operation in progress: a `wanzoche_activation`."""
+
+    _fields_ = [("number", c_uint64), ("worker", c_uint32), ("operation", c_uint32)]
+    number: int
+    worker: int
+    operation: int
+
+
+class Taken(ctypes.Structure):
+    """How much of a journal's text was taken over: a `wanzoche_taken`."""
+
+    _fields_ = [("lines", c_uint64), ("bytes", c_uint64), ("owed", Answer)]
+    lines: int
+    bytes: int
+    owed: Answer
+
+
 CLOSED = 0
 STARTED = 1
 BLOCKED = 2
@@ -63,10 +81,17 @@ UNDECLARED_LINE = 27
 NO_JOURNAL = 28
 TOO_LONG = 32
 TOO_MANY = 45
+TAKEN = 46
+ALL_DONE = 47
+STALLS = 48
+REFUSED = 49
+UNDECIDED = 50
+SCRIPT_TOO_LONG = 51
 
 PUT, TAKE, LOOK, ADD = range(4)
 MOST_LINES = 1048576
 MESSAGE = 64
+STANDINGS = 1280
 
 
 def _path() -> str:
@@ -78,6 +103,8 @@ def _path() -> str:
     installed = ctypes.util.find_library("wanzoche") if wanted == beside else None
     if installed:
         return installed
+    if wanted != beside:
+        raise ImportError("WANZOCHE_LIBRARY names {}, which isn't there".format(wanted))
     raise ImportError(
         "libwanzoche.so isn't at {}. `pip install ./python` builds it into the package; to use one that lies elsewhere, as "
         "out/lib/libwanzoche.so after `make`, name it by the variable WANZOCHE_LIBRARY.".format(wanted)
@@ -118,10 +145,24 @@ def address(name: str) -> int:
 
 begin = _declared(_in_turn, "begin", c_uint32, c_void_p, c_uint32, c_uint32, c_void_p)
 end = _declared(_in_turn, "end", c_uint32, c_void_p, c_void_p)
+start = _declared(_in_turn, "start", Answer, c_void_p, c_uint32, c_uint32)
+finish = _declared(_in_turn, "finish", Answer, c_void_p, c_uint32, c_uint64)
 use = _declared(_in_turn, "use", Answer, c_void_p, c_uint32, c_uint64, c_uint32, c_uint64)
 can_start = _declared(_in_turn, "can_start", Answer, c_void_p, c_uint32)
 rotate_at = _declared(_in_turn, "rotate_at", Answer, c_void_p, c_size_t, c_void_p)
 live = _declared(_in_turn, "live", c_uint32, c_void_p)
+# A library before this call steps a line at a time.
+take_over: Any = (
+    _declared(_in_turn, "take_over", Answer, c_void_p, c_char_p, c_size_t, c_void_p)
+    if hasattr(_aside, "wanzoche_take_over")
+    else None
+)
+# What a start or a use would be answered, which a library before `take_over` can't say.
+owed_start: Any = _declared(_in_turn, "owed_start", Answer, c_void_p, c_uint32, c_uint32) if take_over is not None else None
+owed_use: Any = (
+    _declared(_in_turn, "owed_use", Answer, c_void_p, c_uint32, c_uint64, c_uint32, c_uint64) if take_over is not None else None
+)
+list_live = _declared(_in_turn, "list_live", c_uint32, c_void_p, c_void_p, c_uint32)
 lines = _declared(_in_turn, "lines", c_size_t, c_void_p)
 close = _declared(_in_turn, "close", None, c_void_p)
 journal = _declared(_in_turn, "journal", Answer, c_void_p, c_char_p, c_size_t)
@@ -132,4 +173,14 @@ open_without_journal = _declared(
     _aside, "open_without_journal", Answer, c_void_p, c_char_p, c_size_t, c_uint32, c_char_p, c_size_t
 )
 audit = _declared(_aside, "audit", Answer, c_char_p, c_size_t, c_uint32, c_char_p, c_size_t, c_char_p, c_size_t)
+# A library before this call searches nothing.
+explore: Any = (
+    _declared(_aside, "explore", Answer, c_char_p, c_size_t, c_char_p, c_size_t, c_uint32, c_char_p, c_size_t, c_char_p, c_size_t)
+    if hasattr(_aside, "wanzoche_explore")
+    else None
+)
+# A library before this call shows the place alone.
+explain: Any = (
+    _declared(_aside, "explain", Answer, c_char_p, c_size_t, c_char_p, c_size_t) if hasattr(_aside, "wanzoche_explain") else None
+)
 words = _declared(_aside, "words", c_char_p, c_uint32)

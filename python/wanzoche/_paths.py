@@ -12,15 +12,17 @@ import threading
 import warnings
 import weakref
 from types import TracebackType
-from typing import Any, Awaitable, Callable, Dict, List, Optional, Tuple, Type, TypeVar, Union, cast
+from typing import Any, Awaitable, Callable, Dict, Iterator, List, Optional, Tuple, Type, TypeVar, Union, cast
 
 from . import _native as native
 from ._entries import AsyncEntry, Calls, Entry, System
 from ._errors import Blocked, Closed, DeclarationError, Forked, JournalError, NoJournal, UnknownOperation
-from ._texts import TASKS, Path, Report, Verdict, read_declaration, read_report
+from ._resumed import Journal, live_workers
+from ._texts import TASKS, Live, Path, Report, Verdict, read_declaration, read_report, without_marks, worker_name
 from ._waiting import Queues
 
 Call = TypeVar("Call", bound=Callable[..., Any])
+Own = TypeVar("Own", bound="Paths")
 Log = Union[Callable[[str], Any], List[str], Any]
 
 
@@ -43,14 +45,44 @@ class Paths(System):
     `room` is that of what is in progress, one operation less than it says, and `journal()`, and `audit()` without a text, raise `NoJournal`.
     All else is the same: also `report()`, `why(..)` and `audit(text)`.
 
+    `resume` is the text of a journal, whoever wrote it, of any version: the paths go on behind its lines, as if they had answered them
+    themselves. What was in progress there is in progress, with the same tokens, and devices have what they had. The lines stay the
+    caller's: `journal()` and the log have only new ones. The text may be cut anywhere; `resumed` says how much of it is whole lines.
+    Raises `JournalError`, which names the line, if a reply isn't owed or the text isn't a journal, and `OutOfRoom`.
+
+    With `store` all processes share the paths that open it: a file, or a URL of PostgreSQL with the log's `name`. docs/shared.md and
+    docs/machines.md say what `sync`, `lost`, `grace` and `patience` are.
+
     All methods may be called by any thread, by a signal handler and by a finalizer. Raises `DeclarationError` if the text isn't a
     declaration, and `ValueError` for a bad room or for a log without a journal.
     """
 
-    def __init__(self, text: Union[str, bytes], *, room: int = 65536, log: Optional[Log] = None, journal: bool = True) -> None:
-        source = text.encode() if isinstance(text, str) else bytes(text)
-        if not 0 < room <= native.MOST_LINES:
-            raise ValueError("the room is 1 to 1,048,576 lines, not {}".format(room))
+    def __new__(cls, *given: Any, **named: Any) -> Any:
+        if cls is Paths and named.get("store") is not None:
+            return super().__new__(_paths_over(named["store"]))
+        return super().__new__(cls)
+
+    def __init__(
+        self,
+        text: Union[str, bytes],
+        *,
+        room: Optional[int] = None,
+        log: Optional[Log] = None,
+        journal: bool = True,
+        resume: Union[None, str, bytes] = None,
+        store: Union[None, str, "os.PathLike[str]"] = None,
+        sync: bool = True,
+        lost: str = "finish",
+        name: Optional[str] = None,
+        grace: Optional[float] = None,
+        patience: Optional[float] = None,
+    ) -> None:
+        if store is not None:
+            raise TypeError("a subclass of Paths has no store: derive it from StoredPaths")
+        if (name, grace, patience) != (None, None, None):
+            raise TypeError("`name`, `grace` and `patience` are of a store in PostgreSQL")
+        room = 65536 if room is None else room
+        source = self._source_of(text, room)
         if log is not None and not journal:
             raise ValueError("without a journal there are no lines for a log")
         handle = native.Handle()
@@ -60,24 +92,59 @@ class Paths(System):
         if answer.code == native.OUT_OF_MEMORY:
             raise MemoryError("no memory for a system with room for {} lines".format(room))
         if answer.code != native.OPENED:
-            raise _declaration_error(answer, source)
+            raise declaration_error(answer, source)
+        self._set_out(source, room, log)
+        if resume is not None:
+            self._go_on(handle, resume.encode() if isinstance(resume, str) else bytes(resume))
+        self._read_names(handle)
+        self._finalizer = weakref.finalize(self, _close, handle)
+        self._finalizer.atexit = False  # threads may still run then, and the process gives all back
+
+    @staticmethod
+    def _source_of(text: Union[str, bytes], room: int) -> bytes:
+        """The text in bytes. Raises ValueError for a bad room, and TypeError for what is no room or no text."""
+        if not isinstance(room, int) or not 0 < room <= native.MOST_LINES:
+            kind = ValueError if isinstance(room, int) else TypeError
+            raise kind("the room is 1 to 1,048,576 lines, not {!r}".format(room))
+        return bytes_of(text)
+
+    def _set_out(self, source: bytes, room: int, log: Optional[Log]) -> None:
+        """What there is before anything is attempted."""
         self._source = source
         self._room = room
         self._log = _log_call(log)
         self._forked = False
         self._local = threading.local()
-        self._threads = itertools.count(1)
-        self._tasks = itertools.count(TASKS + 1)
+        self._threads: Iterator[int] = itertools.count(1)
+        self._tasks: Iterator[int] = itertools.count(TASKS + 1)
         self._task_workers: "weakref.WeakKeyDictionary[Any, int]" = weakref.WeakKeyDictionary()
         self._rotation = threading.RLock()
         self._rotations = ctypes.c_uint64()
         self._logged = (0, 0)  # how often the journal had been rotated, and how much of its text since then the log has
+        self._resumed: Optional[int] = None
+        self._gone: "frozenset[int]" = frozenset()  # whose operations were in progress at the end of the journal that was resumed
+
+    def _go_on(self, handle: native.Handle, text: bytes) -> None:
+        """Goes on behind the lines of a journal. Nobody here gets the number of one who had something in progress there."""
+        at = ctypes.addressof(handle)
+        journal = Journal(at, text, self._room)
+        try:
+            journal.take_over()
+            native.rotate_at(at, native.lines(at), None)
+            self._gone = frozenset(live_workers(at))
+        except BaseException:
+            native.close(at)
+            raise
+        self._resumed = journal.whole
+        self._threads = itertools.filterfalse(self._gone.__contains__, self._threads)
+        self._tasks = itertools.filterfalse(self._gone.__contains__, self._tasks)
+
+    def _read_names(self, handle: native.Handle) -> None:
+        """From now on these are the paths of this handle."""
         self._aim(handle, {})
         names, paths = read_declaration(self._text_of(native.declaration))
         self._operations, self._paths_of_text = tuple(names), tuple(paths)
         self._aim(handle, names)
-        self._finalizer = weakref.finalize(self, _close, handle)
-        self._finalizer.atexit = False  # threads may still run then, and the process gives all back
         _all.add(self)
 
     # What can be entered
@@ -91,6 +158,12 @@ class Paths(System):
     def paths(self) -> Tuple[Path, ...]:
         """The declared paths, in the order of their numbers."""
         return self._paths_of_text
+
+    @property
+    def resumed(self) -> Optional[int]:
+        """How many bytes of the journal that these paths go on behind are whole lines. Behind them is a torn end: cut it off before new
+        lines are appended. None if they go on behind none."""
+        return self._resumed
 
     def enter(self, operation: str, timeout: Optional[float] = None) -> Entry:
         """Starts an operation, and waits until it is admitted. Leave it by `entry.leave()`.
@@ -110,6 +183,8 @@ class Paths(System):
 
     def guards(self, operation: str, timeout: Optional[float] = None) -> Callable[[Call], Call]:
         """A decorator: each call of the function is this operation. A coroutine function waits as a task."""
+        if callable(operation):
+            raise TypeError("name the operation: `@paths.guards(..)` with one of {}".format(", ".join(self._operations)))
         self._number(operation)
 
         def guarded(function: Call) -> Call:
@@ -152,11 +227,29 @@ class Paths(System):
             return None
         path = self._paths_of_text[number]
         running = [(each.operation, each.worker) for each in report.live if each.operation in path.operations]
-        return Blocked(operation, number, path.resource, path.text, running)
+        may_begin = [each for each in path.operations if each in report.startable]
+        return Blocked(operation, number, path.resource, path.text, running, None, may_begin)
 
     def report(self) -> Report:
         """What can be started now, which path blocks what, and what is in progress."""
-        return read_report(self._text_of(native.report))
+        told = read_report(self._text_of(native.report))
+        if not self._gone:
+            return told
+        names = [worker_name(worker) for worker in self._gone]
+        return told._replace(lost=tuple(each for each in told.live if each.worker in names))
+
+    def recover(self, worker: Union[str, int, Live], even_alive: bool = False) -> int:
+        """Finishes what a worker had in progress at the end of the journal that these paths go on behind: how many operations that was.
+        The worker is one of `report().lost`, or its name, or its number. Raises `ValueError` for all others: what they have in progress
+        is left by its entry. Over a store see `StoredPaths.recover`."""
+        name = worker.worker if isinstance(worker, Live) else worker_name(worker) if isinstance(worker, int) else worker
+        number = next((each for each in self._gone if worker_name(each) == name), None)
+        if number is None:
+            raise ValueError("{} isn't of the journal that these paths go on behind".format(name))
+        found = [each.activation for each in self.report().lost if each.worker == name]
+        count = [native.finish(self._at, number, each).code for each in found].count(native.FINISHED)
+        self._queues.wake_all(again=True)
+        return count
 
     def waiting(self) -> Dict[str, int]:
         """How many threads and tasks wait for each operation, of those for which any does."""
@@ -188,6 +281,8 @@ class Paths(System):
             text = self.journal()
             if self._rotations.value or self._logged[1]:
                 raise ValueError("the journal was rotated: audit what the log got, and then journal(), as one text")
+            if self._resumed is not None:
+                raise ValueError("these paths go on behind a journal: audit that, and then journal(), as one text")
         return audit(self._source, text, room)
 
     # Ending
@@ -202,7 +297,7 @@ class Paths(System):
             self._queues.end_all()
             raise
 
-    def __enter__(self) -> "Paths":
+    def __enter__(self: Own) -> Own:
         return self
 
     def __exit__(
@@ -221,8 +316,11 @@ class Paths(System):
         self._at = ctypes.addressof(handle)
         self._numbers = numbers
         self._calls = Calls(handle)
-        self._queues = Queues(self._calls)
+        self._queues = self._new_queues()
         self._set_up(self._calls, numbers, self._queues, self._queues.due, Entry)
+
+    def _new_queues(self) -> Queues:
+        return Queues(self._calls)
 
     def _dropped(self, operation: str) -> None:
         """Called after an entry in progress that nobody holds was finished: others have their turn, and a warning says so."""
@@ -331,10 +429,22 @@ class Paths(System):
         self._aim(native.Handle(), {})
 
 
+def _paths_over(store: Any) -> "Type[Paths]":
+    """What makes paths over this store."""
+    from ._stored import StoredPaths
+
+    if isinstance(store, str) and store.startswith(("postgresql://", "postgres://")):
+        from ._served import ServedPaths
+
+        return ServedPaths
+    return StoredPaths
+
+
 def audit(declaration: Union[str, bytes], journal: str, room: int = native.MOST_LINES) -> Verdict:
-    """Replays a journal, whoever wrote it, under a declaration. See `Paths.audit`."""
-    source = declaration.encode() if isinstance(declaration, str) else bytes(declaration)
-    text = journal.encode()
+    """Replays a journal, whoever wrote it, under a declaration. It may be of any version, also the text of a store's file. See
+    `Paths.audit`."""
+    source = bytes_of(declaration)
+    text = without_marks(journal).encode()
     if not 0 < room <= native.MOST_LINES:
         raise ValueError("the room is 1 to 1,048,576 lines, not {}".format(room))
     message = ctypes.create_string_buffer(native.MESSAGE)
@@ -346,14 +456,41 @@ def audit(declaration: Union[str, bytes], journal: str, room: int = native.MOST_
     if answer.code == native.OUT_OF_MEMORY:
         raise MemoryError("no memory for an audit")
     if native.TOO_LONG <= answer.code <= native.TOO_MANY:
-        raise _declaration_error(answer, source)
+        raise declaration_error(answer, source)
     told = native.words(answer.code).decode()
     raise JournalError(told, text, None if answer.code == native.JOURNAL_TOO_LONG else answer.number)
 
 
-def _declaration_error(answer: native.Answer, source: bytes) -> DeclarationError:
+def bytes_of(declaration: Union[str, bytes]) -> bytes:
+    """The text of a declaration in bytes. Raises TypeError for what is no text."""
+    if isinstance(declaration, str):
+        return declaration.encode()
+    if isinstance(declaration, (bytes, bytearray, memoryview)):
+        return bytes(declaration)
+    raise TypeError("a declaration is a text, not {!r}; that of a file is pathlib.Path(FILE).read_text()".format(declaration))
+
+
+def declaration_error(answer: native.Answer, source: bytes) -> DeclarationError:
+    """Why a text isn't a declaration, as an answer of the library says."""
     told = native.words(answer.code).decode()
-    return DeclarationError(told, source, None if answer.code == native.TOO_LONG else answer.number)
+    if source.strip() and not source.split(None, 1)[1:] and (b"." in source or b"/" in source):
+        told += " (is this the name of a file? Its text is pathlib.Path(FILE).read_text())"
+    if answer.code == native.TOO_LONG:
+        return DeclarationError(told, source, None)
+    return DeclarationError(told, source, answer.number, _explained(source))
+
+
+def _explained(source: bytes) -> str:
+    """What the library says of a text that isn't a declaration, behind the place in the first line; empty if there is no memory for it."""
+    if native.explain is None:
+        return ""
+    answer = native.explain(source, len(source), None, 0)
+    if answer.code != native.TOO_SMALL:
+        return ""
+    buffer = ctypes.create_string_buffer(answer.number + 1)
+    if native.explain(source, len(source), buffer, len(buffer)).code != native.WRITTEN:
+        return ""
+    return buffer.value.decode("utf-8", "replace").split(":", 3)[3]
 
 
 def _log_call(log: Optional[Log]) -> Optional[Callable[[str], Any]]:
@@ -361,6 +498,8 @@ def _log_call(log: Optional[Log]) -> Optional[Callable[[str], Any]]:
         return cast(Optional[Callable[[str], Any]], log)
     if isinstance(log, list):
         return log.append
+    if not callable(getattr(log, "write", None)):
+        raise TypeError("a log is a callable, a list, or a file that is open for text, not {!r}".format(log))
     return cast(Callable[[str], Any], log.write)
 
 

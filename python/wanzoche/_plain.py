@@ -8,7 +8,7 @@ from types import TracebackType
 from typing import TYPE_CHECKING, Dict, Generator, Optional, Set, Type, TypeVar, cast
 
 from . import _native as native
-from ._attempts import Operation, admitted, in_use, undo, waiting
+from ._attempts import Operation, admitted, check_seconds, in_use, undo, waiting
 from ._waiting import Queue, Queues, TaskWaiter, ThreadWaiter, Waiter
 
 if TYPE_CHECKING:
@@ -52,6 +52,7 @@ class _Operation(native.Record):
     """What the library writes of an entry, and what else its turn has to know: the turn has to do without the entry itself."""
 
     def __init__(self, paths: "Paths", name: str, timeout: Optional[float]) -> None:
+        check_seconds(timeout)
         self._paths = paths
         self._op = paths._number(name)
         self._name = name

@@ -18,12 +18,12 @@ else:
     CoreCalls, CoreEntry, System = core.Calls, core.Entry, core.System
 
 _STARTED = native.STARTED
-_ADDRESSES = [native.address(name) for name in ("begin", "end", "can_start")]
+_BEGIN, _END, _CAN_START = (native.address(name) for name in ("begin", "end", "can_start"))
 
 
 def Calls(handle: native.Handle) -> CoreCalls:
     """What is called of a handle."""
-    return CoreCalls(*_ADDRESSES, addressof(handle), handle)
+    return CoreCalls(_BEGIN, _END, _CAN_START, addressof(handle), handle)
 
 
 class Entry(CoreEntry):

@@ -3,7 +3,7 @@
 from __future__ import annotations
 
 import re
-from typing import Dict, List, NamedTuple, Optional, Tuple
+from typing import Callable, Dict, List, NamedTuple, Optional, Tuple
 
 TASKS = 1 << 31
 """Tasks have the workers' numbers from here on, threads those below."""
@@ -34,13 +34,15 @@ class Report(NamedTuple):
     frozen: bool
     """Whether nothing is in progress and nothing can ever be started again."""
     text: str
+    lost: Tuple[Live, ...] = ()
+    """What of it dead workers have in progress: over a store, and where paths go on behind a journal."""
 
     def __str__(self) -> str:
         return self.text
 
 
-def read_report(text: str) -> Report:
-    """The report in a text of the library."""
+def read_report(text: str, name: Callable[[int], str] = worker_name) -> Report:
+    """The report in a text of the library, with these names of workers."""
     startable: Tuple[str, ...] = ()
     blocked: Dict[str, int] = {}
     live: List[Live] = []
@@ -52,10 +54,18 @@ def read_report(text: str) -> Report:
         elif word == "blocked":
             blocked[rest[0]] = int(rest[1])
         elif word == "live":
-            live.append(Live(int(rest[0]), worker_name(int(rest[1])), rest[2]))
+            live.append(Live(int(rest[0]), name(int(rest[1])), rest[2]))
         else:
             frozen = rest[0] == "yes"
     return Report(startable, blocked, tuple(live), frozen, text)
+
+
+def without_marks(journal: str) -> str:
+    """A journal of version 3, up to its last line feed, as one of version 2; any other as it is."""
+    if not journal.startswith("journal 3 "):
+        return journal
+    head, feed, lines = journal[: journal.rfind("\n") + 1].partition("\n")
+    return head.replace("3", "2", 1) + feed + lines[lines.startswith("+") :].replace("\n+", "\n")
 
 
 class Path(NamedTuple):
@@ -91,6 +101,14 @@ def read_declaration(text: str) -> Tuple[Dict[str, int], List[Path]]:
         elif naming and word != ",":
             operations[word] = len(operations)
     return operations, paths
+
+
+def device_of(text: str, operation: str) -> Tuple[str, str]:
+    """The resource of an operation, and its law, in a declaration as the library writes it."""
+    for resource, law, names in re.findall(r"resource (\w+) (cell|tally|queue \d+) operation ((?:\w+, )*\w+)", text):
+        if operation in names.split(", "):
+            return resource, law
+    raise LookupError(operation)
 
 
 class Verdict(NamedTuple):

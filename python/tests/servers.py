@@ -1,0 +1,226 @@
+"""PostgreSQL servers for tests: each in a temporary folder, at a Unix socket and a port of loopback, run by a user without rights."""
+
+import atexit
+import glob
+import importlib.util
+import itertools
+import os
+import pwd
+import shutil
+import signal
+import socket
+import subprocess
+import tempfile
+import time
+import unittest
+import warnings
+
+from wanzoche import Paths
+
+NEEDED = os.environ.get("WANZOCHE_POSTGRESQL") == "needed"
+"""Whether a server that can't be had is a failure."""
+SETTINGS = {
+    "fsync": "off",  # what a killed server has written is there when it is started again: only the machine may not fall
+    "full_page_writes": "off",
+    "autovacuum": "off",
+    "max_connections": "100",
+    "shared_buffers": "16MB",
+    "listen_addresses": "127.0.0.1",
+    "log_min_messages": "fatal",
+}
+
+
+def folder_of_programs():
+    """Where postgres and initdb are; None if they aren't here."""
+    found = [os.path.dirname(os.path.realpath(path)) for path in [shutil.which("postgres")] if path]
+    versions = glob.glob("/usr/lib/postgresql/*/bin")
+    found += sorted(versions, key=lambda path: int(path.split("/")[-2]), reverse=True)
+    return next((folder for folder in found if os.path.exists(folder + "/initdb") and os.path.exists(folder + "/pg_isready")), None)
+
+
+def why_not():
+    """Why there is no server; None if there can be one."""
+    if os.environ.get("WANZOCHE_POSTGRESQL") == "no":
+        return "they aren't wanted here"
+    if importlib.util.find_spec("psycopg") is None:
+        return "this Python has no psycopg"
+    if folder_of_programs() is None:
+        return "there is no PostgreSQL here"
+    return None
+
+
+def needs_server(test):
+    """A test that is left out where there is no server; but on the gate's machine it fails."""
+    why = why_not()
+    if why and NEEDED:
+        raise AssertionError(why)
+    return unittest.skipIf(why, why)(test)
+
+
+def _user():
+    """Who runs the server: root may not."""
+    if os.getuid():
+        return None
+    for name in ("postgres", "nobody"):
+        try:
+            return pwd.getpwnam(name)
+        except KeyError:
+            pass
+    raise AssertionError("there is neither a user postgres nor nobody")
+
+
+class Server:
+    """One server."""
+
+    def __init__(self, **settings):
+        self._bin = folder_of_programs()
+        self._user = _user()
+        self.folder = tempfile.mkdtemp(prefix="wanzoche-")
+        if self._user:
+            os.chown(self.folder, self._user.pw_uid, self._user.pw_gid)
+        self._process = None
+        self.settings = {**SETTINGS, **settings}
+        with socket.socket() as free:
+            free.bind(("127.0.0.1", 0))
+            self.port = free.getsockname()[1]
+        self._run("initdb", "-D", self.folder + "/data", "-A", "trust", "-U", "postgres", "--no-sync", "-E", "UTF8", "--locale=C")
+        with open(self.folder + "/data/pg_hba.conf", "a") as file:
+            file.write("host all all 10.213.0.0/16 trust\n")  # of the networks that the tests make
+        atexit.register(self._end, os.getpid())
+        self.start()
+
+    @property
+    def url(self):
+        return "postgresql://postgres@/postgres?host={}&port={}".format(self.folder, self.port)
+
+    def tcp_url(self, host="127.0.0.1", port=None):
+        return "postgresql://postgres@{}:{}/postgres".format(host, port or self.port)
+
+    def _become(self):
+        if self._user:
+            os.setgroups([])
+            os.setgid(self._user.pw_gid)
+            os.setuid(self._user.pw_uid)
+
+    def _run(self, program, *words):
+        command = [os.path.join(self._bin, program)] + list(words)
+        done = subprocess.run(command, cwd="/", preexec_fn=self._become, stdout=subprocess.PIPE, stderr=subprocess.STDOUT)
+        if done.returncode:
+            raise AssertionError("{}: {}".format(program, done.stdout.decode()))
+
+    def start(self):
+        """Starts it, and returns when it answers."""
+        words = [os.path.join(self._bin, "postgres"), "-D", self.folder + "/data", "-k", self.folder, "-p", str(self.port)]
+        for name, value in self.settings.items():
+            words += ["-c", "{}={}".format(name, value)]
+        with open(self.folder + "/log", "ab") as log:
+            self._process = subprocess.Popen(words, cwd="/", preexec_fn=self._become, stdin=subprocess.DEVNULL, stdout=log, stderr=log)
+        until = time.monotonic() + 60
+        ready = [os.path.join(self._bin, "pg_isready"), "-q", "-h", self.folder, "-p", str(self.port)]
+        while subprocess.run(ready).returncode:
+            if self._process.poll() is not None:
+                time.sleep(0.2)  # processes of the one that was killed are still there
+                return self.start()
+            assert time.monotonic() < until, "the server doesn't start"
+            time.sleep(0.02)
+
+    def _children(self):
+        with open("/proc/{0}/task/{0}/children".format(self._process.pid)) as file:
+            return [int(pid) for pid in file.read().split()]
+
+    def kill(self):
+        """Kills it and all its processes."""
+        os.kill(self._process.pid, signal.SIGSTOP)
+        children = self._children()
+        for pid in [self._process.pid] + children:
+            try:
+                os.kill(pid, signal.SIGKILL)
+            except ProcessLookupError:
+                pass
+        self._process.wait()
+
+    def run(self, text, *values):
+        """The rows of a statement."""
+        import psycopg
+
+        with psycopg.connect(self.url, autocommit=True, gssencmode="disable") as connection:
+            cursor = connection.execute(text, values or None)
+            return cursor.fetchall() if cursor.description else []
+
+    def _end(self, pid):
+        if pid == os.getpid():
+            if self._process is not None and self._process.poll() is None:
+                self._process.send_signal(signal.SIGQUIT)
+                self._process.wait()
+            shutil.rmtree(self.folder, ignore_errors=True)
+
+    def end(self):
+        """Ends it, and removes its folder."""
+        self._end(os.getpid())
+
+
+_servers = []
+_names = itertools.count(1)
+
+
+def the_server():
+    """The server that most tests share."""
+    if not _servers:
+        _servers.append(Server())
+    return _servers[0]
+
+
+def new_name():
+    """The name of a log that isn't there yet."""
+    return "log {} of {}".format(next(_names), os.getpid())
+
+
+class OnServer:
+    """For a TestCase: a log, and openings of it."""
+
+    grace = 0.5
+
+    def setUp(self):
+        super().setUp()
+        quiet = warnings.catch_warnings()
+        quiet.__enter__()
+        self.addCleanup(quiet.__exit__, None, None, None)
+        warnings.simplefilter("ignore", ResourceWarning)  # of entries that are dropped when something fails
+        self.server = the_server()
+        self.name = new_name()
+
+    def made(self, text, **options):
+        """Paths that nobody closes."""
+        return Paths(text, store=options.pop("store", self.server.url), name=self.name, **{"grace": self.grace, **options})
+
+    def open(self, text, **options):
+        paths = self.made(text, **options)
+        self.addCleanup(paths.close)
+        return paths
+
+    def child(self, work):
+        """Begins a process that does this, and dies by SIGKILL behind it: its number."""
+        child = os.fork()
+        if child:
+            return child
+        try:
+            work()
+        except BaseException as error:
+            print("in a child: {}: {}".format(type(error).__name__, error), flush=True)
+        os.kill(os.getpid(), signal.SIGKILL)
+
+    def dies(self, work):
+        """The same, and waits until it is dead."""
+        os.waitpid(self.child(work), 0)
+
+    def until(self, condition, seconds=20):
+        """Waits until something holds."""
+        end = time.monotonic() + seconds
+        while not condition():
+            self.assertLess(time.monotonic(), end, "it never comes")
+            time.sleep(0.002)
+
+    def lines(self):
+        """The lines of the log, as they stand in the table."""
+        told = "select x.line from wanzoche.line x join wanzoche.log y using (log) where y.name = %s order by x.place"
+        return [line for (line,) in self.server.run(told, self.name)]

@@ -1,0 +1,79 @@
+"""Stores for tests: each in a folder of its own, which goes when the test is over."""
+
+import os
+import signal
+import sys
+import tempfile
+import time
+import warnings
+
+from wanzoche import Paths
+
+THOROUGH = not os.environ.get("WANZOCHE_FEWER")
+"""Whether tests that take long are made, too."""
+
+
+def only_in_python(store):
+    """From now on this store makes its turns in Python, also where the package has its core."""
+    store._be_ready = lambda *given: None
+    store._is_ready = False
+
+
+class InFolder:
+    """For a TestCase: a folder, and openings of stores in it."""
+
+    def setUp(self):
+        super().setUp()
+        quiet = warnings.catch_warnings()
+        quiet.__enter__()
+        self.addCleanup(quiet.__exit__, None, None, None)
+        warnings.simplefilter("ignore", ResourceWarning)  # of entries that are dropped when something fails
+        folder = tempfile.TemporaryDirectory(prefix="wanzoche-")
+        self.addCleanup(folder.cleanup)
+        self.folder = folder.name
+        self.file = os.path.join(self.folder, "door.log")
+
+    def open(self, text, **options):
+        paths = Paths(text, store=self.file, **options)
+        self.addCleanup(paths.close)
+        return paths
+
+    def text(self):
+        """What stands in the file."""
+        with open(self.file, "rb") as file:
+            return file.read()
+
+    def child(self, work):
+        """Begins a process that does this, and dies by SIGKILL behind it: its number."""
+        child = os.fork()
+        if child:
+            return child
+        try:
+            work()
+        except BaseException as error:
+            print("in a child: {}: {}".format(type(error).__name__, error), file=sys.stderr, flush=True)
+        os.kill(os.getpid(), signal.SIGKILL)
+
+    def dies(self, work):
+        """The same, and waits until it is dead."""
+        os.waitpid(self.child(work), 0)
+
+    def until(self, condition, seconds=20):
+        """Waits until something holds."""
+        end = time.monotonic() + seconds
+        while not condition():
+            self.assertLess(time.monotonic(), end, "it never comes")
+            time.sleep(0.001)
+
+    def ends_well(self, work):
+        """In another process, which has to end well."""
+        child = os.fork()
+        if child == 0:
+            try:
+                work()
+                os._exit(0)
+            except BaseException as error:
+                print("in a child: {}: {}".format(type(error).__name__, error), file=sys.stderr, flush=True)
+            finally:
+                os._exit(1)
+        self.assertEqual(os.waitpid(child, 0)[1], 0)

@@ -1,0 +1,149 @@
+"""The command `wanzoche`, as a shell runs it."""
+
+import os
+import signal
+import subprocess
+import sys
+import unittest
+
+from wanzoche import Paths
+
+from .declarations import BOOK, SLOT
+from .stores import InFolder
+
+
+class Commands(InFolder, unittest.TestCase):
+    def setUp(self):
+        super().setUp()
+        self.declaration = os.path.join(self.folder, "book.path")
+        with open(self.declaration, "w") as file:
+            file.write(BOOK)
+
+    def words(self, command, *words):
+        return [sys.executable, "-m", "wanzoche", command, "--store", self.file] + list(words)
+
+    def runs(self, command, *words):
+        """What it writes, what it writes on standard error, and its status."""
+        ended = subprocess.run(
+            self.words(command, *words), stdin=subprocess.DEVNULL, stdout=subprocess.PIPE, stderr=subprocess.PIPE, timeout=60
+        )
+        return ended.stdout.decode(), ended.stderr.decode(), ended.returncode
+
+    def test_a_command_as_an_operation(self):
+        words = ["--declaration", self.declaration, "--token-env", "TOKEN", "write", "--", "sh", "-c", "echo $TOKEN; exit 7"]
+        self.assertEqual(self.runs("exec", *words), ("0\n", "", 7))
+        self.assertEqual(self.runs("exec", "read", "--", "sh", "-c", "kill -TERM $$")[2], 128 + signal.SIGTERM)
+        lines = "1 start write: started 0\n1 finish 0: finished\n2 start read: started 1\n2 finish 1: finished\n"
+        self.assertEqual(self.runs("log"), (lines, "", 0))
+        self.assertEqual(self.runs("audit"), ("sound\n", "", 0))
+        self.assertEqual(self.runs("status"), ("startable read write\nfrozen no\n", "", 0))
+
+    def test_a_conflict(self):
+        paths = self.open(BOOK)
+        with paths("write"):
+            for options in (["--nonblock"], ["--timeout", "0.05"], ["--nonblock", "--conflict-status", "9"]):
+                told, why, status = self.runs("exec", *options, "read", "--", "echo", "hello")
+                self.assertEqual((told, status), ("", 9 if len(options) == 3 else 1))
+                self.assertRegex(why, "^wanzoche: read is blocked( for 0.05 seconds)?: .* in progress: write by process 1\n$")
+            self.assertEqual(self.runs("status")[0], "startable\nblocked read 0\nblocked write 0\nlive 0 1 write\nfrozen no\n")
+        self.assertEqual(self.runs("exec", "read", "--", "echo", "hello"), ("hello\n", "", 0))
+
+    def test_signals_are_handed_on(self):
+        ready = "trap 'echo caught; exit 3' TERM; echo ready; while :; do sleep 0.05; done"
+        words = self.words("exec", "--declaration", self.declaration, "write", "--", "sh", "-c", ready)
+        with subprocess.Popen(words, stdin=subprocess.DEVNULL, stdout=subprocess.PIPE) as process:
+            self.assertEqual(process.stdout.readline(), b"ready\n")
+            process.send_signal(signal.SIGTERM)
+            self.assertEqual((process.stdout.read(), process.wait(60)), (b"caught\n", 3))
+        self.assertEqual(self.open(BOOK).report().live, ())
+
+    def test_a_command_outlives_who_runs_it(self):
+        """Then its operation is in progress until it ends, too."""
+        words = self.words("exec", "--declaration", self.declaration, "write", "--", "sh", "-c", "echo ready; read line")
+        with subprocess.Popen(words, stdin=subprocess.PIPE, stdout=subprocess.PIPE) as process:
+            self.assertEqual(process.stdout.readline(), b"ready\n")
+            process.kill()
+            process.wait(60)
+            paths = self.open(BOOK)
+            self.assertIsNone(paths.try_enter("read"))
+            process.stdin.close()
+            process.stdout.read()  # until it has ended
+        paths.enter("read", timeout=20).leave()
+
+    def test_recovery(self):
+        def holds():
+            self.kept = Paths(BOOK, store=self.file).enter("write")
+
+        self.dies(holds)
+        self.assertIn("lost 0 1 write\n", self.runs("status")[0])
+        self.assertEqual(self.runs("recover", "1"), ("finished 1\n", "", 0))
+        self.assertNotIn("lost", self.runs("status")[0])
+        paths = self.open(BOOK)
+        with paths("read"):
+            worker = paths.worker.split()[-1]
+            self.assertEqual(self.runs("recover", worker), ("", "wanzoche: process {} is alive\n".format(worker), 1))
+
+    def test_watching(self):
+        paths = self.open(BOOK)
+        with subprocess.Popen(self.words("watch"), stdout=subprocess.PIPE) as process:
+            for _ in range(3):
+                paths.enter("write").leave()
+                self.assertIn(b"start write", process.stdout.readline())
+                self.assertIn(b"finished", process.stdout.readline())
+            process.send_signal(signal.SIGINT)
+            self.assertEqual(process.wait(60), 128 + signal.SIGINT)
+
+    def test_commands_that_cannot_be_run(self):
+        """As in a shell: 126 for a file that may not be run, 127 where none is found, whatever else stands in PATH."""
+        folder = os.path.join(self.folder, "commands")
+        os.makedirs(os.path.join(folder, "no-such-command"))  # to run a folder is refused, as to look into a closed one
+        with open(os.path.join(folder, "notes"), "w") as file:
+            file.write("not a program\n")
+        self.addCleanup(os.environ.__setitem__, "PATH", os.environ["PATH"])
+        os.environ["PATH"] = os.environ["PATH"] + os.pathsep + folder
+        exec_words = ("exec", "--declaration", self.declaration, "read", "--")
+        self.assertEqual(self.runs(*exec_words, "no-such-command")[1:], (
+            "wanzoche: no-such-command: No such file or directory\n", 127))  # fmt: skip
+        self.assertEqual(self.runs(*exec_words, "notes")[1:], ("wanzoche: notes: Permission denied\n", 126))
+
+    def test_operations(self):
+        """Of a declaration or of a store, which isn't opened for that: no number is given."""
+        words = [sys.executable, "-m", "wanzoche", "operations", "--declaration", self.declaration]
+        self.assertEqual(subprocess.run(words, stdout=subprocess.PIPE, timeout=60, check=True).stdout, b"read\nwrite\n")
+        self.assertEqual(os.listdir(self.folder), ["book.path"])
+        self.open(BOOK)
+        self.assertEqual(self.runs("operations"), ("read\nwrite\n", "", 0))
+        self.assertEqual(self.open(BOOK).worker, "process 2")
+        told = subprocess.run(words[:4], stderr=subprocess.PIPE, timeout=60)
+        self.assertEqual((told.stderr, told.returncode), (b"wanzoche: --store or --declaration is wanted\n", 1))
+        with open(self.declaration, "w") as file:
+            file.write("resource")
+        told = subprocess.run(words, stderr=subprocess.PIPE, timeout=60)
+        self.assertEqual((told.stderr[:33], told.returncode), (b"wanzoche: unexpected in line 1, c", 1))
+
+    def test_faults(self):
+        self.assertRegex(self.runs("status")[1], "^wanzoche: .*door.log.shared isn't there: `wanzoche exec` with --declaration makes a store\n$")
+        for command in ("status", "log", "audit", "watch"):  # a store that was misspelled isn't made by who only looks
+            self.assertEqual(self.runs(command, "--declaration", self.declaration)[2], 1)
+        for words in (["read"], ["read", "--"], ["steal", "--", "true"], ["--timeout", "soon", "read", "--", "true"], []):
+            self.assertEqual(self.runs("exec", "--declaration", self.declaration, *words)[::2], ("", 125))
+        self.assertEqual(sorted(os.listdir(self.folder)), ["book.path"])
+        self.assertEqual(self.runs("exec", "--declaration", self.declaration, "read", "--", "no-such-command")[2], 127)
+        self.assertEqual(self.runs("exec", "read", "--", self.folder)[2], 126)
+        self.assertEqual(self.runs("exec", "read", "--", os.path.join(self.folder, "no-such-command"))[2], 127)
+        self.assertEqual(self.runs("exec", "steal", "--", "true")[1:], (
+            "wanzoche: no operation 'steal' is declared; there are read, write\n", 125))  # fmt: skip
+        self.assertEqual(self.runs("exec", "read")[1:], ("wanzoche: there is no command behind --\n", 125))
+        with open(self.declaration, "w") as file:
+            file.write(SLOT)
+        self.assertEqual(self.runs("exec", "--declaration", self.declaration, "deposit", "--", "true")[2], 125)
+        self.assertRegex(self.runs("log", "--declaration", self.declaration)[1], "is of another declaration: ")
+        with open(self.file, "ab") as file:
+            file.write(b"9 start write: started 99\n")
+        told = "^wanzoche: .* in line [0-9]+: `9 start write: started 99`"
+        self.assertRegex(self.runs("audit")[1], told)
+        self.assertEqual([self.runs(command)[2] for command in ("audit", "status")], [5, 1])
+
+
+if __name__ == "__main__":
+    unittest.main()

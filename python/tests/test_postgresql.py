@@ -1,0 +1,851 @@
+"""One log in PostgreSQL and few processes: what is shared, what death leaves, what is refused, and what an outage does."""
+
+import asyncio
+import gc
+import os
+import signal
+import threading
+import time
+import unittest
+from unittest import mock
+
+import wanzoche
+from wanzoche import (
+    Closed,
+    CorruptStore,
+    DeclarationError,
+    Forked,
+    Lost,
+    OtherDeclaration,
+    Paths,
+    StoreError,
+    Timeout,
+    _clerk,
+    _log,
+    _postgresql,
+    _requests,
+    _served,
+)
+
+from .declarations import BOOK, LINE, SLOT
+from .interrupts import at_instruction, interrupt, no_longer_than
+from .servers import OnServer, Server, needs_server
+from .stores import THOROUGH
+
+
+class Cutting:
+    """A proxy before a server, which may hold connections up, cut them, or lose an answer."""
+
+    def __init__(self, port):
+        import socket
+
+        self._socket, self._port = socket, port
+        self._listens = socket.create_server(("127.0.0.1", 0), backlog=64)
+        self.port = self._listens.getsockname()[1]
+        self._ends = set()
+        self.loses_answer = threading.Event()
+        """The next bytes from the server are lost, and the connection is cut behind them."""
+        self.is_open = True
+        self._is_over = False
+        threading.Thread(target=self._serve, daemon=True).start()
+
+    def _serve(self):
+        while not self._is_over:
+            try:
+                client = self._listens.accept()[0]
+            except OSError:
+                return
+            if not self.is_open:
+                client.close()
+                continue
+            try:
+                there = self._socket.create_connection(("127.0.0.1", self._port))
+            except OSError:
+                client.close()
+                continue
+            self._ends |= {client, there}
+            threading.Thread(target=self._pump, args=(client, there, False), daemon=True).start()
+            threading.Thread(target=self._pump, args=(there, client, True), daemon=True).start()
+
+    def _pump(self, source, goal, is_answer):
+        try:
+            while True:
+                data = source.recv(65536)
+                if not data or is_answer and self.loses_answer.is_set():
+                    self.loses_answer.clear()
+                    break
+                goal.sendall(data)
+        except OSError:
+            pass
+        for end in (source, goal):
+            self._cut(end)
+        source.close()
+
+    def _cut(self, end):
+        try:
+            end.shutdown(self._socket.SHUT_RDWR)
+        except OSError:
+            pass
+
+    def cut(self):
+        """Cuts all connections."""
+        for end in list(self._ends):
+            self._cut(end)
+        self._ends.clear()
+
+    def close(self):
+        self._is_over = True
+        self._listens.close()
+        self.cut()
+
+
+@needs_server
+class Sharing(OnServer, unittest.TestCase):
+    def test_an_order_holds_over_all(self):
+        a, b = self.open(BOOK), self.open(BOOK)
+        with a("read") as first, b("read") as second:
+            self.assertEqual((first.token, second.token), (0, 1))
+            self.assertEqual((first.worker, second.worker), ("process 1", "process 2"))
+            told = "^write is blocked for 0.01 seconds: path 0 of book: .* in progress: read by process 1, read by process 2$"
+            for timeout in (0.01, 0):
+                with self.assertRaisesRegex(Timeout, told if timeout else "^write is blocked: path 0"):
+                    b.enter("write", timeout=timeout)
+            told = "^write is blocked: path 0 of book: .* in progress: read by process 1, read by process 2$"
+            self.assertRegex(str(b.why("write")), told)
+        with b("write") as third:
+            self.assertEqual(third.token, 2)
+            self.assertIsNone(a.try_enter("read"))
+            self.assertEqual(a.report().live, (wanzoche.Live(2, "process 2", "write"),))
+        self.assertEqual(a.journal(), b.journal())
+        self.assertEqual(a.journal().splitlines(), self.lines())
+        self.assertEqual(a.journal().count("\n"), 6)
+        self.assertTrue(a.audit() and a.audit(a.journal()))
+
+    def test_devices_are_shared(self):
+        a, b = self.open(LINE), self.open(LINE)
+        for number in (7, 8):
+            with a("put") as entry:
+                entry.put(number)
+        with b("get") as entry:
+            self.assertEqual((entry.look(), entry.take(), entry.look()), (7, 7, 8))
+            with self.assertRaisesRegex(wanzoche.UseRefused, "^add 3 in get: not offered: line is a queue 8, which has put, take and look$"):
+                entry.add(3)
+        self.assertTrue(b.audit())
+
+    def test_who_waits_is_woken(self):
+        """By a notification: nobody looks by itself so soon."""
+        with mock.patch.object(_clerk, "CHECK", 1000.0):
+            a, b = self.open(SLOT), self.open(SLOT)
+            got = []
+
+            def remove():
+                for _ in range(100):
+                    with b("remove", timeout=20):
+                        got.append(1)
+
+            thread = threading.Thread(target=remove)
+            thread.start()
+            for _ in range(100):
+                a.enter("deposit", timeout=20).leave()
+            thread.join(20)
+            self.assertEqual(len(got), 100)
+
+    def test_a_leave_wakes_one_of_each_operation(self):
+        """Eight wait to write; each leave wakes one process, and each of the others is woken by who came before it."""
+        with mock.patch.object(_clerk, "CHECK", 1000.0):
+            all_paths = [self.open(BOOK) for _ in range(9)]
+            woken = [0] * 9
+            threads = []
+            entry = all_paths[0].enter("write")
+            for number, paths in enumerate(all_paths[1:], 1):
+                session = paths._served._log.session
+                take, notices = session._take_notices, session.notices
+
+                def counts(number=number, take=take, notices=notices):
+                    take()
+                    woken[number] += len(notices)
+
+                session._take_notices = counts
+                threads.append(threading.Thread(target=lambda paths=paths: paths.enter("write", timeout=30).leave()))
+                threads[-1].start()
+                self.until(lambda: len(self.waiters()) == number)
+            entry.leave()
+            for thread in threads:
+                thread.join(30)
+            self.assertEqual(all_paths[0].journal().count("started"), 9)
+            self.assertEqual(woken[1:], [1] * 8)
+
+    def waiters(self):
+        told = "select worker from wanzoche.waiting join wanzoche.log using (log) where name = %s and since is not null"
+        return self.server.run(told, self.name)
+
+    def test_a_process_waits_once(self):
+        a, b = self.open(BOOK), self.open(BOOK)
+        entry = a.enter("write")
+        threads = [threading.Thread(target=lambda: b.enter("read", timeout=20).leave()) for _ in range(10)]
+        for thread in threads:
+            thread.start()
+        self.until(lambda: b.waiting() == {"read": 10} and len(self.waiters()) == 1)
+        calls = []
+        call = b._served._log.session.call
+        b._served._log.session.call = lambda *given: (calls.append(given[0][0].name), call(*given))[1]
+        entry.leave()
+        for thread in threads:
+            thread.join(20)
+        self.assertEqual(a.journal().count("started"), 11)
+        self.assertLess(len(calls), 12)  # several lines go in one append
+        self.assertEqual((b.waiting(), self.waiters()), ({}, []))
+
+    def test_an_attempt_that_meets_nobody_is_one_round_trip(self):
+        paths = self.open(BOOK)
+        calls = []
+        call = paths._served._log.session.call
+        paths._served._log.session.call = lambda *given: (calls.append(1), call(*given))[1]
+        for _ in range(5):
+            with paths("write"):
+                pass
+        self.assertEqual(len(calls), 10)
+
+    def test_what_is_refused_is_not_written(self):
+        a, b = self.open(BOOK), self.open(BOOK)
+        with a("write"):
+            self.assertIsNone(b.try_enter("read"))
+            with self.assertRaises(Timeout):
+                b.enter("read", timeout=0.05)
+        self.assertEqual(self.lines(), ["1 start write: started 0", "1 finish 0: finished"])
+
+    def test_tasks(self):
+        a, b = self.open(SLOT), self.open(SLOT, sync=False)
+
+        async def deposits():
+            for _ in range(30):
+                async with a.aio("deposit") as entry:
+                    self.assertEqual(entry.worker, "process 1")
+
+        async def removes():
+            for _ in range(30):
+                async with b.aio("remove", timeout=20):
+                    pass
+            with self.assertRaisesRegex(Timeout, "in progress: nothing of it"):
+                async with b.aio("remove", timeout=0.01):
+                    pass
+
+        async def both():
+            await asyncio.gather(deposits(), removes())
+
+        asyncio.run(both())
+        self.assertTrue(a.audit())
+
+    def test_tasks_that_are_cancelled(self):
+        """Whatever has started is finished, and nobody waits any more."""
+        paths = self.open(BOOK)
+
+        async def reads(steps):
+            tasks = [asyncio.ensure_future(self.read(paths)) for _ in range(3)]
+            for _ in range(steps):
+                await asyncio.sleep(0.0003)
+            for task in tasks:
+                task.cancel()
+            await asyncio.wait(tasks)
+
+        for steps in range(12):
+            asyncio.run(reads(steps))
+            self.assertEqual((paths.report().live, paths.waiting()), ((), {}))
+        self.assertTrue(paths.audit())
+
+    @staticmethod
+    async def read(paths):
+        async with paths.aio("read"):
+            await asyncio.sleep(0.001)
+
+    def test_what_was_stored_is_there_later(self):
+        with self.made(SLOT) as paths:
+            with paths("deposit") as entry:
+                entry.put(5)
+        again = self.open(SLOT)
+        self.assertEqual(again.worker, "process 2")
+        with again("remove") as entry:
+            self.assertEqual((entry.look(), entry.token), (5, 1))
+
+    def test_options_are_checked(self):
+        url = self.server.url
+        for options in ({"log": []}, {"journal": False}, {"room": 9}, {"lost": "maybe"}, {"grace": -1}, {"name": ""}, {"name": None}):
+            with self.assertRaises(ValueError, msg=options):
+                Paths(SLOT, store=url, **{"name": "none", **options})
+        with self.assertRaises(TypeError):
+            Paths(SLOT, store=url, name="none", sink=1)
+        with self.assertRaises(TypeError):
+            Paths(SLOT, name="none")
+        with self.assertRaises(DeclarationError):
+            Paths("resource", store=url, name="none")
+        with self.assertRaisesRegex(StoreError, "^this isn't a URL of PostgreSQL: "):
+            Paths(SLOT, store="postgresql://localhost/none?nonsense=1", name="none")
+        self.assertEqual(self.server.run("select count(*) from wanzoche.log where name = 'none'"), [(0,)])
+
+    def test_many_lines_are_read_in_parts(self):
+        with mock.patch.object(_log, "MOST", 20000):
+            a = self.open(BOOK)
+            a.enter("read").leave()
+            told = (
+                "insert into wanzoche.line (log, place, line, by) select log, 2 + x, '9 ' || case when x %% 2 = 0 then 'start read: started '"
+                " || (x / 2 + 1) else 'finish ' || (x / 2 + 1) || ': finished' end, 9 from wanzoche.log, generate_series(0, 49999) x where name = %s"
+            )
+            self.server.run(told, self.name)
+            b = self.open(BOOK)
+            with a("read") as first, b("read") as second:
+                self.assertEqual((first.token, second.token), (25001, 25002))
+            self.assertEqual(b.journal().count("\n"), 50006)
+            self.assertTrue(a.audit())
+
+
+@needs_server
+class Deaths(OnServer, unittest.TestCase):
+    def holds_a_write(self):
+        self.kept = self.made(BOOK).enter("write")
+
+    def test_what_the_dead_had_is_finished(self):
+        a = self.open(BOOK)
+        self.dies(self.holds_a_write)
+        begun = time.monotonic()
+        a.enter("read", timeout=20).leave()
+        self.assertGreater(time.monotonic() - begun, self.grace)
+        self.assertEqual(
+            self.lines(), ["2 start write: started 0", "2 finish 0: finished", "1 start read: started 1", "1 finish 1: finished"]
+        )
+        self.assertTrue(a.audit())
+
+    def test_the_living_are_not_taken_for_dead(self):
+        a, b = self.open(BOOK), self.open(BOOK)
+        with a("write"):
+            for _ in range(2):
+                with self.assertRaises(Timeout):
+                    b.enter("read", timeout=2 * self.grace)
+            self.assertEqual(b.report().lost, ())
+
+    def test_a_process_that_is_stopped_is_alive(self):
+        a = self.open(BOOK)
+        ready, going = os.pipe(), os.pipe()
+
+        def holds():
+            entry = self.made(BOOK).enter("write")
+            os.write(ready[1], b"x")
+            os.read(going[0], 1)
+            entry.leave()
+
+        child = self.child(holds)
+        os.read(ready[0], 1)
+        os.kill(child, signal.SIGSTOP)
+        with self.assertRaises(Timeout):
+            a.enter("read", timeout=3 * self.grace)
+        os.kill(child, signal.SIGCONT)
+        os.write(going[1], b"x")
+        a.enter("read", timeout=20).leave()
+        os.waitpid(child, 0)
+
+    def test_kept_and_recovered(self):
+        a = self.open(BOOK, lost="keep")
+        self.dies(self.holds_a_write)
+        with self.assertRaisesRegex(Timeout, "in progress: write by process 2$"):
+            a.enter("read", timeout=0.25)
+        self.until(lambda: a.report().lost)
+        (lost,) = a.report().lost
+        self.assertEqual((lost.worker, lost.operation), ("process 2", "write"))
+        self.assertEqual(a.recover(lost), 1)
+        self.assertEqual((a.recover("process 2"), a.recover(2)), (0, 0))
+        a.enter("read", timeout=0).leave()
+        self.assertTrue(a.audit())
+
+    def test_the_living_may_lose_what_they_have(self):
+        a, b = self.open(BOOK), self.open(BOOK)
+        entry, other = a.enter("write"), a("write")
+        for worker in (a.worker, 1):
+            with self.assertRaisesRegex(ValueError, "^process 1 is alive$"):
+                b.recover(worker)
+        self.assertEqual(b.recover(a.worker, even_alive=True), 1)
+        with b("read"):
+            with self.assertRaises(Lost):
+                entry.put(1)
+            with self.assertRaisesRegex(Lost, "^activation 0 was finished by others"):
+                entry.leave()
+        with self.assertRaises(wanzoche.NotInProgress):
+            entry.leave()
+        with other:
+            pass
+        with self.assertRaises(Lost):
+            with a("write"):
+                b.recover(a.worker, even_alive=True)
+        self.assertTrue(a.audit())
+
+    def test_a_child_of_a_fork_keeps_nothing_alive(self):
+        pids = os.pipe()
+
+        def forks():
+            self.holds_a_write()
+            child = os.fork()
+            if child == 0:
+                time.sleep(60)
+            os.write(pids[1], str(child).encode())
+
+        self.dies(forks)
+        self.open(BOOK).enter("read", timeout=20).leave()
+        os.kill(int(os.read(pids[0], 20)), signal.SIGKILL)
+
+    def test_a_child_of_a_fork_opens_its_own(self):
+        paths = self.open(BOOK)
+        entry = paths.enter("read")
+        child = os.fork()
+        if child == 0:
+            told = []
+            for call in (entry.leave, paths.report, paths.journal, lambda: paths.enter("read"), lambda: paths.recover(1)):
+                try:
+                    call()
+                except Forked:
+                    told.append(True)
+            paths.close()
+            with self.made(BOOK)("read") as own:
+                told.append(own.worker == "process 2")
+            os._exit(0 if told == [True] * 6 else 1)
+        self.assertEqual(os.waitpid(child, 0)[1], 0)
+        entry.leave()
+        self.assertEqual(paths.report().live, ())
+
+    def test_a_thread_that_drops_its_entry(self):
+        paths = self.open(BOOK)
+        with self.assertWarns(ResourceWarning):
+            thread = threading.Thread(target=lambda: paths.enter("write") and None)
+            thread.start()
+            thread.join(20)
+            gc.collect()
+        self.open(BOOK).enter("read", timeout=20).leave()
+
+    def test_closing_finishes(self):
+        paths, other = self.open(BOOK), self.open(BOOK)
+        entry = paths.enter("write")
+        paths.close()
+        other.enter("read", timeout=0).leave()
+        with self.assertRaises(Closed):
+            entry.leave()
+
+    def test_paths_that_are_collected_are_closed(self):
+        paths, other = self.made(BOOK), self.open(BOOK)
+        thread = paths._served.clerk.thread
+        del paths
+        gc.collect()
+        thread.join(20)
+        self.assertFalse(thread.is_alive())
+        self.assertEqual(
+            self.server.run("select is_over from wanzoche.worker join wanzoche.log using (log) where name = %s order by worker", self.name),
+            [(True,), (False,)],
+        )
+        self.assertTrue(other.audit())
+
+    def test_a_dead_one_that_waited_holds_nobody_up(self):
+        """Its place in the queue is passed over by the next leave."""
+        a, b = self.open(BOOK), self.open(BOOK)
+        entry = a.enter("write")
+        child = self.child(lambda: self.made(BOOK).enter("write"))
+        told = "select count(*) from wanzoche.waiting join wanzoche.log using (log) where name = %s and since is not null"
+        self.until(lambda: self.server.run(told, self.name) == [(1,)])
+        os.kill(child, signal.SIGKILL)
+        os.waitpid(child, 0)
+        with mock.patch.object(_clerk, "CHECK", 1000.0):
+            thread = threading.Thread(target=lambda: b.enter("write", timeout=20).leave())
+            thread.start()
+            self.until(lambda: self.server.run(told, self.name) == [(2,)])
+            time.sleep(0.3)  # until its session has ended
+            entry.leave()
+            thread.join(10)
+        self.assertFalse(thread.is_alive())
+
+
+@needs_server
+class Outages(OnServer, unittest.TestCase):
+    def setUp(self):
+        super().setUp()
+        self.proxy = Cutting(self.server.port)
+        self.addCleanup(self.proxy.close)
+        self.through = self.server.tcp_url(port=self.proxy.port)
+
+    def test_a_session_that_is_cut_comes_back(self):
+        a, b = self.open(BOOK, store=self.through), self.open(BOOK)
+        for _ in range(5):
+            with a("write") as entry:
+                self.proxy.cut()
+                with self.assertRaises(Timeout):
+                    b.enter("read", timeout=0.2)
+                self.assertEqual(entry.put(3), entry.look() and 3 if _ else 0)
+            self.proxy.cut()
+        self.assertEqual((a.worker, a.report().live), ("process 1", ()))
+        self.assertTrue(a.audit())
+
+    def test_a_session_that_the_server_ends(self):
+        a, b = self.open(BOOK), self.open(BOOK)
+        for number in range(5):
+            with a("write"):
+                self.end_sessions()
+                self.assertIsNone(b.try_enter("read"))
+            with b("read"):
+                self.end_sessions()
+        self.assertEqual((a.worker, b.worker), ("process 1", "process 2"))
+        self.assertTrue(a.audit())
+
+    def end_sessions(self):
+        self.server.run(
+            "select pg_terminate_backend(pid) from pg_stat_activity where application_name = 'wanzoche' and pid <> pg_backend_pid()"
+        )
+
+    def test_an_answer_that_is_lost_is_found_again(self):
+        a, b = self.open(LINE, store=self.through), self.open(LINE)
+        for number in range(4):
+            self.proxy.loses_answer.set()
+            entry = a.enter("put", timeout=20)
+            self.proxy.loses_answer.set()
+            self.assertEqual(entry.put(number), 1)
+            self.proxy.loses_answer.set()
+            entry.leave()
+            with b("get") as other:
+                self.assertEqual(other.take(), number)
+        self.assertEqual(b.journal().count("\n"), 24)
+        self.assertTrue(b.audit())
+
+    def test_several_lines_whose_answer_is_lost(self):
+        a = self.open(BOOK, store=self.through)
+        for _ in range(3):
+            self.proxy.cut()
+            entries = []
+            threads = [threading.Thread(target=lambda: entries.append(a.enter("read", timeout=20))) for _ in range(6)]
+            for thread in threads:
+                thread.start()
+            time.sleep(0.01)
+            self.proxy.loses_answer.set()
+            for thread in threads:
+                thread.join(20)
+            self.assertEqual(len(entries), 6)
+            for entry in entries:
+                entry.leave()
+        self.assertEqual(a.report().live, ())
+        self.assertTrue(a.audit())
+
+    def test_one_who_stays_away_has_lost(self):
+        a, b = self.open(BOOK, store=self.through), self.open(BOOK)
+        entry, left = a.enter("write"), a("write")
+        self.proxy.is_open = False
+        self.proxy.cut()
+        with b("write", timeout=20):  # when the grace is over
+            self.proxy.is_open = True
+            for call in (entry.look, entry.leave):
+                with self.assertRaisesRegex(Lost, "^activation 0 was finished by others"):
+                    call()
+            self.assertIsNone(a.try_enter("read"))
+        with left as again:
+            self.assertEqual((again.worker, again.token), ("process 3", 2))
+        self.assertTrue(a.audit())
+
+    def test_no_request_is_lost_when_a_session_is_cut(self):
+        """One that doesn't wait, while it is looked whether a dead worker is in its way; and questions behind one that is cut off."""
+        a, b = self.open(BOOK), self.open(BOOK)
+        clerk, cuts = b._served.clerk, [1, 1]
+        bury = clerk._bury_dead
+
+        def is_cut():
+            if cuts:
+                cuts.pop()
+                clerk.log.session.close()
+                raise _postgresql.Cut("as if")
+            return bury()
+
+        with a("write"):
+            with mock.patch.object(clerk, "_bury_dead", is_cut):
+                told = []
+                threads = [threading.Thread(target=lambda: told.append(b.try_enter("read"))) for _ in range(3)]
+                threads += [threading.Thread(target=lambda: told.append(b.why("read"))) for _ in range(3)]
+                for thread in threads:
+                    thread.start()
+                for thread in threads:
+                    thread.join(20)
+        self.assertEqual((len(told), told.count(None), cuts), (6, 3, []))
+
+    def test_a_server_that_is_away(self):
+        """Whoever asks is told after some time, and what is in progress stays so."""
+        a = self.open(BOOK, store=self.through, patience=0.5, grace=60)
+        entry = a.enter("write")
+        self.proxy.is_open = False
+        self.proxy.cut()
+        for call in (a.report, entry.leave, lambda: a.enter("write"), lambda: a.enter("read", timeout=0.1), entry.look):
+            with self.assertRaisesRegex(StoreError, "the server doesn't answer: "):
+                call()
+        self.proxy.is_open = True
+        self.until(lambda: a._served.clerk.away is None)
+        self.assertEqual(entry.look(), 0)
+        entry.leave()
+        self.assertEqual(a.report().live, ())
+        self.assertTrue(a.audit())
+
+    def test_a_close_while_the_server_is_away(self):
+        a, b = self.open(BOOK, store=self.through), self.open(BOOK, store=self.through)
+        entry = a.enter("write")
+        self.proxy.is_open = False
+        self.proxy.cut()
+        with self.assertRaisesRegex(StoreError, "the server doesn't answer: "):
+            a.close()
+        b.close()  # it has nothing to say
+        self.assertTrue(entry)
+        self.open(BOOK).enter("read", timeout=20).leave()
+
+    def test_a_worker_that_comes_back_ends_its_old_session(self):
+        """As when the network was cut and the server doesn't know yet."""
+        a = self.open(BOOK)
+        entry = a.enter("write")
+        session = a._served._log.session
+        kept = session._connection  # which stays open
+
+        def forgets(session):
+            session._connection, session._is_in_pipeline = None, False
+
+        with mock.patch.object(type(session), "close", forgets):
+            a._served.clerk.submit(_requests.Question(lambda: None, self.once(self.cuts)))
+            self.until(lambda: session._connection is not kept and session.fileno() >= 0 and a._served.clerk.away is None)
+        self.assertEqual(entry.look(), 0)
+        entry.leave()
+        self.assertEqual(a.worker, "process 1")
+        kept.finish()
+
+    @staticmethod
+    def cuts():
+        raise _postgresql.Cut("as if")
+
+    @staticmethod
+    def once(does):
+        """Asked again, it does nothing."""
+        left = [does]
+        return lambda: left and left.pop()()
+
+    def test_a_turn_that_is_held_too_long_is_taken_away(self):
+        a, b = self.open(BOOK), self.open(BOOK)
+        log = a._served._log
+
+        def stalls():
+            log.turn()
+            time.sleep(4)  # longer than the server lets it
+            log.end_turn()
+
+        question = _requests.Question(lambda: None, self.once(stalls))
+        a._served.clerk.submit(question)
+        time.sleep(0.2)
+        begun = time.monotonic()
+        b.enter("write", timeout=20).leave()
+        self.assertGreater(time.monotonic() - begun, 1)
+        a.enter("write", timeout=20).leave()
+        self.assertTrue(a.audit())
+
+
+@needs_server
+class Crashes(OnServer, unittest.TestCase):
+    """Of the server itself, which is another one for each test."""
+
+    def setUp(self):
+        super().setUp()
+        self.server = Server(wal_writer_delay="10s")
+        self.addCleanup(self.server.end)
+
+    def test_clients_go_on(self):
+        a, b = self.open(BOOK), self.open(BOOK)
+        with a("write") as entry:
+            self.server.kill()
+            self.server.start()
+            self.assertIsNone(b.try_enter("read"))
+            self.assertEqual(entry.put(3), 0)
+        waits = threading.Thread(target=lambda: b.enter("read", timeout=30).leave())
+        with a("write"):
+            waits.start()
+            self.until(lambda: b.waiting() == {"read": 1})
+            self.server.kill()
+            self.server.start()
+        waits.join(30)
+        self.assertFalse(waits.is_alive())
+        self.assertEqual((a.worker, b.worker), ("process 1", "process 2"))
+        self.assertTrue(a.audit())
+
+    def test_a_server_that_has_lost_its_last_second(self):
+        """Whoever waited for the disk has its lines; the others have lost what they had, and are told so."""
+        a, b = self.open(BOOK), self.open(BOOK, sync=False)
+        with a("read"):
+            pass
+        first = a.enter("read")
+        self.server.run("checkpoint")
+        entry = b.enter("read")
+        self.assertEqual(len(a.report().live), 2)  # a knows what will be gone
+        self.server.kill()
+        self.server.start()
+        with self.assertRaises(Lost):
+            entry.leave()
+        self.assertEqual([live.worker for live in a.report().live], ["process 1"])
+        with b("read") as again:
+            self.assertEqual(again.token, 2)  # so it is given again: see what is promised
+        first.leave()
+        self.assertEqual(a.report().live, ())
+        self.assertTrue(a.audit() and b.audit())
+
+    def test_what_was_answered_is_there(self):
+        a = self.open(BOOK)
+        entries = [a.enter("read") for _ in range(20)]
+        self.server.kill()
+        self.server.start()
+        self.assertEqual(len(self.open(BOOK, lost="keep").report().live), 20)
+        for entry in entries:
+            entry.leave()
+        self.assertTrue(a.audit())
+
+
+@needs_server
+class Refusals(OnServer, unittest.TestCase):
+    def refused(self, kind, told, text=BOOK):
+        with self.assertRaisesRegex(kind, told) as caught:
+            self.made(text)
+        return caught.exception
+
+    def forge(self, line, place):
+        told = "insert into wanzoche.line (log, place, line, by) select log, %s, %s, 9 from wanzoche.log where name = %s"
+        self.server.run(told, place, line, self.name)
+
+    def test_another_declaration(self):
+        self.open(BOOK)
+        told = "behind `book cell operation read,` it has `write path { read`, and this one `store path { read`$"
+        self.refused(OtherDeclaration, told, BOOK.replace("write", "store"))
+        with self.made(" ".join(BOOK.split())):
+            pass  # the same in another layout
+
+    def test_lines_that_are_not_owed(self):
+        cases = [
+            ("5 start write: started 1", 1, 1, "`5 start write: started 1`, where `blocked 0` is owed"),
+            ("5 start read: started 7", 1, 1, "`5 start read: started 7`, where `started 1` is owed"),
+            ("5 start steal: started 1", 1, 1, "`5 start steal: started 1`, where `undeclared` is owed"),
+            ("5 finish 0: finished", 1, 1, "`5 finish 0: finished`, where `not yours` is owed"),
+            ("hello", 1, 1, "`hello` isn't a line of a journal"),
+            ("+5 start read: started 1", 1, 1, "a line has a mark"),
+            ("5 start read: started 1\n5 finish 1: finished", 1, 3, "a line isn't one line"),
+            ("5 start read: started 1", 4, 1, "there is no line"),
+        ]
+        for line, place, wrong, why in cases:
+            with self.subTest(line):
+                self.name += "'"
+                a, b = self.open(BOOK), self.open(BOOK)
+                entry = a.enter("read")
+                b.report()
+                self.forge(line, place)
+                told = "^the log log .* at place {}: {}$".format(wrong, why.replace("`", "."))
+                for paths in (a, b):
+                    for call in (paths.report, paths.journal, lambda: paths.enter("read"), lambda: paths("read").__enter__()):
+                        with self.assertRaisesRegex(CorruptStore, told) as caught:
+                            call()
+                        self.assertEqual(caught.exception.line, wrong)
+                with self.assertRaises(CorruptStore):
+                    entry.leave()
+                self.refused(CorruptStore, told)
+                a.close()
+                b.close()
+
+    def test_a_forged_line_ends_a_wait(self):
+        a, b = self.open(BOOK), self.open(BOOK)
+        told = []
+
+        def waits():
+            try:
+                b.enter("write")
+            except CorruptStore as error:
+                told.append(error.line)
+
+        entry = a.enter("read")
+        thread = threading.Thread(target=waits)
+        thread.start()
+        self.until(lambda: b.waiting() == {"write": 1})
+        self.forge("hello", 1)
+        thread.join(20)
+        self.assertEqual(told, [1])
+        with self.assertRaises(CorruptStore):
+            entry.leave()
+
+    def test_a_second_finish_cannot_be_written(self):
+        a = self.open(BOOK)
+        a.enter("read").leave()
+        with self.assertRaisesRegex(Exception, "line_finishes"):
+            self.forge("1 finish 0: finished", 2)
+        self.assertTrue(a.audit())
+
+    def test_another_schema(self):
+        self.open(BOOK).close()
+        self.server.run("update wanzoche.schema set number = 7")
+        self.addCleanup(self.server.run, "update wanzoche.schema set number = 1")
+        self.refused(StoreError, "^the schema wanzoche is number 7, and this package has 1$")
+
+    def test_a_server_that_is_not_there(self):
+        with mock.patch.object(_served, "OPENING", 0.3):
+            with self.assertRaisesRegex(StoreError, "the server doesn't answer: .*refused"):
+                Paths(BOOK, store=self.server.tcp_url(port=1), name="x")
+
+    def test_a_role_without_rights(self):
+        self.server.run("create role guest login")
+        self.addCleanup(self.server.run, "drop role guest")
+        self.open(BOOK)
+        url = self.server.url.replace("postgres@", "guest@")
+        with self.assertRaisesRegex(StoreError, "the schema wanzoche can't be made or read: permission denied"):
+            Paths(BOOK, store=url, name="x")
+
+    def test_a_log_is_removed_when_nobody_has_it(self):
+        a = self.open(BOOK)
+        a.enter("read").leave()
+        self.assertEqual(self.server.run("select wanzoche.remove(%s)", self.name), [(False,)])
+        a.close()
+        self.until(lambda: self.server.run("select wanzoche.remove(%s)", self.name) == [(True,)])
+        self.assertEqual(self.lines(), [])
+        b = self.open(SLOT)
+        self.assertEqual((b.worker, b.journal()), ("process 1", ""))
+
+
+@needs_server
+@unittest.skipUnless(THOROUGH, "it takes long")
+class Interrupts(OnServer, unittest.TestCase):
+    """An exception before each instruction of the package, one after another."""
+
+    def each(self, call, stride=1):
+        guard = no_longer_than(300)
+        guard.__enter__()
+        self.addCleanup(guard.__exit__, None, None, None)
+        paths, other = self.open(BOOK, sync=False), self.open(BOOK, sync=False)
+        number, goes_on = 0, True
+        while goes_on:
+            goes_on = at_instruction(number, interrupt, lambda: call(paths))
+            gc.collect()
+            self.assertEqual((paths.report().live, paths.waiting()), ((), {}), number)
+            number += stride
+        other.enter("write", timeout=0).leave()
+        self.assertTrue(other.audit())
+        self.assertGreater(number, 200)
+
+    def test_with(self):
+        def call(paths):
+            with paths("write") as entry:
+                entry.put(7)
+
+        self.each(call, 17)
+
+    def test_a_time_limit(self):
+        def call(paths):
+            with paths("read"):
+                try:
+                    paths.enter("write", timeout=0.002).leave()
+                except Timeout:
+                    pass
+
+        self.each(call, 41)
+
+    def test_try_enter(self):
+        def call(paths):
+            entry = paths.try_enter("write")
+            entry.leave()
+
+        self.each(call, 17)
+
+
+if __name__ == "__main__":
+    unittest.main()

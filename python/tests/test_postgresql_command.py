@@ -1,0 +1,96 @@
+"""The command `wanzoche` over a log in PostgreSQL."""
+
+import os
+import signal
+import subprocess
+import sys
+import tempfile
+import unittest
+
+from .declarations import BOOK, SLOT
+from .servers import OnServer, needs_server
+
+
+@needs_server
+class Commands(OnServer, unittest.TestCase):
+    def setUp(self):
+        super().setUp()
+        folder = tempfile.TemporaryDirectory(prefix="wanzoche-")
+        self.addCleanup(folder.cleanup)
+        self.declaration = os.path.join(folder.name, "book.path")
+        with open(self.declaration, "w") as file:
+            file.write(BOOK)
+
+    def words(self, command, *words):
+        return [sys.executable, "-m", "wanzoche", command, "--store", self.server.url, "--name", self.name] + list(words)
+
+    def runs(self, command, *words):
+        """What it writes, what it writes on standard error, and its status."""
+        ended = subprocess.run(
+            self.words(command, *words), stdin=subprocess.DEVNULL, stdout=subprocess.PIPE, stderr=subprocess.PIPE, timeout=60
+        )
+        return ended.stdout.decode(), ended.stderr.decode(), ended.returncode
+
+    def test_a_command_as_an_operation(self):
+        words = ["--declaration", self.declaration, "--token-env", "TOKEN", "write", "--", "sh", "-c", "echo $TOKEN; exit 7"]
+        self.assertEqual(self.runs("exec", *words), ("0\n", "", 7))
+        self.assertEqual(self.runs("exec", "read", "--", "sh", "-c", "kill -TERM $$")[2], 128 + signal.SIGTERM)
+        lines = "1 start write: started 0\n1 finish 0: finished\n2 start read: started 1\n2 finish 1: finished\n"
+        self.assertEqual(self.runs("log"), (lines, "", 0))
+        self.assertEqual(self.runs("audit"), ("sound\n", "", 0))
+        self.assertEqual(self.runs("status"), ("startable read write\nfrozen no\n", "", 0))
+        paths = self.open(BOOK)
+        with paths("write"):
+            told, why, status = self.runs("exec", "--nonblock", "--conflict-status", "9", "read", "--", "echo", "hello")
+            self.assertEqual((told, status), ("", 9))
+            self.assertRegex(why, "^wanzoche: read is blocked( for .* seconds)?: .* in progress: write by process ")
+
+    def test_a_command_outlives_who_runs_it(self):
+        """Then its operation is in progress until it ends, too."""
+        words = self.words("exec", "--declaration", self.declaration, "write", "--", "sh", "-c", "echo ready; read line")
+        with subprocess.Popen(words, stdin=subprocess.PIPE, stdout=subprocess.PIPE) as process:
+            self.assertEqual(process.stdout.readline(), b"ready\n")
+            process.kill()
+            process.wait(60)
+            paths = self.open(BOOK)
+            with self.assertRaises(TimeoutError):
+                paths.enter("read", timeout=4 * self.grace)
+            process.stdin.close()
+            process.stdout.read()  # until it has ended
+        paths.enter("read", timeout=20).leave()
+
+    def test_recovery(self):
+        self.dies(lambda: setattr(self, "kept", self.made(BOOK).enter("write")))
+        paths = self.open(BOOK, lost="keep")
+        self.until(lambda: paths.report().lost)
+        self.until(lambda: self.runs("recover", "1") == ("finished 1\n", "", 0), 60)  # when the grace is over that the command gives
+        self.assertNotIn("lost", self.runs("status")[0])
+        with paths("read"):
+            worker = paths.worker.split()[-1]
+            self.assertEqual(self.runs("recover", worker), ("", "wanzoche: process {} is alive\n".format(worker), 1))
+
+    def test_watching(self):
+        paths = self.open(BOOK)
+        with subprocess.Popen(self.words("watch"), stdout=subprocess.PIPE) as process:
+            for _ in range(3):
+                paths.enter("write").leave()
+                self.assertIn(b"start write", process.stdout.readline())
+                self.assertIn(b"finished", process.stdout.readline())
+            process.send_signal(signal.SIGINT)
+            self.assertEqual(process.wait(60), 128 + signal.SIGINT)
+
+    def test_faults(self):
+        self.assertRegex(self.runs("status")[1], "^wanzoche: there is no log .*: `wanzoche exec` with --declaration makes one\n$")
+        words = [sys.executable, "-m", "wanzoche", "status", "--store", self.server.url]
+        ended = subprocess.run(words, stderr=subprocess.PIPE, timeout=60)
+        self.assertEqual(ended.stderr, b"wanzoche: --name is wanted for a store in PostgreSQL, and for no other\n")
+        self.assertEqual(self.runs("exec", "--declaration", self.declaration, "steal", "--", "true")[1:], (
+            "wanzoche: no operation 'steal' is declared; there are read, write\n", 125))  # fmt: skip
+        self.assertEqual(self.runs("exec", "--declaration", self.declaration, "read", "--", "true")[2], 0)
+        with open(self.declaration, "w") as file:
+            file.write(SLOT)
+        self.assertRegex(self.runs("log", "--declaration", self.declaration)[1], "is of another declaration: ")
+
+
+if __name__ == "__main__":
+    unittest.main()

@@ -1,0 +1,420 @@
+"""Many processes over one log in PostgreSQL, which are killed, cut off, or see their server die: nothing is lost, and nobody is stuck.
+
+The witness is a file that each body locks without waiting: it knows nothing of the paths. A writer also adds 1 to a number, in two steps.
+Each process notes what it entered and left. WANZOCHE_ROUNDS makes more rounds, and WANZOCHE_SEED repeats one.
+"""
+
+import faulthandler
+import fcntl
+import os
+import random
+import re
+import signal
+import sys
+import tempfile
+import threading
+import time
+import unittest
+import warnings
+from unittest import mock
+
+import wanzoche
+from wanzoche import Lost, Paths, Timeout, _clerk, _log, _postgresql
+
+from .declarations import BOOK, LINE, SLOT
+from .servers import Server, needs_server, new_name, the_server
+from .stores import THOROUGH
+from .test_postgresql import Cutting
+
+ROUNDS = int(os.environ.get("WANZOCHE_ROUNDS", "1"))
+SHARED = {"read"}
+PATIENCE = 60
+BUFFER = LINE.replace("path put end\npath get end", "path put , get end")
+"""A buffer at which one works at a time."""
+
+
+class Round:
+    """So many processes with so many entries each, of which some are killed, and something that disturbs them."""
+
+    def __init__(self, text, processes, entries, *, server, kills=0.0, disturb=None, url=None, grace=1.0, patience=PATIENCE, sync=True):
+        self.text, self.processes, self.entries = text, processes, entries if THOROUGH else entries // 2
+        self.server, self.kills, self.disturb, self.grace, self.patience = server, kills, disturb, grace, patience
+        self.url, self.sync = url or server.url, sync
+        self.name = new_name()
+        self.seed = int(os.environ.get("WANZOCHE_SEED") or random.randrange(1 << 32))
+        self.chance = random.Random(self.seed)
+        self.alive, self.killed, self.begun, self.lost, self.wrong = {}, 0, 0, 0, []
+
+    def open(self, url=None):
+        return Paths(self.text, store=url or self.url, name=self.name, grace=self.grace, patience=60, sync=self.sync)
+
+    def run(self):
+        """What was wrong."""
+        with tempfile.TemporaryDirectory(prefix="wanzoche-") as self.folder:
+            self.open(self.server.url).close()
+            for _ in range(self.processes):
+                self.begin(self.entries)
+            over = threading.Event()
+            beside = threading.Thread(target=self.disturb, args=(over, self.chance, self.noted)) if self.disturb else None
+            if beside:
+                beside.start()
+            try:
+                self.wait()
+            finally:
+                over.set()
+                if beside:
+                    beside.join()
+            try:
+                self.judge()
+            except wanzoche.StoreError as error:
+                self.wrong.append(str(error))
+        return self.wrong and ["seed {}".format(self.seed)] + self.wrong
+
+    def begin(self, entries):
+        sys.stdout.flush()
+        child = os.fork()
+        if child == 0:
+            try:
+                Worker(self, self.begun).run(entries)
+                os._exit(0)
+            except BaseException as error:
+                with open("{}/wrong.{}".format(self.folder, self.begun), "w") as file:
+                    file.write("{}: {}".format(type(error).__name__, error))
+            finally:
+                os._exit(1)
+        self.alive[child] = self.begun
+        self.begun += 1
+
+    def wait(self):
+        """Until all have ended. Kills some, for each of which another takes its place."""
+        moved, size = time.monotonic(), 0
+        while self.alive:
+            child, status = os.waitpid(-1, os.WNOHANG)
+            if child in self.alive:
+                del self.alive[child]
+                if os.WIFSIGNALED(status):
+                    self.killed += 1
+                    if self.killed <= 3 * self.processes:
+                        self.begin(self.entries // 2)
+                continue
+            if self.kills and self.chance.random() < self.kills and self.killed < 3 * self.processes:
+                os.kill(self.chance.choice(sorted(self.alive)), signal.SIGKILL)
+            now = self.noted()
+            moved, size = (time.monotonic(), now) if now != size else (moved, size)
+            if time.monotonic() - moved > self.patience:
+                self.wrong.append("stuck: {}".format(sorted(self.alive.values())))
+                self.ask_where()
+                self.end_all()
+            time.sleep(0.005)
+
+    def ask_where(self):
+        """Where those are that are stuck."""
+        for child in self.alive:
+            os.kill(child, signal.SIGUSR1)
+        time.sleep(1)
+        for name in os.listdir(self.folder):
+            if name.startswith("where."):
+                with open(os.path.join(self.folder, name)) as file:
+                    self.wrong.append(file.read())
+
+    def noted(self):
+        """How much was noted so far."""
+        return sum(entry.stat().st_size for entry in os.scandir(self.folder) if entry.name.startswith("notes."))
+
+    def end_all(self):
+        for child in list(self.alive):
+            os.kill(child, signal.SIGKILL)
+            os.waitpid(child, 0)
+        self.alive.clear()
+
+    def judge(self):
+        """Compares the log with what each has noted."""
+        with self.open(self.server.url) as paths:
+            until = time.monotonic() + 3 * self.grace + 5
+            while paths.report().live and time.monotonic() < until:
+                time.sleep(0.1)
+            live, journal, verdict = paths.report().live, paths.journal(), paths.audit()
+        if live or not verdict:
+            self.wrong.append("live: {}; {}".format(live, verdict))
+        starts = {number: name for name, number in re.findall(r"^\d+ start (\w+): started (\d+)$", journal, re.M)}
+        finishes = re.findall(r"^\d+ finish (\d+): finished$", journal, re.M)
+        if len(set(finishes)) != len(finishes) or set(finishes) != set(starts):
+            self.wrong.append("starts and finishes aren't the same")
+        alone = 0
+        for name in os.listdir(self.folder):
+            with open(os.path.join(self.folder, name), errors="replace") as file:
+                if name.startswith("wrong."):
+                    self.wrong.append(file.read())
+                elif name.startswith("notes."):
+                    alone += self.compare(file, starts, set(finishes))
+        total = 0
+        if os.path.exists(self.folder + "/total"):
+            with open(self.folder + "/total") as file:
+                total = int(file.read() or 0)
+        if not alone <= total <= alone + self.killed:
+            self.wrong.append("{} bodies were alone, and the number is {}".format(alone, total))
+
+    def compare(self, notes, starts, finishes):
+        alone = 0
+        for line in notes:
+            word, *rest = line.split()
+            if word == "breach" or word == "entered" and starts.get(rest[0]) != rest[1] or word == "left" and rest[0] not in finishes:
+                self.wrong.append(line.strip())
+            alone += word == "body" and rest[1] not in SHARED
+            self.lost += word == "lost"
+        return alone
+
+
+class Worker:
+    """One process of a round."""
+
+    def __init__(self, round, number):
+        self.round = round
+        self.witness = os.open(round.folder + "/witness", os.O_RDWR | os.O_CREAT)
+        self.total = os.open(round.folder + "/total", os.O_RDWR | os.O_CREAT)
+        self.notes = os.open("{}/notes.{}".format(round.folder, number), os.O_WRONLY | os.O_CREAT | os.O_APPEND)
+        random.seed(round.seed * 1000 + number)
+        self.where = open("{}/where.{}".format(round.folder, number), "w")
+        faulthandler.register(signal.SIGUSR1, self.where)
+        warnings.simplefilter("ignore", ResourceWarning)
+
+    def note(self, *words):
+        os.write(self.notes, (" ".join(map(str, words)) + "\n").encode())
+
+    def opened(self):
+        until = time.monotonic() + 60
+        while True:
+            try:
+                return self.round.open()
+            except wanzoche.CorruptStore:
+                raise
+            except wanzoche.StoreError:
+                if time.monotonic() > until:
+                    raise
+                time.sleep(0.1)  # the server is away
+
+    def run(self, entries):
+        paths = self.opened()
+        if self.round.kills:
+            self.dies_around(_postgresql.Session, "call")
+        is_book = self.round.text == BOOK
+        for each in range(entries):
+            operation = random.choice(paths.operations) if is_book else paths.operations[each % 2]
+            try:
+                entry = paths.enter(operation, timeout=60 if is_book else 0.3)
+            except Timeout:
+                if is_book:
+                    raise
+                self.note("late")
+                continue  # the partners may be dead
+            except wanzoche.StoreError as error:
+                if is_book or isinstance(error, wanzoche.CorruptStore):
+                    raise
+                self.note("away")
+                continue  # the time was over while the server couldn't be reached
+            token = entry.token
+            self.note("entered", token, operation)
+            self.body(operation, token)
+            try:
+                entry.leave()
+                self.note("left", token)
+            except Lost:
+                self.note("lost", token)
+        paths.close()
+
+    def dies_around(self, of, name, chance=0.002):
+        """Sometimes this process is killed just before or behind a call."""
+        call = getattr(of, name)
+
+        def dying(*given):
+            if random.random() < chance:
+                os.kill(os.getpid(), signal.SIGKILL)
+            found = call(*given)
+            if random.random() < chance:
+                os.kill(os.getpid(), signal.SIGKILL)
+            return found
+
+        setattr(of, name, dying)
+
+    def body(self, operation, token):
+        try:
+            fcntl.lockf(self.witness, (fcntl.LOCK_SH if operation in SHARED else fcntl.LOCK_EX) | fcntl.LOCK_NB)
+        except OSError:
+            self.note("breach", token)
+        if operation not in SHARED:
+            before = int(os.pread(self.total, 20, 0) or b"0")
+            if random.random() < 0.3:
+                time.sleep(random.random() * 0.002)
+            os.pwrite(self.total, b"%020d" % (before + 1), 0)
+        fcntl.lockf(self.witness, fcntl.LOCK_UN)
+        self.note("body", token, operation)
+
+
+def restarts(server, count):
+    """Kills the server and starts it again, so often."""
+
+    def disturb(over, chance, noted):
+        for _ in range(count):
+            if over.wait(0.5 + chance.random()):
+                return
+            server.kill()
+            time.sleep(chance.random() * 0.3)
+            server.start()
+
+    return disturb
+
+
+def waits_for_progress(over, noted):
+    """Until somebody has got on, but for no longer than some seconds: a busy machine needs them to connect again."""
+    before, until = noted(), time.monotonic() + 10
+    while noted() == before and time.monotonic() < until:
+        if over.wait(0.01):
+            break
+
+
+def ends_sessions(server, pause):
+    """The server ends sessions, one after another."""
+    told = (
+        "select pg_terminate_backend(pid) from (select pid from pg_stat_activity where application_name = 'wanzoche' "
+        "order by random() limit 1) x"
+    )
+
+    def disturb(over, chance, noted):
+        while not over.wait(pause * chance.random()):
+            server.run(told)
+            waits_for_progress(over, noted)
+
+    return disturb
+
+
+def cuts(proxy, pause):
+    """The network cuts all connections now and then, or loses an answer."""
+
+    def disturb(over, chance, noted):
+        while not over.wait(pause * chance.random()):
+            waits_for_progress(over, noted)
+            if chance.random() < 0.2:
+                proxy.cut()
+            else:
+                proxy.loses_answer.set()
+
+    return disturb
+
+
+@needs_server
+class Many(unittest.TestCase):
+    def rounds(self, *given, **named):
+        killed = 0
+        for _ in range(ROUNDS):
+            round = Round(*given, **{"server": the_server(), **named})
+            wrong = round.run()
+            self.assertEqual(wrong, [], wrong)
+            self.assertEqual(round.lost, 0)
+            killed += round.killed
+        if named.get("kills"):
+            print("{} processes were killed".format(killed), file=sys.stderr)
+
+    def test_a_book(self):
+        self.rounds(BOOK, 8, 40)
+
+    def test_a_slot(self):
+        self.rounds(SLOT, 4, 60)
+
+    def test_a_buffer(self):
+        self.rounds(BUFFER, 6, 40)
+
+    def test_a_book_with_deaths(self):
+        self.rounds(BOOK, 6, 60, kills=0.01)
+
+    def test_a_slot_with_deaths(self):
+        self.rounds(SLOT, 6, 60, kills=0.01)
+
+    def test_a_buffer_with_deaths(self):
+        self.rounds(BUFFER, 6, 60, kills=0.01)
+
+    def test_sessions_that_the_server_ends(self):
+        self.rounds(BOOK, 6, 60, disturb=ends_sessions(the_server(), 0.05), grace=5.0)
+
+    def test_connections_that_are_cut(self):
+        proxy = Cutting(the_server().port)
+        self.addCleanup(proxy.close)
+        url = the_server().tcp_url(port=proxy.port)
+        for text in (BOOK, BUFFER):
+            self.rounds(text, 4, 60, disturb=cuts(proxy, 0.3), url=url, grace=5.0)
+
+    def test_a_server_that_dies(self):
+        server = Server(wal_writer_delay="10s")
+        self.addCleanup(server.end)
+        self.rounds(BOOK, 6, 100, server=server, disturb=restarts(server, 3), grace=10.0)
+
+
+@needs_server
+@unittest.skipUnless(os.environ.get("WANZOCHE_WRONG"), "WANZOCHE_WRONG=yes tries wrong stores, by hand")
+class WrongStores(unittest.TestCase):
+    """One thing is changed in each, and a round has to find it."""
+
+    def setUp(self):
+        self.server = Server()
+        self.addCleanup(self.server.end)
+        Paths(BOOK, store=self.server.url, name="first").close()
+        self.proxy = Cutting(self.server.port)
+        self.addCleanup(self.proxy.close)
+        self.cutting = {"disturb": cuts(self.proxy, 0.2), "url": self.server.tcp_url(port=self.proxy.port), "grace": 5.0}
+
+    def found(self, *patches, sql="", text=BOOK, **named):
+        """Changes the package, or what the server has of it."""
+        if sql:
+            self.server.run(sql)
+        for patch in patches:
+            patch.start()
+            self.addCleanup(patch.stop)
+        for _ in range(5):
+            round = Round(text, 6, 60, server=self.server, **{"patience": 10, **named})
+            wrong = round.run()
+            if wrong or round.lost:
+                print("{}: {}".format(self.id().rsplit(".")[-1], (wrong or ["lost {}".format(round.lost)])[:3]), file=sys.stderr)
+                return
+        self.fail("nothing was noticed")
+
+    def test_a_right_one_passes(self):
+        for named in ({}, self.cutting, {"kills": 0.05}):
+            with self.assertRaisesRegex(AssertionError, "nothing was noticed"):
+                self.found(**named)
+
+    def test_it_takes_the_living_for_dead(self):
+        dead = "create or replace function wanzoche.dead(l int, workers int[], grace interval) returns setof int language sql as "
+        self.found(sql=dead + "$$ select unnest(workers) $$")
+
+    def test_it_appends_without_the_place(self):
+        put = _log.PUT.replace("$3::bigint, $5", "coalesce((select max(place) + 1 from wanzoche.line where log = $1::int), 0), $5")
+        patched = {name: text.replace(_log.PUT, put) for name, text in _log.STATEMENTS.items()}
+        self.found(mock.patch.dict(_log.STATEMENTS, patched))
+
+    def test_it_has_no_unique_finish(self):
+        told = self.server.run("select pg_get_functiondef('wanzoche.put_finishes'::regproc)")[0][0]
+        wrong = re.sub(r"\n\s+on conflict .* do nothing", "", told)
+        self.assertNotEqual(told, wrong)
+        self.found(sql="drop index wanzoche.line_finishes; " + wrong, **self.cutting)
+
+    def test_it_has_no_grace(self):
+        told = self.server.run("select pg_get_functiondef('wanzoche.dead'::regproc)")[0][0]
+        wrong = told.replace("x.gone + grace <= clock_timestamp()", "true")
+        self.assertNotEqual(told, wrong)
+        self.found(sql=wrong, **self.cutting)
+
+    def test_it_never_finishes_for_the_dead(self):
+        self.found(mock.patch.object(_clerk.Clerk, "_bury_dead", lambda self: False), kills=0.05, patience=8)
+
+    def test_it_answers_before_the_line_lasts(self):
+        self.server = Server(wal_writer_delay="10s")
+        self.addCleanup(self.server.end)
+        patched = {b"lasts": "select set_config('synchronous_commit', $1, true), pg_current_xact_id()"}
+        self.found(mock.patch.dict(_log.STATEMENTS, patched), disturb=restarts(self.server, 3), grace=10.0)
+
+    def test_it_wakes_nobody(self):
+        wake = "create or replace function wanzoche.wake(l int, w int, operations int[]) returns void language sql as $$ $$"
+        self.found(mock.patch.object(_clerk, "CHECK", 1000.0), sql=wake, patience=8)
+
+
+if __name__ == "__main__":
+    unittest.main()

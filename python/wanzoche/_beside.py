@@ -1,0 +1,207 @@
+"""The file beside a store's journal, by which the processes of one machine take turns, see who is alive, and wake each other.
+
+Turns and presence are locks on bytes far behind its end, which the kernel gives back when a process dies, however that comes. They are
+locks of the open file (`F_OFD_SETLK`), so no other use of the file in the process drops them. The first page is mapped: it has the word
+that those wait on who wait for a turn (a futex), and numbers that all share. The declaration stands behind it.
+"""
+
+from __future__ import annotations
+
+import ctypes
+import errno
+import fcntl
+import mmap
+import os
+import platform
+import struct
+import time
+from ctypes import c_uint8, c_uint32, c_uint64
+from typing import Any
+
+from ._errors import StoreError
+
+VERSION = 1
+"""Of this file's form. A package refuses a store of another one."""
+
+_MAGIC = b"wanzoche"
+_HEAD = struct.Struct("=8sII")  # the magic, the version, and the length of the declaration
+PAGE = 4096
+_OFD_GETLK, _OFD_SETLK, _OFD_SETLKW = 36, 37, 38
+_FLOCK = "hhqqi4x"  # struct flock on Linux with 64 bits
+_TURN, _SYNC, _WORKERS = 1 << 40, (1 << 40) + 1, 1 << 41
+
+
+def _asked(kind: int, place: int, length: int = 1) -> bytes:
+    """What `fcntl` is told of the lock on a byte, or on all from there on with the length 0."""
+    return struct.pack(_FLOCK, kind, os.SEEK_SET, place, length, 0)
+
+
+_LOCK_TURN, _UNLOCK_TURN = _asked(fcntl.F_WRLCK, _TURN), _asked(fcntl.F_UNLCK, _TURN)
+_LOCK_SYNC, _UNLOCK_SYNC = _asked(fcntl.F_WRLCK, _SYNC), _asked(fcntl.F_UNLCK, _SYNC)
+
+# FUTEX_WAIT_BITSET, whose time is a point of the monotonic clock, and FUTEX_WAKE_BITSET.
+_FUTEX = {"x86_64": 202, "aarch64": 98}.get(platform.machine())
+_WAIT, _WAKE = 9, 10
+_libc: Any = ctypes.CDLL(None, use_errno=True)
+
+
+def _has_futex() -> bool:
+    """Whether this machine lets a process wake others by a word in a mapped page."""
+    if _FUTEX is None or os.environ.get("WANZOCHE_FUTEX") == "none":
+        return False
+    word = c_uint32()
+    return bool(_libc.syscall(_FUTEX, ctypes.byref(word), _WAKE, 1, None, None, c_uint32(1)) == 0)
+
+
+class Beside:
+    """What one opening of a store has of the file."""
+
+    def __init__(self, path: str) -> None:
+        self.fd = os.open(path, os.O_RDWR | os.O_CLOEXEC)
+        """The file with the locks; a child of a fork that keeps it keeps the presence, too."""
+        try:
+            self.page = self._mapped(path)
+        except BaseException:
+            os.close(self.fd)
+            raise
+        self._word = c_uint32.from_buffer(self.page, 16)
+        self.rotating = c_uint32.from_buffer(self.page, 20)
+        """1 while somebody moves the journal away; it stays so if that one dies in between."""
+        self.inode = c_uint64.from_buffer(self.page, 24)
+        """Which file the journal is."""
+        self.workers = c_uint64.from_buffer(self.page, 32)
+        """The last worker's number that was given."""
+        self.end = c_uint64.from_buffer(self.page, 40)
+        """How many bytes of the journal are whole lines, of all its files together."""
+        self.synced = c_uint64.from_buffer(self.page, 48)
+        """How many of them are known to be on the disk."""
+        self.segment = c_uint64.from_buffer(self.page, 56)
+        """How many files of the journal were moved away."""
+        self.waiting = (c_uint32 * 256).from_buffer(self.page, 64)
+        """In how many processes somebody waits, for each operation. Of those that were killed some may be left."""
+        self.woken = (c_uint8 * 256).from_buffer(self.page, 64 + 1024)
+        """1 for each operation of which one was woken that hasn't asked yet; so nobody else has to be. It stays so if that one dies, until
+        another one that waits asks."""
+        self.at = ctypes.addressof(self._word) - 16
+        """Where the page lies, as long as there is `page`."""
+        self._at = ctypes.byref(self._word)
+        self.has_futex = _has_futex()
+        """Whether others are woken by the page's word."""
+
+    def _mapped(self, path: str) -> mmap.mmap:
+        head = os.pread(self.fd, _HEAD.size, 0)
+        magic, version, self._length = _HEAD.unpack(head.ljust(_HEAD.size, b"\0"))
+        if magic != _MAGIC:
+            raise StoreError("{} isn't the file that a store has beside its journal".format(path))
+        if version != VERSION:
+            raise StoreError("{} is of version {}, and this package has {}".format(path, version, VERSION))
+        mapped = os.open(path, os.O_RDWR | os.O_CLOEXEC)  # a mapping keeps its descriptor, and a child of a fork would keep the locks of it
+        try:
+            return mmap.mmap(mapped, PAGE)
+        finally:
+            os.close(mapped)
+
+    def declaration(self) -> str:
+        """The declaration of the store."""
+        return os.pread(self.fd, self._length, PAGE).decode("ascii", "replace")
+
+    def close(self) -> None:
+        """Gives all locks back. The page goes when nobody looks at it any more."""
+        fd, self.fd = self.fd, -1
+        if fd >= 0:
+            os.close(fd)
+
+    # Turns
+
+    def take_turn(self) -> None:
+        """Waits until no other process has the turn."""
+        fcntl.fcntl(self.fd, _OFD_SETLKW, _LOCK_TURN)
+
+    def give_turn(self) -> None:
+        """Lets the next process have the turn."""
+        fcntl.fcntl(self.fd, _OFD_SETLK, _UNLOCK_TURN)
+
+    def take_sync(self) -> None:
+        """Waits until no other process syncs."""
+        fcntl.fcntl(self.fd, _OFD_SETLKW, _LOCK_SYNC)
+
+    def give_sync(self) -> None:
+        """Lets the next process sync."""
+        fcntl.fcntl(self.fd, _OFD_SETLK, _UNLOCK_SYNC)
+
+    # Presence
+
+    def arrive(self, worker: int) -> None:
+        """From now on this worker is alive, until this opening is closed or the process dies."""
+        fcntl.fcntl(self.fd, _OFD_SETLK, _asked(fcntl.F_WRLCK, _WORKERS + worker))
+
+    def is_gone(self, worker: int) -> bool:
+        """Whether another's worker has ended or died."""
+        return self._is_free(_asked(fcntl.F_WRLCK, _WORKERS + worker))
+
+    def has_others(self) -> bool:
+        """Whether any other's worker is alive."""
+        return not self._is_free(_asked(fcntl.F_WRLCK, _WORKERS, 0))
+
+    def _is_free(self, asked: bytes) -> bool:
+        return bool(struct.unpack(_FLOCK, fcntl.fcntl(self.fd, _OFD_GETLK, asked))[0] == fcntl.F_UNLCK)
+
+    # Waking
+
+    def change(self) -> None:
+        """In one's turn, before others are woken: who has looked before looks again before it sleeps."""
+        self._word.value = (self._word.value + 1) & 0xFFFFFFFF
+
+    def seen(self) -> int:
+        """In one's turn: what to wait on."""
+        return int(self._word.value)
+
+    def wake(self, op: int, most: int) -> None:
+        """Wakes so many that wait for the operation, longest first; those too that wait for another with the same bit."""
+        if self.has_futex:
+            _libc.syscall(_FUTEX, self._at, _WAKE, most, None, None, c_uint32(1 << op % 32))
+
+    def sleep(self, op: int, seen: int, seconds: float) -> bool:
+        """Waits until it is woken, or so many seconds: then False. Not at all if the word isn't what was seen."""
+        if not self.has_futex:
+            return self._doze(seen, seconds)
+        until = time.monotonic() + seconds
+        limit = (ctypes.c_int64 * 2)(int(until), int(until % 1 * 1e9))
+        said = _libc.syscall(_FUTEX, self._at, _WAIT, c_uint32(seen), limit, None, c_uint32(1 << op % 32))
+        return not (said == -1 and ctypes.get_errno() == errno.ETIMEDOUT)
+
+    def _doze(self, seen: int, seconds: float) -> bool:
+        """The same where there is no futex: looks again and again, ever more rarely."""
+        until, pause = time.monotonic() + seconds, 0.0002
+        while self._word.value == seen:
+            if time.monotonic() >= until:
+                return False
+            time.sleep(pause)
+            pause = min(pause * 2, 0.005)
+        return True
+
+
+def make(path: str, declaration: str) -> None:
+    """Makes the file, whole or not at all. One that is there is left as it is."""
+    text = declaration.encode("ascii")
+    part = "{}.{}.{}".format(path, os.getpid(), time.monotonic_ns())
+    fd = os.open(part, os.O_WRONLY | os.O_CREAT | os.O_EXCL | os.O_CLOEXEC, 0o666)
+    try:
+        os.write(fd, _HEAD.pack(_MAGIC, VERSION, len(text)).ljust(PAGE, b"\0") + text)
+        os.fsync(fd)
+        os.link(part, path)
+    except FileExistsError:
+        pass
+    finally:
+        os.close(fd)
+        os.unlink(part)
+    sync_folder(path)
+
+
+def sync_folder(path: str) -> None:
+    """Syncs the folder of a file, so that the file is found there after a crash."""
+    fd = os.open(os.path.dirname(path) or ".", os.O_RDONLY | os.O_CLOEXEC)
+    try:
+        os.fsync(fd)
+    finally:
+        os.close(fd)

@@ -1,0 +1,703 @@
+"""The thread that does all that one process wants of a log at a server.
+
+Threads and tasks hand it requests, and wait for their replies. So it alone uses the session and the replica, an interrupt of a thread can
+cut nothing in two, and what several want at once goes in one append.
+"""
+
+from __future__ import annotations
+
+import random
+import select
+import threading
+import time
+from collections import deque
+from typing import Callable, Deque, Dict, List, Optional, Sequence, Set, Tuple
+
+from . import _native as native
+from ._errors import Closed, StoreError
+from ._log import Gone, Log, Wishes
+from ._postgresql import Cut
+from ._requests import Batch, Bell, Finish, Held, Nobody, Question, Request, Start, Use, wake_nobody
+from ._texts import Path
+
+CHECK = 1.0
+"""After so many seconds who waits looks for dead workers, and for a wake that somebody owed who died."""
+TOGETHER = 64
+"""At most so many lines go in one append."""
+BEATEN = 2
+"""After so many appends that came too late the next one is made in a turn."""
+CONNECTING = 10.0
+"""So many seconds one attempt to connect may take."""
+LATE = 1.0
+"""So many seconds a close tries to reach a server that is away."""
+
+_VERBS = {native.PUT: b"put %d", native.TAKE: b"take", native.LOOK: b"look", native.ADD: b"add %d"}
+
+
+class Clerk:
+    """Works until it is told to end, or until a line of the log isn't owed."""
+
+    def __init__(self, log: Log, paths: Sequence[Path], numbers: Dict[str, int], finishes_lost: bool, patience: float) -> None:
+        self.log = log
+        self.held: Dict[int, Held] = {}
+        self.fault: Optional[BaseException] = None
+        self.away: Optional[StoreError] = None
+        """Why the server can't be reached; None while it can."""
+        self.is_over = False
+        self._names = {op: name.encode() for name, op in numbers.items()}
+        self._rivals = _rivals(paths, numbers)
+        self._finishes_lost, self._patience = finishes_lost, patience
+        self._inbox: Deque[Request] = deque()
+        self._bell = Bell()
+        self._poller, self._watched = select.poll(), -1
+        self._is_asleep = False
+        self._ends = False
+        self._starts: Dict[int, Deque[Start]] = {}
+        self._uses: List[Use] = []
+        self._finishes: List[Finish] = []
+        self._questions: List[Question] = []
+        self._unknown: Set[int] = set()  # activations of this worker that nobody here has asked for, or wants any more
+        self._done: Dict[int, Held] = {}  # those that were finished without a reply
+        self._flight: Optional[Batch] = None
+        self._registered: Set[int] = set()  # the operations for which the server knows that this worker waits
+        self._passes: Set[int] = set()  # the operations of which the next waiter has yet to be woken
+        self._beaten = 0
+        self._alone: Set[int] = set()  # the operations of which two were never admitted at once
+        self._is_stale = False
+        self._is_unsure = False  # whether something was given up that may have been done
+        self._check_at = float("inf")
+        self.thread = threading.Thread(target=self._run, name="wanzoche clerk", daemon=True)
+
+    # For others
+
+    def submit(self, request: Request) -> None:
+        """Hands a request to the clerk. It takes no lock, so that a finalizer or a signal handler may do so, too."""
+        self._inbox.append(request)
+        if self._is_asleep:
+            self.ring()
+        if self.is_over:
+            self._refuse_all()
+
+    def ring(self) -> None:
+        """Wakes the clerk, if it sleeps."""
+        self._bell.ring()
+
+    def end(self) -> None:
+        """Tells the clerk to finish what is in progress, and to end. Doesn't wait for it."""
+        self._ends = True
+        self.ring()
+
+    def waiting(self, op: int) -> int:
+        """How many wait for the operation."""
+        known = list(self._starts.get(op, ())) + [each for each in list(self._inbox) if isinstance(each, Start) and each.held._op == op]
+        return sum(each.waits and each.is_wanted() for each in known)
+
+    # The thread
+
+    def _run(self) -> None:
+        try:
+            while not self._ends:
+                self._through_outages(self._work)
+            while not self._through_outages(self._finish_all):
+                pass
+        except BaseException as error:
+            self.fault = self.fault or error
+        self.is_over = True
+        self.log.session.close()
+        self.log.replica.close()
+        self._refuse_all()
+
+    def _through_outages(self, work: Callable[[], None]) -> bool:
+        """Does that: False if the session was cut meanwhile, or the server has lost lines."""
+        try:
+            if self._is_unsure:
+                self._begin_anew()
+            work()
+            return True
+        except Cut as error:
+            self._come_back(error)
+        except Gone:
+            self._is_unsure = True
+        return False
+
+    def _work(self) -> None:
+        """What is to be done now; then sleeps."""
+        while not self._ends and self._step():
+            pass
+        if not self._ends:
+            self._sleep()
+
+    def _sleep(self) -> None:
+        """Until a request comes, a notification, the end of the session, or the time of a check."""
+        fd = self.log.session.fileno()
+        if fd < 0:
+            raise Cut("the connection was closed")
+        if fd != self._watched:
+            self._poller, self._watched = select.poll(), fd
+            self._poller.register(self._bell.rung, select.POLLIN)
+            self._poller.register(fd, select.POLLIN)
+        self._is_asleep = True
+        seconds = max(self._check_at - time.monotonic(), 0) * 1000 if self._check_at < float("inf") else None
+        ready = () if self._inbox else self._poller.poll(seconds)
+        self._is_asleep = False
+        for each, _ in ready:
+            if each == fd:
+                self.log.session.look()
+            else:
+                self._bell.silence()
+
+    def _has_waiters(self) -> bool:
+        return any(self._starts.values())
+
+    def _refuse_all(self) -> None:
+        """After the end: whoever asks is told."""
+        self._read_inbox()
+        flight = self._flight
+        sent: List[Request] = [] if flight is None else [each for each, _ in flight.lines] + list(flight.finishes.values())
+        for request in self._all_requests() + sent:
+            request.reply(native.CLOSED, self.fault or Closed("these paths were closed"))
+        self._starts, self._uses, self._finishes, self._questions, self._flight = {}, [], [], [], None
+
+    # One step
+
+    def _read_inbox(self) -> None:
+        while self._inbox:
+            request = self._inbox.popleft()
+            if isinstance(request, Start):
+                self._starts.setdefault(request.held._op, deque()).append(request)
+            elif isinstance(request, Use):
+                self._uses.append(request)
+            elif isinstance(request, Finish):
+                self._finishes.append(request)
+            elif isinstance(request, Question):
+                self._questions.append(request)
+
+    def _step(self) -> bool:
+        """One call at the server, or several in a turn: False if there is nothing to do."""
+        if self._flight is not None:
+            self._send(self._flight)
+            return True
+        if self._inbox:
+            self._read_inbox()
+        if self._is_idle():
+            return False
+        self._forget_unwanted()
+        self._take_notices()
+        if time.monotonic() >= self._check_at:
+            self._check()
+            return True
+        if self._is_stale:
+            self._follow()
+            return True
+        if self._questions and not (self._finishes or self._unknown):
+            self._answer_questions()
+            return True
+        if self._append():
+            return True
+        if self._questions:
+            self._answer_questions()
+            return True
+        return False
+
+    def _is_idle(self) -> bool:
+        """Whether there is nothing to do, and nobody waits."""
+        has_work = self._finishes or self._uses or self._questions or self._unknown or self._passes or self._is_stale or self._registered
+        return not (has_work or self.log.session.notices or any(self._starts.values()))
+
+    def _forget_unwanted(self) -> None:
+        for op, queue in self._starts.items():
+            for start in queue:
+                if start.is_late:
+                    start.reply(native.BLOCKED, self.away)
+            if not all(each.is_wanted() for each in queue):
+                self._starts[op] = deque(each for each in queue if each.is_wanted())
+
+    def _take_notices(self) -> None:
+        notices = self.log.session.notices
+        if not notices:
+            return
+        for notice in notices:
+            op = int(notice)
+            if not any(each.is_ready() for each in self._starts.get(op, ())):
+                self._passes.add(op)  # nobody here wants it any more
+        self._is_stale = True
+        notices.clear()
+
+    def _append(self) -> bool:
+        """What is wanted now, in one append. False if nothing is."""
+        self._reply_blocked()
+        finishes = self._taken_finishes()
+        wanted = self._admissible()
+        if len(wanted) > 1 or wanted and self._beaten >= BEATEN:
+            self._append_in_turn(finishes)
+            return True
+        wishes = self._wishes(finishes, wanted[0][0] if wanted else None)
+        looks = self._uses or any(not (each.waits or each.has_looked) for queue in self._starts.values() for each in queue)
+        if not (wanted or looks or any(wishes)):
+            return False
+        self._send(Batch(tuple(wanted), finishes, wishes, self.log.place, False))
+        return True
+
+    def _wishes(self, finishes: Dict[int, Finish], first: Optional[Request]) -> Wishes:
+        """What goes along with an append, whose first line is for this request."""
+        wakes = {op for number in finishes for op in self._rivals_of(number)}
+        wakes |= {op for op in self._passes if self.log.replica.can_start(op)}
+        self._passes.clear()
+        waits, stops = self._waits_and_stops(first)
+        return Wishes(tuple(finishes), tuple(wakes), waits, stops)
+
+    def _waits_and_stops(self, first: Optional[Request]) -> Tuple[Tuple[int, ...], Tuple[int, ...]]:
+        """The operations for which this worker waits from now on, and those for which it doesn't. Who waits behind one that is started
+        is the last to come, as if it came now."""
+        own = first.held._op if isinstance(first, Start) else -1
+        waits, stops = [], []
+        for op in self._registered | {op for op, queue in self._starts.items() if any(each.waits for each in queue)}:
+            others = sum(each.waits for each in self._starts.get(op, ())) - (op == own)
+            if op in self._registered and (op == own or others <= 0):
+                stops.append(op)
+            if others > 0 and (op == own or op not in self._registered):
+                waits.append(op)
+        if waits:
+            self._check_at = min(self._check_at, time.monotonic() + CHECK / 4)
+        return tuple(waits), tuple(stops)
+
+    def _taken_finishes(self) -> Dict[int, Finish]:
+        """What is to be finished: those of which the log doesn't say that they are over."""
+        found: Dict[int, Finish] = {}
+        for request in self._finishes:
+            held = request.held
+            number = held._number
+            if not held._live or number in found:
+                request.reply(native.STALE)
+            elif number in self._done and self._done[number] is held:
+                del self._done[number]
+                held._live = False
+                request.reply(native.FINISHED)
+            elif self.held.get(number) is not held:
+                held._live = False
+                request.reply(native.NOT_YOURS)
+            elif self._is_lost(number):
+                self._let_go(number)
+                request.reply(native.NOT_YOURS)
+            else:
+                found[number] = request
+        self._finishes = []
+        for number in self._unknown:
+            found.setdefault(number, Finish(wake_nobody, Nobody(number)))
+        self._unknown.clear()
+        return found
+
+    def _is_lost(self, number: int) -> bool:
+        """Whether the log says that others have finished an activation of this worker."""
+        return bool(native.owed_use(self.log.replica.at, self.log.worker, number, native.LOOK, 0).code in (native.STALE, native.NOT_YOURS))
+
+    def _let_go(self, number: int) -> None:
+        held = self.held.pop(number, None)
+        if held is not None:
+            held._live = False
+
+    def _rivals_of(self, number: int) -> Set[int]:
+        held = self.held.get(number)
+        return set(self._names) if held is None else self._rivals[held._op]
+
+    def _admissible(self) -> List[Tuple[Request, bytes]]:
+        """Starts and uses that the replica would admit now, each by itself, with their lines; two at most. Replies to uses that are
+        refused."""
+        found: List[Tuple[Request, bytes]] = []
+        for use in list(self._uses):
+            line = self._use_line(use, self.log.replica.owed_use)
+            if line is not None:
+                found.append((use, line))
+        for op, queue in self._starts.items():
+            ready = [each for each in queue if each.is_ready()]
+            if ready and len(found) < 2:
+                answer = self.log.replica.owed_start(self.log.worker, op)
+                if answer.code == native.STARTED:
+                    line = b"%d start %b: started %d" % (self.log.worker, self._names[op], answer.number)
+                    found += [(each, line) for each in ready[: 1 if op in self._alone else 2]]
+                elif answer.code != native.BLOCKED:
+                    self._refuse_starts(op, answer.code)
+        return found
+
+    def _refuse_starts(self, op: int, code: int) -> None:
+        """Replies to those for which there is no room."""
+        for start in self._starts.pop(op, ()):
+            if start.has_looked:
+                start.reply(code)
+            else:
+                self._starts.setdefault(op, deque()).append(start)
+
+    def _use_line(self, use: Use, call: Callable[[int, int, int, int], native.Answer]) -> Optional[bytes]:
+        """The line of a use, if it is served; replies to one that is refused."""
+        number = use.held._number
+        answer = call(self.log.worker, number, use.verb, use.number)
+        if answer.code == native.USED and self.held.get(number) is use.held:
+            verb = _VERBS[use.verb]
+            given = verb % use.number if b"%" in verb else verb
+            return b"%d use %d %b: used %d" % (self.log.worker, number, given, answer.number)
+        if use.has_looked or answer.code in (native.STALE, native.NOT_YOURS) or self.held.get(number) is not use.held:
+            self._uses.remove(use)
+            use.reply(native.STALE if self.held.get(number) is not use.held else answer.code)
+        return None
+
+    # Appending
+
+    def _append_in_turn(self, finishes: Dict[int, Finish]) -> None:
+        """Several lines, for which the replica makes each attempt while nobody else appends."""
+        log = self.log
+        self._finishes = [each for each in finishes.values() if each.wake is not wake_nobody]  # should the turn be cut off
+        self._unknown.update(number for number, each in finishes.items() if each.wake is wake_nobody)
+        log.turn()
+        self._looked()
+        before = log.place
+        finishes = self._taken_finishes()
+        lines: List[Tuple[Request, bytes]] = []
+        for number, finish in finishes.items():
+            if log.replica.finish(log.worker, number):
+                lines.append((finish, b"%d finish %d: finished" % (log.worker, number)))
+        lines += self._used_now() + self._started_now()
+        ops = {op for number in finishes for op in self._rivals_of(number)} | self._passes
+        self._passes.clear()
+        waits, stops = self._waits_and_stops(None)
+        wakes = tuple(op for op in ops if log.replica.can_start(op))
+        if not (lines or stops or waits or wakes):
+            log.end_turn()
+            return
+        self._send(Batch(tuple(lines), finishes, Wishes((), wakes, waits, stops), before, True))
+
+    def _used_now(self) -> List[Tuple[Request, bytes]]:
+        lines: List[Tuple[Request, bytes]] = []
+        for use in list(self._uses):
+            line = self._use_line(use, self.log.replica.use)
+            if line is not None:
+                self._uses.remove(use)
+                lines.append((use, line))
+        return lines
+
+    def _started_now(self) -> List[Tuple[Request, bytes]]:
+        lines: List[Tuple[Request, bytes]] = []
+        for op, queue in self._starts.items():
+            ready, count = [each for each in queue if each.is_ready()], 0
+            for start in ready[: max(TOGETHER - len(lines), 0)]:
+                answer = self.log.replica.start(self.log.worker, op)
+                if answer.code != native.STARTED:
+                    break
+                queue.remove(start)
+                lines.append((start, b"%d start %b: started %d" % (self.log.worker, self._names[op], answer.number)))
+                count += 1
+            if len(ready) > 1 and count == 1:
+                self._alone.add(op)
+        return lines
+
+    def _send(self, batch: Batch) -> None:
+        """Appends, and replies. If the session is cut meanwhile, the batch is sent again by the next one."""
+        self._flight = batch
+        try:
+            is_in, taken = self.log.append(batch.text(), batch.wishes, before=batch.before, is_stepped=batch.is_stepped)
+        except StoreError as error:
+            self._flight = None
+            self._fail(batch, error)
+            return
+        self._flight = None
+        self._looked()
+        if is_in or not batch.lines:
+            self._registered.difference_update(batch.wishes.stops)
+        self._registered.update(batch.wishes.waits)
+        for number in batch.wishes.over:
+            self._finished(batch.finishes[number], number, number in taken)
+        if is_in:
+            self._beaten = 0
+            self._confirm(batch)
+        elif batch.lines:
+            self._beaten += 1
+            self._revert(batch)
+            if batch.is_stepped:
+                self._begin_anew()
+        self._reply_blocked()
+
+    def _looked(self) -> None:
+        """The log has just been followed: a request that is refused now is refused."""
+        self._is_stale = False
+        for queue in self._starts.values():
+            for start in queue:
+                start.has_looked = True
+        for use in self._uses:
+            use.has_looked = True
+
+    def _reply_blocked(self) -> None:
+        """To those that don't wait, unless a dead worker was in their way. A request stays where it is until no call may be cut off."""
+        blocked = self._blocked()
+        if blocked and self._finishes_lost and self._bury_dead():
+            blocked = self._blocked()
+        for start in blocked:
+            self._starts[start.held._op].remove(start)
+            start.reply(native.BLOCKED)
+
+    def _blocked(self) -> List[Start]:
+        """Those that don't wait, and for which the log was looked at, where a path forbids the start."""
+        queues = [queue for op, queue in self._starts.items() if queue and not self.log.replica.can_start(op)]
+        return [start for queue in queues for start in queue if not start.waits and start.has_looked]
+
+    def _confirm(self, batch: Batch) -> None:
+        """Its lines are in the log."""
+        for request, line in batch.lines:
+            if isinstance(request, Start):
+                if request.held._op in batch.wishes.stops:
+                    self._passes.add(request.held._op)  # it was woken, and another may have to be
+                self._started(request, int(line.rsplit(b" ", 1)[1]))
+            elif isinstance(request, Use):
+                if request in self._uses:
+                    self._uses.remove(request)
+                request.number = int(line.rsplit(b" ", 1)[1])
+                request.reply(native.USED)
+            elif isinstance(request, Finish):
+                self._finished(request, int(line.split(b" ")[2][:-1]), False)
+
+    def _started(self, start: Start, number: int) -> None:
+        held, op = start.held, start.held._op
+        queue = self._starts.get(op)
+        if queue and start in queue:
+            queue.remove(start)
+        if self.log.replica.can_start(op):
+            self._alone.discard(op)
+        if held._live:  # another thread has begun the same entry
+            self._unknown.add(number)
+            start.reply(native.NOT_YOURS)
+            return
+        self.held[number] = held
+        held._number, held._worker = number, start.caller
+        held._live = True
+        start.reply(native.STARTED)
+        if start.is_unwanted:
+            self._inbox.append(Finish(wake_nobody, held))
+
+    def _finished(self, finish: Finish, number: int, is_taken: bool) -> None:
+        self._let_go(number)
+        finish.reply(native.NOT_YOURS if is_taken else native.FINISHED)
+
+    def _revert(self, batch: Batch) -> None:
+        """Its lines aren't in the log: what they were for is wanted as before."""
+        for request, _ in reversed(batch.lines):
+            if isinstance(request, Start):
+                queue = self._starts.setdefault(request.held._op, deque())
+                if request not in queue:
+                    queue.appendleft(request)
+            elif isinstance(request, Use) and request not in self._uses:
+                self._uses.insert(0, request)
+            elif isinstance(request, Finish) and isinstance(request.held, Nobody):
+                self._unknown.add(request.held._number)
+            elif isinstance(request, Finish):
+                self._finishes.append(request)
+
+    def _fail(self, batch: Batch, error: StoreError) -> None:
+        """The server refuses it: those who want something are told, and all is as before."""
+        for request, _ in batch.lines:
+            self._drop(request)
+            request.reply(native.CLOSED, error)
+        for number, finish in batch.finishes.items():
+            finish.reply(native.CLOSED, error)
+            if finish.wake is wake_nobody:
+                self._unknown.add(number)
+        for start in [each for queue in self._starts.values() for each in queue if not each.has_looked]:
+            start.reply(native.CLOSED, error)
+        if batch.is_stepped:
+            self._begin_anew()
+        time.sleep(0.01)
+
+    def _drop(self, request: Request) -> None:
+        if isinstance(request, Use) and request in self._uses:
+            self._uses.remove(request)
+
+    # Looking
+
+    def _check(self) -> None:
+        """Of those who wait: looks for the dead, and whether a wake has got lost."""
+        self._check_at = time.monotonic() + CHECK if self._has_waiters() else float("inf")
+        self._follow()
+        if self._finishes_lost:
+            self._bury_dead()
+        self._reply_blocked()
+
+    def _follow(self) -> None:
+        self.log.follow()
+        self._looked()
+
+    def _answer_questions(self) -> None:
+        """When the log has been followed, and what the dead had is finished."""
+        self._follow()
+        if self._finishes_lost:
+            self._bury_dead()
+        while self._questions:
+            each = self._questions[0]
+            try:
+                each.value = each.asks()
+                each.reply(native.USED)
+            except (Cut, Gone):
+                raise  # and it is asked again
+            except Exception as error:
+                each.reply(native.CLOSED, error)
+            self._questions.remove(each)
+
+    def lost(self) -> List[native.Activation]:
+        """In the clerk's thread: what dead workers have in progress."""
+        live = [each for each in self.log.replica.live() if each.worker != self.log.worker]
+        dead = self.log.dead(sorted({each.worker for each in live}))
+        return [each for each in live if each.worker in dead]
+
+    def _bury_dead(self) -> bool:
+        """Finishes that: whether there was any."""
+        found = self.lost()
+        for worker in {each.worker for each in found}:
+            self.bury(worker, [each for each in found if each.worker == worker], False)
+        if found:
+            self._follow()
+        return bool(found)
+
+    def bury(self, worker: int, found: Sequence[native.Activation], even_alive: bool) -> bool:
+        """In the clerk's thread: finishes this for a worker, if it is dead."""
+        wakes = {op for each in found for op in self._rivals[each.operation]}
+        return self.log.bury(worker, [each.number for each in found], sorted(wakes), even_alive)
+
+    # When the session was cut
+
+    def _come_back(self, error: BaseException) -> None:
+        """Begins another session, however often that takes. Requests that are older than the patience fail."""
+        begun, pause = time.monotonic(), 0.01
+        is_same: Optional[bool] = None
+        while is_same is None:
+            self.away = StoreError("the log {}: the server doesn't answer: {}".format(self.log.name, error))
+            self._read_inbox()
+            self._fail_old(begun)
+            if self._ends and time.monotonic() > begun + LATE:
+                raise self.away
+            try:
+                limit = LATE if self._ends else min(CONNECTING, self._patience)
+                is_same = self.log.come_back(time.monotonic() + limit)
+            except (Cut, StoreError) as told:
+                self.log.session.close()
+                error = told
+                self._wait(pause * (0.5 + random.random()))
+                pause = min(2 * pause, 1.0)
+        self.away, self._watched = None, -1
+        flight = self._flight
+        self._is_unsure = self._is_unsure or flight is not None and not flight.is_stepped and flight.before != self.log.place
+        self._registered.clear()
+        self._check_at = 0.0
+        self._is_stale = True
+        if not is_same:
+            self._lose_all()
+
+    def _wait(self, seconds: float) -> None:
+        """Not longer than until the bell is rung."""
+        poll = select.poll()
+        poll.register(self._bell.rung, select.POLLIN)
+        self._is_asleep = True
+        if not self._inbox and poll.poll(seconds * 1000):
+            self._bell.silence()
+            time.sleep(min(seconds, 0.01))
+        self._is_asleep = False
+
+    def _fail_old(self, begun: float) -> None:
+        """In an outage since then: replies to those who have waited long enough."""
+        before = time.monotonic() - self._patience
+        flight = self._flight
+        if flight is not None:
+            for request, _ in flight.lines:
+                if isinstance(request, Start) and (request.is_late or begun < before):
+                    request.is_unwanted = True
+                    request.reply(native.CLOSED, self.away)
+        if flight is not None and begun < before:
+            self._flight, self._is_unsure = None, True
+            for request in [each for each, _ in flight.lines] + list(flight.finishes.values()):
+                request.reply(native.CLOSED, self.away)
+        self._forget_unwanted()
+        for request in self._all_requests():
+            if max(request.since, begun) < before:
+                request.reply(native.CLOSED, self.away)
+        self._uses = [each for each in self._uses if not each.is_over()]
+        self._finishes = [each for each in self._finishes if not each.is_over()]
+        self._questions = [each for each in self._questions if not each.is_over()]
+        self._forget_unwanted()
+
+    def _all_requests(self) -> List[Request]:
+        """All that aren't on their way."""
+        found: List[Request] = [each for queue in self._starts.values() for each in queue]
+        return found + list(self._uses) + list(self._finishes) + list(self._questions)
+
+    def _take_flight_back(self) -> None:
+        """What was on its way is wanted as before."""
+        flight, self._flight = self._flight, None
+        if flight is not None:
+            self._revert(flight)
+            for number, finish in flight.finishes.items():
+                if isinstance(finish.held, Nobody):
+                    self._unknown.add(number)
+                elif finish not in self._finishes:
+                    self._finishes.append(finish)
+
+    def _settle_flight(self) -> None:
+        """When the log was followed: what was on its way is there, or is wanted as before."""
+        flight = self._flight
+        text = None if flight is None else flight.text()
+        if flight is not None and text is not None and self.log.has(text, flight.before.lines):
+            self._flight = flight._replace(lines=())
+            self._confirm(flight)
+        self._take_flight_back()
+
+    def _lose_all(self) -> None:
+        """The worker was taken for dead, and this is another: what was in progress is others'."""
+        self.held.clear()
+        self._done.clear()
+        self._is_unsure = False
+        self._take_flight_back()
+        self._unknown.clear()
+        self.log.forget()
+
+    def _begin_anew(self) -> None:
+        """Follows the log from its begin: what this process holds is what stands in it."""
+        self._is_unsure = True  # until all is done: the session may be cut meanwhile
+        self.log.forget()
+        self._follow()
+        self._settle_flight()
+        own = {each.number for each in self.log.replica.live() if each.worker == self.log.worker}
+        gone = sorted(set(self.held) - own)
+        ended = self.log.own_finishes(gone)
+        for number in gone:
+            held = self.held.pop(number)  # and whoever leaves it is told so
+            if number in ended:
+                self._done[number] = held
+        self._unknown.update(own - set(self.held))
+        self._is_unsure = False
+
+    # Ending
+
+    def _finish_all(self) -> None:
+        """Finishes what is in progress, and gives the worker's number up."""
+        self._read_inbox()
+        while self._flight is not None:
+            self._send(self._flight)
+        self._follow()
+        numbers = [each.number for each in self.log.replica.live() if self._is_own(each)]
+        if numbers:
+            wakes = {op for number in numbers for op in self._rivals_of(number)}
+            self.log.append(None, Wishes(tuple(numbers), tuple(wakes)), before=self.log.place, is_stepped=False)
+        self.log.leave()
+
+    def _is_own(self, activation: native.Activation) -> bool:
+        return activation.worker == self.log.worker
+
+    def abandon(self) -> None:
+        """In the child of a fork, which has no such thread: leaves all to the parent."""
+        self.is_over = True
+        self.log.session.close_here()
+        self.log.replica.close()
+
+
+def _rivals(paths: Sequence[Path], numbers: Dict[str, int]) -> List[Set[int]]:
+    """Of each operation those that its finish may let start: the operations of its paths."""
+    found: List[Set[int]] = [set() for _ in numbers]
+    for path in paths:
+        own = {numbers[name] for name in path.operations}
+        for op in own:
+            found[op] |= own
+    return found

@@ -1,0 +1,339 @@
+"""A log in PostgreSQL, as one process follows it: a replica, a session, and the calls of schema.sql. For one thread."""
+
+from __future__ import annotations
+
+import os
+import time
+from typing import List, NamedTuple, Optional, Sequence, Set, Tuple
+
+from . import _native as native
+from ._errors import CorruptStore, OtherDeclaration, StoreError
+from ._postgresql import AGAIN, HEARTBEAT, Call, Complaint, Cut, Row, Session, array
+from ._replica import Replica
+from ._store import difference
+
+SCHEMA = 1
+"""The number of the schema that this package knows."""
+ANSWER = 30.0
+"""So many seconds a call waits for its answer. Then the session is given up, and another asks again."""
+MOST = 20000
+"""So many lines the server gives at once."""
+ALL_LOGS = 22391 << 48
+"""The advisory lock of whoever makes the schema or a log."""
+
+HAS_SCHEMA = (
+    "select exists (select from pg_class c join pg_namespace n on n.oid = relnamespace where nspname = 'wanzoche' and relname = 'schema')"
+)
+"""Asked in this way since `to_regclass` may not see yet what another session has made."""
+PUT = (
+    "insert into wanzoche.line (log, place, line, by) select $1::int, $3::bigint, $5, $2::int "
+    "from (select pg_advisory_xact_lock(wanzoche.key($1::int, 0)) offset 0) turn where $3::bigint = 0 "
+    "or exists (select from wanzoche.line x where x.log = $1::int and x.place = $3::bigint - 1 and x.stamp = $4::bigint) "
+    "on conflict do nothing returning stamp"
+)
+"""Appends one line, if its place is the next one: then there is a row."""
+STATEMENTS = {
+    b"begin": "begin",
+    b"commit": "commit",
+    b"rollback": "rollback",
+    b"open": "select * from wanzoche.open($1, $2)",
+    b"arrive": "select wanzoche.arrive($1)",
+    b"hold": "select wanzoche.hold($1, $2)",
+    b"leave": "select wanzoche.leave($1, $2)",
+    b"lines": "select * from wanzoche.lines($1, $2, $3)",
+    b"put": PUT,
+    b"put_and_wake": PUT + ", wanzoche.wake($1::int, $2::int, $6::int[])",
+    b"lasts": "select set_config('synchronous_commit', $1, true), pg_logical_emit_message(true, 'wanzoche', '')",
+    b"append": "select * from wanzoche.append($1, $2, $3, $4, $5, $6, $7, $8, $9, $10)",
+    b"turn": "select * from wanzoche.turn($1, $2, $3)",
+    b"copy": "select line from wanzoche.line where log = $1 and place >= $2 order by place limit $3",
+    b"own": "select finishes from wanzoche.line where log = $1 and finishes = any ($2) and by = $3",
+    b"dead": "select wanzoche.dead($1, $2, $3)",
+    b"bury": "select wanzoche.bury($1, $2, $3, $4, $5, $6, $7)",
+}
+
+
+class Gone(Exception):
+    """Lines that were taken over aren't in the log any more: the server has lost its last second, or another took its place."""
+
+
+class Wishes(NamedTuple):
+    """What an append does beside its lines."""
+
+    over: Sequence[int] = ()
+    """The activations to finish, wherever the lines come."""
+    wakes: Sequence[int] = ()
+    waits: Sequence[int] = ()
+    stops: Sequence[int] = ()
+
+
+class Place(NamedTuple):
+    """Up to where the log is known: how many lines, and the stamp of the last."""
+
+    lines: int = 0
+    stamp: Optional[bytes] = None
+
+
+class Log:
+    """What one opening has of it."""
+
+    def __init__(self, url: str, name: str, source: bytes, handle: native.Handle, *, sync: bool, grace: float) -> None:
+        self.name = name
+        self.replica = Replica(source, handle)
+        self.session = Session(url)
+        self.place = Place()
+        self.worker = 0
+        self._sync = sync
+        self._grace = b"%f seconds" % grace
+        self._log = b""
+        self._listens = False
+        self._has_company = False  # whether others have appended lately
+        self._commits = b"on"  # how the server commits what has to last
+
+    # Sessions
+
+    def open(self, until: float) -> None:
+        """Opens the log, or makes it, and reads it all. The replica is open. Raises `Cut`, `StoreError` and `OtherDeclaration`."""
+        declaration = self.replica.declaration()
+        self.session.connect(until)
+        make_schema(self.session, until)
+        self._prepare(until)
+        ((number, found),) = self._call(Call(b"open", (self.name.encode(), declaration.encode())))[0]
+        assert number is not None and found is not None
+        told = difference(found.decode(), declaration)
+        if told:
+            raise OtherDeclaration("the log {} is of another declaration: {}".format(self.name, told))
+        self._log = number
+        self._arrive()
+        self.follow()
+
+    def come_back(self, until: float) -> bool:
+        """Begins another session, after one was cut: False if the worker was taken for dead meanwhile. Then this is a new one."""
+        self.session.connect(until)
+        self._prepare(until)
+        ((is_held,),) = self._call(Call(b"hold", (self._log, b"%d" % self.worker)))[0]
+        if is_held != b"t":
+            self._arrive()
+        return is_held == b"t"
+
+    def _prepare(self, until: float) -> None:
+        self._listens = False
+        try:
+            found = self.session.run("show synchronous_commit; " + HEARTBEAT + "; set synchronous_commit = off", until)
+            self._commits = found[0][0][0] or b"on"
+            self.session.prepare(STATEMENTS, until)
+        except Complaint as error:
+            raise self._refused(error) from error
+
+    def _arrive(self) -> None:
+        ((number,),) = self._call(Call(b"arrive", (self._log,)))[0]
+        if number is None:
+            raise StoreError("the log {} was removed".format(self.name))
+        self.worker = int(number)
+
+    def leave(self) -> None:
+        """The worker ends."""
+        self._call(Call(b"leave", (self._log, b"%d" % self.worker)))
+
+    # Lines
+
+    def forget(self) -> None:
+        """Begins anew, without a line."""
+        if self.replica.open().code != native.OPENED:
+            raise MemoryError("no memory to follow the log {}".format(self.name))
+        self.place = Place()
+
+    def follow(self) -> None:
+        """Takes over what others have appended."""
+        count = MOST
+        while count >= MOST:
+            count = self._take(self._call(Call(b"lines", self._known()))[0][0])
+
+    def append(self, text: Optional[bytes], wishes: Wishes, *, before: Place, is_stepped: bool) -> Tuple[bool, Set[int]]:
+        """Appends lines if their place is the next one, and finishes, and takes over what has come: whether the lines are in the log, and
+        which of the finishes are others'. With `is_stepped` the replica has taken these lines already, in a turn, which ends."""
+        over, wakes, waits, stops = wishes
+        if not (waits or stops or is_stepped) and len(over) + (text is not None) == 1 and (text is None or b"\n" not in text):
+            line = b"%d finish %d: finished" % (self.worker, over[0]) if text is None else text
+            is_put, is_there = self._put(line, wakes, before)
+            if text is not None or is_put:
+                return is_there and text is not None, set()
+            before = self.place  # somebody else may have finished it, with the same line
+        listens = bool(waits) and not self._listens
+        given = (self._log, b"%d" % self.worker, b"%d" % before.lines, before.stamp, text, array(over), array(wakes), array(waits))
+        calls = [Call(b"append", given + (array(stops), b"t" if listens else b"f"))]
+        if is_stepped:
+            calls.append(Call(b"commit"))
+        if self._sync and (text is not None or over):
+            calls.append(self._lasts())
+        news, final, mark, taken = self._call(*calls)[0][0]
+        self._listens = self._listens or listens
+        if news is None and int(final or -1) >= before.lines:
+            own = ([] if text is None else [text]) + [b"%d finish %d: finished" % (self.worker, each) for each in over]
+            news = b"\n".join(own) or None
+        is_in = text is not None and news is not None and (news == text or news.startswith(text + b"\n"))
+        if is_stepped and is_in and news is not None and text is not None:
+            news = news[len(text) + 1 :] or None
+        if is_in or not is_stepped:
+            if self._take((news, final, mark)) >= MOST:
+                self.follow()
+        return is_in, {int(each) for each in (taken or b"{}")[1:-1].split(b",") if each}
+
+    def _put(self, line: bytes, wakes: Sequence[int], before: Place) -> Tuple[bool, bool]:
+        """Appends a line, if its place is the next one, and takes over what is new: whether it was appended, and whether it is there."""
+        given: Row = (self._log, b"%d" % self.worker, b"%d" % before.lines, before.stamp, line)
+        calls = [Call(b"put_and_wake", (*given, array(wakes))) if wakes else Call(b"put", given)]
+        if self._sync:
+            calls.append(self._lasts())
+        if self._has_company:
+            calls.append(Call(b"lines", self._known()))
+        found = self._call(*calls)
+        if found[0] and not self._has_company:
+            self._take((line, b"%d" % before.lines, found[0][0][0]))
+            return True, True
+        news = found[-1][0] if self._has_company else self._call(Call(b"lines", self._known()))[0][0]
+        is_there = news[0] is not None and (news[0] + b"\n").startswith(line + b"\n")
+        if self._take(news) >= MOST:
+            self.follow()
+        self._has_company = not found[0] or self._has_company
+        return bool(found[0]), is_there
+
+    def _lasts(self) -> Call:
+        return Call(b"lasts", (self._commits,))
+
+    def turn(self) -> None:
+        """Takes over what is new. From now on nobody else appends, until `append` or `end_turn`."""
+        rows = self._call(Call(b"begin"), Call(b"turn", self._known()))
+        if self._take(rows[1][0]) >= MOST:
+            self.follow()
+
+    def end_turn(self) -> None:
+        """Ends a turn without a line."""
+        self._call(Call(b"rollback"))
+
+    def lines(self, begin: int) -> List[bytes]:
+        """All lines from there on, as they stand."""
+        found: List[bytes] = []
+        count = MOST
+        while count >= MOST:
+            rows = self._call(Call(b"copy", (self._log, b"%d" % (begin + len(found)), b"%d" % MOST)))[0]
+            count = len(rows)
+            found += [row[0] or b"" for row in rows]
+        return found
+
+    def _known(self) -> Row:
+        return self._log, b"%d" % self.place.lines, self.place.stamp
+
+    def _take(self, row: Row) -> int:
+        """Takes over lines, each exactly if it is owed: how many. Raises `CorruptStore`."""
+        news, final, mark = row
+        assert final is not None
+        before = self.replica.lines
+        if news is not None:
+            self._take_over(news + b"\n")
+        if self.replica.lines != int(final) + 1:
+            raise self.broken("a line isn't one line", self.replica.lines)
+        self.place = Place(self.replica.lines, mark)
+        self._has_company = self.replica.lines > before + 1
+        return self.replica.lines - before
+
+    def _take_over(self, text: bytes) -> None:
+        marked = 0 if text.startswith(b"+") else text.find(b"\n+") + 1
+        refusal = self.replica.take_over(text)
+        if refusal is None and (marked or text.startswith(b"+")):
+            raise self.broken("a line has a mark", self.replica.lines - text.count(b"\n", marked))
+        if refusal is not None:
+            told = "`{}` isn't a line of a journal".format(_shown(refusal.line))
+            if refusal.owed is not None:
+                told = "`{}`, where `{}` is owed".format(_shown(refusal.line), _shown(refusal.owed))
+            raise self.broken(told, self.replica.lines)
+
+    def broken(self, told: str, place: int) -> CorruptStore:
+        """What is raised of a line that isn't owed."""
+        return CorruptStore("the log {} at place {}: {}".format(self.name, place, told), place)
+
+    def has(self, text: bytes, place: int) -> bool:
+        """Whether these lines stand there."""
+        lines = text.split(b"\n")
+        rows = self._call(Call(b"copy", (self._log, b"%d" % place, b"%d" % len(lines))))[0]
+        return [row[0] for row in rows] == lines
+
+    def own_finishes(self, numbers: Sequence[int]) -> Set[int]:
+        """Which of these activations this worker has finished itself, as far as the log says."""
+        if not numbers:
+            return set()
+        rows = self._call(Call(b"own", (self._log, array(numbers), b"%d" % self.worker)))[0]
+        return {int(row[0]) for row in rows if row[0] is not None}
+
+    # The dead
+
+    def dead(self, workers: Sequence[int]) -> Set[int]:
+        """Which of these are dead."""
+        if not workers:
+            return set()
+        rows = self._call(Call(b"dead", (self._log, array(workers), self._grace)))[0]
+        return {int(row[0]) for row in rows if row[0] is not None}
+
+    def bury(self, whose: int, over: Sequence[int], wakes: Sequence[int], even_alive: bool) -> bool:
+        """Finishes activations of another worker: False if it isn't dead. Follow the log then."""
+        given = (self._log, b"%d" % self.worker, b"%d" % whose, array(over), array(wakes), self._grace, b"t" if even_alive else b"f")
+        calls = [Call(b"bury", given)] + [self._lasts()] * self._sync
+        return self._call(*calls)[0][0][0] == b"t"
+
+    # Calling
+
+    def _call(self, *calls: Call) -> List[List[Row]]:
+        for tries in range(5):
+            try:
+                return self.session.call(calls, time.monotonic() + ANSWER)
+            except Complaint as error:
+                if not error.code.startswith(AGAIN) or tries == 4 or len(calls) > 2:
+                    raise self._refused(error) from error
+        raise AssertionError
+
+    def _refused(self, error: Complaint) -> Exception:
+        """What a complaint of the server is for a caller."""
+        if error.code == "WZ001":
+            return Gone(error.told)
+        if error.code == "WZ002":
+            return self.broken("there is no line", int(error.detail))
+        return StoreError("the log {}: {}".format(self.name, error.told))
+
+
+def make_schema(session: Session, until: float) -> None:
+    """Makes the schema where there is none. Raises `StoreError` for one of another number."""
+    try:
+        rows = session.run(HAS_SCHEMA, until)
+        if rows[-1][0][0] != b"t":
+            with open(os.path.join(os.path.dirname(os.path.abspath(__file__)), "schema.sql")) as file:
+                script = file.read()
+            session.run("begin; select pg_advisory_xact_lock({})".format(ALL_LOGS), until)
+            if session.run(HAS_SCHEMA, until)[-1][0][0] != b"t":
+                session.run(script, until)
+            session.run("commit", until)
+        found = session.run("select number from wanzoche.schema", until)[-1][0][0]
+    except Complaint as error:
+        raise StoreError("the schema wanzoche can't be made or read: {}".format(error.told)) from error
+    if found != b"%d" % SCHEMA:
+        raise StoreError("the schema wanzoche is number {}, and this package has {}".format((found or b"?").decode(), SCHEMA))
+
+
+def declaration_of(url: str, name: str, seconds: float) -> Optional[str]:
+    """The declaration of a log; None if there is no such log."""
+    session, until = Session(url), time.monotonic() + seconds
+    try:
+        session.connect(until)
+        if session.run("select to_regclass('wanzoche.log') is not null", until)[-1][0][0] != b"t":
+            return None
+        session.prepare({b"find": "select declaration from wanzoche.log where name = $1"}, until)
+        rows = session.call([Call(b"find", (name.encode(),))], until)[0]
+        return (rows[0][0] or b"").decode() if rows else None
+    except (Cut, Complaint) as error:
+        raise StoreError("the server: {}".format(error)) from error
+    finally:
+        session.close()
+
+
+def _shown(text: bytes) -> str:
+    """A line for a message."""
+    return text[:200].decode("ascii", "backslashreplace")

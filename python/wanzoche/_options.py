@@ -1,0 +1,45 @@
+"""What the command `wanzoche` takes. It needs nothing else of the package: the man page and the completions are made from it, too."""
+
+from __future__ import annotations
+
+import argparse
+
+
+def parser(version: str) -> argparse.ArgumentParser:
+    """The commands, with what each takes."""
+    whole = argparse.ArgumentParser(prog="wanzoche", description="Operations under path expressions that processes share, from the shell.")
+    whole.add_argument("--version", action="version", version="wanzoche " + version, help="print the version")
+    commands = whole.add_subparsers(dest="command", metavar="COMMAND")
+    commands.required = True
+
+    def command(name: str, does: str, has_store: bool = True) -> argparse.ArgumentParser:
+        made = commands.add_parser(name, help=does, description=does[0].upper() + does[1:] + ".")
+        told = "the file of the journal that the processes share, or the URL of a PostgreSQL database"
+        made.add_argument("--store", required=has_store, metavar="FILE", help=told)
+        made.add_argument("--name", metavar="NAME", help="the name of the log, of a store in PostgreSQL")
+        told = "the file of the declaration, for a store that isn't there yet; else it has to be the store's"
+        made.add_argument("--declaration", metavar="FILE", help=told if has_store else "the file of the declaration, in place of a store's")
+        return made
+
+    _add_exec(command("exec", "run a command as an operation"))
+    command("status", "say what can be started, which path blocks what, what is in progress, and what of it is a dead worker's")
+    command("log", "write the lines of the journal")
+    command("audit", "say whether each reply in the journal was owed")
+    command("watch", "write the lines of the journal as they come")
+    recover = command("recover", "finish what a dead worker has in progress")
+    recover.add_argument("worker", metavar="WORKER", help="its number, as `status` says it")
+    recover.add_argument("--even-alive", action="store_true", help="also if it is alive: then it loses what it has")
+    command("operations", "write the operations that are declared, one in a line", False)
+    return whole
+
+
+def _add_exec(run: argparse.ArgumentParser) -> None:
+    """What `exec` takes besides."""
+    run.add_argument("--timeout", type=float, metavar="SECONDS", help="don't wait for longer than that for the operation's turn")
+    run.add_argument("--nonblock", action="store_true", help="don't wait for the operation's turn")
+    told = "the status where the operation isn't admitted in time (%(default)s)"
+    run.add_argument("--conflict-status", type=int, default=1, metavar="N", help=told)
+    run.add_argument("--token-env", metavar="NAME", help="the variable in which the command gets the operation's token")
+    run.add_argument("--no-sync", action="store_true", help="don't wait for the disk")
+    run.add_argument("operation", metavar="OPERATION", help="the operation; options stand before it")
+    run.add_argument("run", nargs=argparse.REMAINDER, metavar="-- COMMAND ..", help="the command with its words")

@@ -1,0 +1,145 @@
+"""What threads and tasks want of a clerk, and how they hear of it."""
+
+from __future__ import annotations
+
+import socket
+import time
+from typing import Any, Callable, Dict, NamedTuple, Optional, Protocol, Tuple
+
+from ._log import Place, Wishes
+
+
+class Held(Protocol):
+    """An operation that this process has begun, or is about to."""
+
+    _op: int
+    _name: str
+    _live: bool
+    _number: int
+    _worker: int
+
+
+class Request:
+    """What somebody wants. `wake` is called when the reply is there, by the clerk's thread."""
+
+    def __init__(self, wake: Callable[[], None]) -> None:
+        self.wake = wake
+        self.since = time.monotonic()
+        self.code: Optional[int] = None
+        self.error: Optional[BaseException] = None
+
+    def is_over(self) -> bool:
+        """Whether the reply is there."""
+        return self.code is not None
+
+    def reply(self, code: int, error: Optional[BaseException] = None) -> None:
+        """Only the first reply counts."""
+        if self.code is None:
+            self.error = error
+            self.code = code
+            try:
+                self.wake()
+            except RuntimeError:
+                pass  # the loop of a task is closed, and the task over with it
+
+
+class Start(Request):
+    """A start. One that `waits` stays until it is admitted or withdrawn; else it is blocked when the log was looked at."""
+
+    def __init__(self, wake: Callable[[], None], held: Held, caller: int, waits: bool, loop: Any = None) -> None:
+        super().__init__(wake)
+        self.held, self.caller, self.waits = held, caller, waits
+        self._loop = loop
+        self.has_looked = False
+        self.is_late = False
+        """Its time is over: it is blocked if it isn't started by now."""
+        self.is_unwanted = False
+        """Nobody waits for it any more: it is finished if it is started."""
+
+    def is_wanted(self) -> bool:
+        """Whether it may still come to a start: a task may not whose loop is closed."""
+        return not (self.is_unwanted or self.is_over() or (self._loop is not None and self._loop.is_closed()))
+
+    def is_ready(self) -> bool:
+        """Whether somebody is there to go on with it. The task of a loop that has been stopped isn't."""
+        return self._loop is None or bool(self._loop.is_running())
+
+
+class Use(Request):
+    """A use of a device: the number of its answer is `number` then."""
+
+    def __init__(self, wake: Callable[[], None], held: Held, verb: int, number: int) -> None:
+        super().__init__(wake)
+        self.held, self.verb, self.number = held, verb, number
+        self.has_looked = False
+
+
+class Finish(Request):
+    """A finish. One that nobody waits for has no wake."""
+
+    def __init__(self, wake: Callable[[], None], held: Held) -> None:
+        super().__init__(wake)
+        self.held = held
+
+
+class Question(Request):
+    """Something that is found out when the log has been followed: `value` is what it gives."""
+
+    def __init__(self, wake: Callable[[], None], asks: Callable[[], Any]) -> None:
+        super().__init__(wake)
+        self.asks = asks
+        self.value: Any = None
+
+
+class Batch(NamedTuple):
+    """An append that is on its way: it may be sent again until it is answered."""
+
+    lines: Tuple[Tuple[Request, bytes], ...]
+    finishes: Dict[int, Finish]
+    wishes: Wishes
+    before: Place
+    is_stepped: bool
+
+    def text(self) -> Optional[bytes]:
+        """Its lines, as one text."""
+        return b"\n".join(line for _, line in self.lines) if self.lines else None
+
+
+class Bell:
+    """Wakes a thread that polls. To ring it takes no lock."""
+
+    def __init__(self) -> None:
+        self._ringing, self.rung = socket.socketpair()
+        self._ringing.setblocking(False)
+        self.rung.setblocking(False)
+
+    def ring(self) -> None:
+        """Wakes it."""
+        try:
+            self._ringing.send(b"\0")
+        except OSError:
+            pass  # it has been rung often enough
+
+    def silence(self) -> None:
+        """Until it is rung again."""
+        try:
+            self.rung.recv(4096)
+        except OSError:
+            pass
+
+    def __del__(self) -> None:
+        self._ringing.close()
+        self.rung.close()
+
+
+class Nobody:
+    """Stands for an operation that nobody holds."""
+
+    _op, _name, _worker = 0, "", 0
+
+    def __init__(self, number: int) -> None:
+        self._number, self._live = number, True
+
+
+def wake_nobody() -> None:
+    """Wakes nobody."""

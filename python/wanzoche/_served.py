@@ -1,0 +1,461 @@
+"""Paths that processes of several machines share, over a log that a PostgreSQL server keeps."""
+
+from __future__ import annotations
+
+import asyncio
+import copy
+import threading
+import time
+from types import TracebackType
+from typing import Any, Callable, Dict, List, Optional, Tuple, Type, TypeVar, cast
+
+from . import _native as native
+from ._attempts import InUse, admitted, in_use
+from ._clerk import Clerk
+from ._entries import AsyncEntry, Entry
+from ._errors import Blocked, Closed, Lost, StoreError, Timeout
+from ._log import Log
+from ._postgresql import Cut
+from ._requests import Finish, Question, Request, Start, Use, wake_nobody
+from ._store import Store
+from ._stored import Begun, StoredPaths, _Stored
+from ._texts import read_declaration
+from ._waiting import Queues
+
+OPENING = 10.0
+"""So many seconds an opening tries to reach the server."""
+GRACE = 5.0
+PATIENCE = 30.0
+SCHEMES = ("postgresql://", "postgres://")
+T = TypeVar("T")
+
+_LOST = "activation {} was finished by others, which took this process for dead"
+
+
+class ServedStore:
+    """One opening of a log. Its clerk's thread does the work."""
+
+    room = 65536
+    sync = False
+    """Nobody has to wait for the disk behind an answer: the clerk gives it when the line is there, if it is to be."""
+
+    def __init__(
+        self, url: str, source: bytes, handle: native.Handle, *, name: str, sync: bool, finishes_lost: bool, grace: float, patience: float
+    ) -> None:
+        self._log = Log(url, name, source, handle, sync=sync, grace=grace)
+        self._replica = self._log.replica
+        self._finishes_lost, self._patience = finishes_lost, patience
+        self._is_closed = False
+        self.clerk: Clerk
+
+    def open(self) -> native.Answer:
+        """Opens the log, or makes it. The answer is `OPENED`, or why the text isn't a declaration. Raises `StoreError`."""
+        answer = self._replica.open()
+        if answer.code != native.OPENED:
+            return answer
+        try:
+            self._connect()
+        except BaseException:
+            self._log.session.close()
+            self._replica.close()
+            raise
+        numbers, paths = read_declaration(self._replica.declaration())
+        self.clerk = Clerk(self._log, paths, numbers, self._finishes_lost, self._patience)
+        self.clerk.thread.start()
+        return answer
+
+    def _connect(self) -> None:
+        until = time.monotonic() + OPENING
+        while True:
+            try:
+                self._log.open(until)
+                return
+            except Cut as error:
+                if time.monotonic() >= until - 0.1:
+                    told = "the log {}: the server doesn't answer: {}".format(self._log.name, error)
+                    raise StoreError(told) from error
+            self._log.forget()
+            time.sleep(0.1)
+
+    @property
+    def worker(self) -> int:
+        """The number of this worker. It is another one after a session that was taken for dead."""
+        return self._log.worker
+
+    # Calls of threads
+
+    def start(self, begun: "ServedBegun", worker: int, until: Optional[float]) -> int:
+        """Starts an operation when it is admitted, or at the latest by then: the answer's code. Without a time it waits; with one that is
+        over it doesn't."""
+        asleep = threading.Lock()
+        asleep.acquire()
+        start = begun._attempt = Start(asleep.release, begun, worker, until is None or until > time.monotonic())
+        try:
+            self.clerk.submit(start)
+            if until is None or not start.waits:
+                asleep.acquire()
+            elif not asleep.acquire(True, min(max(until - time.monotonic(), 0.0), threading.TIMEOUT_MAX)):
+                self.late(start)
+                asleep.acquire()
+        except BaseException:
+            self.give_up(begun)
+            raise
+        return self.code_of(start)
+
+    def late(self, start: Start) -> None:
+        """Its time is over: it gets its reply soon."""
+        start.is_late = True
+        self.clerk.ring()
+
+    def give_up(self, begun: "ServedBegun") -> None:
+        """After an exception: what was begun isn't in progress."""
+        start = begun._attempt
+        if start is not None:
+            start.is_unwanted = True
+            self.clerk.ring()
+            if start.code == native.STARTED:
+                self.drop(begun)
+
+    def _wait_for(self, make: Callable[[Callable[[], None]], Request]) -> int:
+        """Hands a request to the clerk, and waits for the reply: the answer's code."""
+        asleep = threading.Lock()
+        asleep.acquire()
+        request = make(asleep.release)
+        self.clerk.submit(request)
+        asleep.acquire()
+        return self.code_of(request)
+
+    def code_of(self, request: Request) -> int:
+        """The reply. Raises what went wrong."""
+        if request.error is not None:
+            raise copy.copy(request.error) from request.error.__cause__
+        assert request.code is not None
+        return request.code
+
+    def finish(self, begun: Begun) -> Tuple[int, int]:
+        """Finishes an operation: the answer's code, and 0. Raises `Lost` if others have finished it."""
+        return self.finished(begun, self._wait_for(lambda wake: Finish(wake, begun))), 0
+
+    def finished(self, begun: Begun, code: int) -> int:
+        """What the clerk has replied to a finish. Raises `Lost`."""
+        if code == native.NOT_YOURS:
+            raise Lost(_LOST.format(begun._number))
+        return code
+
+    def drop(self, begun: Begun) -> None:
+        """Finishes an operation that nobody holds any more. Doesn't wait for it."""
+        self.clerk.submit(Finish(wake_nobody, begun))
+
+    def use(self, begun: Begun, verb: int, number: int) -> native.Answer:
+        """Uses the device of the operation's resource: its answer. Raises `Lost`."""
+        made: List[Use] = []
+
+        def make(wake: Callable[[], None]) -> Request:
+            made.append(Use(wake, begun, verb, number))
+            return made[0]
+
+        code = self._wait_for(make)
+        if code == native.STALE:
+            raise Lost(_LOST.format(begun._number))
+        return native.Answer(code, made[0].number)
+
+    def ask(self, asks: Callable[[], T]) -> T:
+        """What a question gives in the clerk's thread, when the log has been followed."""
+        made: List[Question] = []
+
+        def make(wake: Callable[[], None]) -> Request:
+            made.append(Question(wake, asks))
+            return made[0]
+
+        self._wait_for(make)
+        return cast(T, made[0].value)
+
+    def recover(self, worker: int, even_alive: bool) -> int:
+        """Finishes what a worker has in progress: how much that was. Raises ValueError if it is alive."""
+        return self.ask(lambda: self._recover(worker, even_alive))
+
+    def _recover(self, worker: int, even_alive: bool) -> int:
+        clerk, log = self.clerk, self._log
+        if not even_alive and (worker == log.worker or worker not in log.dead([worker])):
+            raise ValueError("process {} is alive".format(worker))
+        found = [each for each in self._replica.live() if each.worker == worker]
+        if found and not clerk.bury(worker, found, even_alive):
+            raise ValueError("process {} is alive".format(worker))
+        log.follow()
+        return len(found)
+
+    def lost(self) -> List[native.Activation]:
+        """In the clerk's thread: what dead workers have in progress."""
+        return self.clerk.lost()
+
+    def texts(self) -> List[str]:
+        """All lines of the log so far."""
+        lines = self.ask(lambda: self._log.lines(0))
+        return ["".join(line.decode("ascii", "backslashreplace") + "\n" for line in lines)]
+
+    def lines_from(self, place: int) -> List[str]:
+        """The lines from there on."""
+        return [line.decode("ascii", "backslashreplace") + "\n" for line in self.ask(lambda: self._log.lines(place))]
+
+    def rotate(self) -> None:
+        """Does nothing: all lines stay in the table."""
+
+    def presence(self) -> List[int]:
+        """The file descriptors that tell others that this worker is alive, as long as a process has them."""
+        fd = self._log.session.fileno()
+        return [fd] if fd >= 0 else []
+
+    # For the end
+
+    def is_ahead_of_disk(self, end: int) -> bool:
+        """Never: a reply comes when the line lasts."""
+        return False
+
+    def wait_for_sync(self, end: int) -> None:
+        """Does nothing, likewise."""
+
+    def close(self) -> None:
+        """Finishes what this process has in progress, and ends its part. A second close does nothing. Raises `StoreError` if the server
+        can't be told."""
+        if self._is_closed:
+            return
+        self._is_closed = True
+        self.clerk.end()
+        if threading.current_thread() is not self.clerk.thread:
+            self.clerk.thread.join()
+        if isinstance(self.clerk.fault, StoreError) and self.clerk.away is not None and self.clerk.held:
+            raise copy.copy(self.clerk.fault)
+
+    def end(self) -> None:
+        """The same, without waiting for it."""
+        self._is_closed = True
+        self.clerk.end()
+
+    def abandon(self) -> None:
+        """Ends its part without a word: in the child of a fork, whose paths are the parent's."""
+        self._is_closed = True
+        self.clerk.abandon()
+
+
+class ServedBegun(Begun):
+    """An operation that is to begin, in progress or over."""
+
+    __slots__ = ("_attempt",)
+
+    def __init__(self, paths: "ServedPaths", name: str, timeout: Optional[float]) -> None:
+        super().__init__(paths, name, timeout)
+        self._attempt: Optional[Start] = None
+
+    def store(self) -> ServedStore:
+        """Where it is begun."""
+        return cast(ServedPaths, self._paths)._served
+
+    def _begin(self, worker: int) -> int:
+        """Starts it, if it is admitted now."""
+        return self.store().start(self, worker, 0.0)
+
+    def _end(self) -> int:
+        """The finish of one that nobody will leave."""
+        self.store().drop(self)
+        return native.FINISHED
+
+
+class _Served(_Stored):
+    """An entry of paths over a server's log."""
+
+    __slots__ = ()
+
+    def __init__(self, paths: "ServedPaths", operation: str, timeout: Optional[float]) -> None:
+        self._begun = ServedBegun(paths, operation, timeout)  # type: ignore[misc]  # a slot of the entries below
+
+    def __enter__(self: T) -> T:
+        begun = cast(ServedBegun, cast(_Served, self)._begun)
+        worker = begun._paths._thread_worker()
+        if begun._live:
+            raise in_use(begun)
+        try:
+            _begin(begun, worker)
+        except InUse:
+            raise
+        except BaseException:
+            begun.store().give_up(begun)
+            raise
+        return self
+
+    def _try(self, worker: int) -> bool:
+        begun = cast(ServedBegun, self._begun)
+        if begun._live:
+            raise in_use(begun)
+        try:
+            return admitted(begun, _code_of_start(begun, worker, 0.0), worker)
+        except InUse:
+            raise
+        except BaseException:
+            begun.store().give_up(begun)
+            raise
+
+    def __del__(self) -> None:
+        begun = cast(Optional[ServedBegun], getattr(self, "_begun", None))
+        if begun is None or begun._paths._forked:
+            return
+        store = begun.store()
+        if begun._live and not store._is_closed:
+            store.drop(begun)
+            begun._paths._dropped(begun._name)
+
+
+def _begin(begun: ServedBegun, worker: int) -> None:
+    """Begins it when it is admitted. Raises `Timeout`."""
+    limit = begun._timeout
+    until = None if limit is None else time.monotonic() + limit
+    while not admitted(begun, _code_of_start(begun, worker, until), worker):
+        why = begun._paths.why(begun._name)
+        if why is not None:
+            raise _timeout(why, limit)
+
+
+def _code_of_start(begun: ServedBegun, worker: int, until: Optional[float]) -> int:
+    try:
+        return begun.store().start(begun, worker, until)
+    except Closed:
+        return native.CLOSED
+
+
+def _timeout(why: Blocked, limit: Optional[float]) -> Timeout:
+    return Timeout(why.operation, why.path, why.resource, why.text, why.in_progress, limit, why.may_begin)
+
+
+class ServedEntry(_Served):
+    """An entry of paths over a server's log."""
+
+    __slots__ = ("_begun",)
+
+
+class ServedAsyncEntry(_Served, AsyncEntry):
+    """The same for asyncio: the loop goes on while the server is asked. A task that is cancelled meanwhile may have started, and finishes
+    then."""
+
+    __slots__ = ("_begun",)
+
+    def __enter__(self) -> "ServedAsyncEntry":
+        return cast("ServedAsyncEntry", AsyncEntry.__enter__(self))
+
+    async def _enter_as_task(self) -> None:
+        begun = cast(ServedBegun, self._begun)
+        worker = begun._paths._task_worker()
+        if begun._live:
+            raise in_use(begun)
+        try:
+            await self._begin(begun, worker)
+        except InUse:
+            raise
+        except BaseException:
+            begun.store().give_up(begun)
+            raise
+
+    async def _begin(self, begun: ServedBegun, worker: int) -> None:
+        limit, paths = begun._timeout, cast(ServedPaths, begun._paths)
+        waits = limit is None or limit > 0
+        while True:
+            start = begun._attempt = Start(wake_nobody, begun, worker, waits, asyncio.get_running_loop())
+            alarm = None if limit is None or not waits else asyncio.get_running_loop().call_later(limit, begun.store().late, start)
+            try:
+                await _replied(begun.store(), start)
+            finally:
+                if alarm is not None:
+                    alarm.cancel()
+            if admitted(begun, _code_unless_closed(begun, start), worker):
+                return
+            question = Question(wake_nobody, lambda: paths._blocked_now(begun._name))
+            await _replied(begun.store(), question)
+            if _code_unless_closed(begun, question) == native.CLOSED:
+                raise paths._closed()
+            if question.value is not None:
+                raise _timeout(question.value, limit)
+            waits = False
+
+    async def __aexit__(self, kind: Optional[Type[BaseException]], error: Optional[BaseException], trace: Optional[TracebackType]) -> None:
+        if self._is_in_progress():
+            begun = cast(ServedBegun, self._begun)
+            finish = Finish(wake_nobody, begun)
+            cancelled: Optional[BaseException] = None
+            future = _replied(begun.store(), finish)
+            task = asyncio.ensure_future(future)
+            while not task.done():
+                try:
+                    await asyncio.wait([task])
+                except asyncio.CancelledError as told:
+                    cancelled = told
+            if begun.store().finished(begun, _code_unless_closed(begun, finish)) == native.CLOSED:
+                begun._live = False
+                raise begun._paths._closed()
+            if cancelled is not None:
+                raise cancelled
+
+
+def _code_unless_closed(begun: ServedBegun, request: Request) -> int:
+    try:
+        return begun.store().code_of(request)
+    except Closed:
+        return native.CLOSED
+
+
+async def _replied(store: ServedStore, request: Request) -> None:
+    """Hands a request to the clerk. Returns when the reply is there."""
+    loop, event = asyncio.get_running_loop(), asyncio.Event()
+    request.wake = lambda: cast(None, loop.call_soon_threadsafe(event.set))
+    store.clerk.submit(request)
+    await event.wait()
+
+
+class ServedQueues(Queues):
+    """Nobody waits in these: the clerk has its own."""
+
+    __slots__ = ("_clerk",)
+
+    def __init__(self, calls: Any, clerk: Clerk) -> None:
+        super().__init__(calls)
+        self._clerk = clerk
+
+    def waiting(self, op: int) -> int:
+        return self._clerk.waiting(op)
+
+
+class ServedPaths(StoredPaths):
+    """Paths over a log in PostgreSQL: what `Paths(text, store="postgresql://..", name=..)` makes. See `Paths`."""
+
+    _served: ServedStore
+
+    def _new_store(self, store: Any, source: bytes, handle: native.Handle, other: Dict[str, Any], **options: Any) -> Store:
+        name, grace, patience = other.pop("name", None), other.pop("grace", None), other.pop("patience", None)
+        if not isinstance(name, str) or not name:
+            raise ValueError('a store in PostgreSQL needs the log\'s name: `name="pool"`')
+        if options.pop("room", native.MOST_LINES) != native.MOST_LINES:
+            raise ValueError("a log in PostgreSQL has no room: all lines stay in its table")
+        self._grace = GRACE if grace is None else float(grace)
+        self._patience = PATIENCE if patience is None else float(patience)
+        if not (self._grace >= 0 and self._patience >= 0):
+            raise ValueError("`grace` and `patience` are seconds, not {} and {}".format(grace, patience))
+        self._served = ServedStore(str(store), source, handle, name=name, grace=self._grace, patience=self._patience, **options)
+        return cast(Store, self._served)  # it has the calls that paths make
+
+    def __call__(self, operation: str, timeout: Optional[float] = None) -> Entry:
+        return ServedEntry(self, operation, timeout)
+
+    def aio(self, operation: str, timeout: Optional[float] = None) -> AsyncEntry:
+        return ServedAsyncEntry(self, operation, timeout)
+
+    def _new_queues(self) -> Queues:
+        return ServedQueues(self._calls, self._served.clerk)
+
+    def _blocked_now(self, operation: str) -> Optional[Blocked]:
+        """In the clerk's thread: what forbids the operation."""
+        told = None if self._replica_can_start(operation) else self._read_report()
+        return None if told is None else self._why_of(operation, told)
+
+    def _replica_can_start(self, operation: str) -> bool:
+        return self._served._replica.can_start(self._number(operation))
+
+    def rotate(self) -> None:
+        """Does nothing: all lines stay in the table. Raises `Closed` likewise."""
+        self._asked(lambda: None)

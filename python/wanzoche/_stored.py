@@ -1,0 +1,541 @@
+"""Paths that all processes of a machine share, over a store."""
+
+from __future__ import annotations
+
+import asyncio
+import concurrent.futures
+import ctypes
+import threading
+import time
+import weakref
+from types import TracebackType
+from typing import Any, Callable, Dict, List, Optional, Tuple, Type, TypeVar, Union, cast
+
+from . import _native as native
+from ._attempts import admitted, check_seconds, in_use, raise_if_late, undo, waiting
+from ._entries import AsyncEntry, Entry, check_number, raise_refused_use
+from ._errors import Blocked, Closed, Lost, StoreError, WanzocheError
+from ._paths import Paths, audit, declaration_error
+from ._replica import Replica
+from ._store import CHECK, Store
+from ._texts import Live, Report, Verdict, read_report
+from ._waiting import Calls, Queue, Queues, TaskWaiter, ThreadWaiter, Waiter
+
+LINGER = 1.0
+"""So many seconds a follower stays for the next who waits."""
+T = TypeVar("T")
+_STARTED, _BLOCKED, _FINISHED = native.STARTED, native.BLOCKED, native.FINISHED
+
+
+def process_name(worker: int) -> str:
+    """`process 3`: the openings of a store are counted from 1, and no number is given twice."""
+    return "process {}".format(worker)
+
+
+def _worker_number(name: Union[str, int]) -> int:
+    word = str(name).split()[-1:]
+    if not word or not word[0].isdecimal():
+        raise ValueError("a worker is a number or `process NUMBER`, not {!r}".format(name))
+    return int(word[0])
+
+
+class Begun:
+    """An operation that is to begin, in progress or over: what its turn has to know. The turn has to do without the entry itself."""
+
+    __slots__ = ("_paths", "_op", "_name", "_word", "_timeout", "_live", "_number", "_worker", "__weakref__")
+
+    def __init__(self, paths: "StoredPaths", name: str, timeout: Optional[float]) -> None:
+        check_seconds(timeout)
+        self._paths = paths
+        self._op = paths._number(name)
+        self._name = name
+        self._word = name.encode()
+        self._timeout = timeout
+        self._live = False
+        self._number = self._worker = 0
+
+    def _begin(self, worker: int) -> int:
+        """Starts it, if it is admitted now. Then it is on the disk."""
+        code, end = self._begin_unsynced(worker)
+        if code == native.STARTED:
+            self._paths._store.wait_for_sync(end)
+        return code
+
+    def _begin_unsynced(self, worker: int) -> Tuple[int, int]:
+        """The same, and up to where the journal has yet to be synced."""
+        try:
+            return self._paths._store.start(self, self._word, worker)
+        except Closed:
+            return native.CLOSED, 0
+
+    def _end(self) -> int:
+        """The finish of one that nobody will leave, as after an exception: if it can't be written now, the next turn does it."""
+        store = self._paths._store
+        try:
+            return store.finish(self)[0]
+        except Lost:
+            return native.NOT_YOURS
+        except (StoreError, Closed):
+            if self._live and not store._is_closed:
+                store._dropped.append(self)
+            return native.CLOSED
+
+
+class _Stored(Entry):
+    """An entry of paths over a store."""
+
+    __slots__ = ()
+    _begun: Begun
+
+    def __init__(self, paths: "StoredPaths", operation: str, timeout: Optional[float]) -> None:
+        self._begun = Begun(paths, operation, timeout)  # type: ignore[misc]  # a slot of the entries below
+
+    @property
+    def _operation(self) -> Begun:  # type: ignore[override]
+        return self._begun
+
+    @property
+    def _live(self) -> bool:
+        return self._begun._live
+
+    @property
+    def worker(self) -> str:
+        """Who began it, as `process 3`. Raises `NotInProgress` before it is begun and when it is over."""
+        self._has_to_be_live()
+        return process_name(self._begun._paths._store.worker)
+
+    def __enter__(self: T) -> T:
+        begun = cast(_Stored, self)._begun
+        worker = begun._paths._thread_worker()
+        if begun._live:
+            raise in_use(begun)
+        try:
+            code = _begun_alone(begun, worker)
+            if code != _STARTED:
+                for waiter in waiting(begun, code, worker, ThreadWaiter):
+                    cast(ThreadWaiter, waiter).wait()
+        except BaseException as error:
+            undo(begun, error, worker, None)
+            raise
+        return self
+
+    def __exit__(
+        self, kind: Optional[Type[BaseException]], error: Optional[BaseException], trace: Optional[TracebackType]
+    ) -> None:
+        if self._is_in_progress():
+            self._finish()
+
+    def _is_in_progress(self) -> bool:
+        """Whether there is something to finish. Paths that were closed have done it."""
+        begun = self._begun
+        if begun._live and begun._paths._store._is_closed:
+            begun._live = False
+        return begun._live
+
+    def leave(self) -> None:
+        """Finishes the operation. Raises `NotInProgress` if it isn't in progress, `Lost` if others have finished it, and `Closed` if the
+        paths were closed meanwhile."""
+        if self._begun._live and self._begun._paths._store._is_closed:
+            self._begun._live = False
+            raise self._begun._paths._closed()
+        if not self._begun._live or self._finish() != native.FINISHED:
+            raise self._not_in_progress()
+
+    def _finish(self) -> int:
+        code, end = self._finish_unsynced()
+        store = self._begun._paths._store
+        if code == _FINISHED and store.sync:
+            store.wait_for_sync(end)
+        return code
+
+    def _finish_unsynced(self) -> Tuple[int, int]:
+        begun = self._begun
+        try:
+            return begun._paths._store.finish(begun)
+        except Closed:
+            begun._live = False
+            raise begun._paths._closed() from None
+
+    def _try(self, worker: int) -> bool:
+        begun = self._begun
+        if begun._live:
+            raise in_use(begun)
+        try:
+            code = begun._begin(worker)
+            return code == native.STARTED or admitted(begun, code, worker)
+        except BaseException as error:
+            undo(begun, error, worker, None)
+            raise
+
+    def _use(self, verb: int, number: int) -> int:
+        check_number(number)
+        self._has_to_be_live()
+        begun = self._begun
+        try:
+            answer = begun._paths._store.use(begun, verb, number)
+        except Closed:
+            raise begun._paths._closed() from None
+        if answer.code != native.USED:
+            raise_refused_use(begun, answer.code, verb, number)
+        return int(answer.number)
+
+    def __del__(self) -> None:
+        begun: Optional[Begun] = getattr(self, "_begun", None)
+        if begun is not None and begun._live and not begun._paths._forked and not begun._paths._store._is_closed:
+            begun._paths._store.drop(begun)
+            begun._paths._dropped(begun._name)
+
+
+def _begun_alone(begun: Begun, worker: int) -> int:
+    """Begins it, and waits at the store for its turn, if nobody else in this process waits for the operation: the answer's code."""
+    paths, limit = begun._paths, begun._timeout
+    store = paths._store
+    queues: Any = paths._queues
+    waits = (limit is None or limit > 0) and (not queues.alone and not queues.due or not queues.waiting(begun._op))
+    try:
+        code, told = store.start(begun, begun._word, worker, waits)
+        if code == _BLOCKED and (waits or limit is not None):
+            code, told = _waited_for(begun, worker, waits, told)
+    except Closed:
+        return native.CLOSED
+    if code == _STARTED and store.sync:
+        store.wait_for_sync(told)
+    return code
+
+
+def _waited_for(begun: Begun, worker: int, waits: bool, told: int) -> Tuple[int, int]:
+    """Of one that was blocked: waits for its turn, if it is to be waited for here. The same as of `Store.start`."""
+    store, queues, limit = begun._paths._store, cast(StoreQueues, begun._paths._queues), begun._timeout
+    me, code = object(), native.BLOCKED
+    try:
+        if waits:
+            queues.alone[me] = begun._op
+            code, told = store.wait_for_start(begun, begun._word, worker, told, None if limit is None else time.monotonic() + limit)
+        while code == native.BLOCKED and limit is not None and (waits or limit <= 0):
+            raise_if_late(begun, Waiter(begun._op, 0.0))
+            code, told = store.start(begun, begun._word, worker)
+    finally:
+        queues.alone.pop(me, None)
+    return code, told
+
+
+class StoredEntry(_Stored):
+    """An entry of paths over a store."""
+
+    __slots__ = ("_begun",)
+
+
+class StoredAsyncEntry(_Stored, AsyncEntry):
+    """The same for asyncio. Another thread waits for the disk. A task that is cancelled while it does so has started, and finishes."""
+
+    __slots__ = ("_begun",)
+
+    def __enter__(self) -> "StoredAsyncEntry":
+        return cast("StoredAsyncEntry", AsyncEntry.__enter__(self))
+
+    async def _enter_as_task(self) -> None:
+        begun = self._begun
+        worker = begun._paths._task_worker()
+        if begun._live:
+            raise in_use(begun)
+        waiter: Optional[TaskWaiter] = None
+        queues = begun._paths._queues
+        try:
+            code, end = begun._begin_unsynced(worker)
+            while code != native.STARTED and not admitted(begun, code, worker):
+                if waiter is None:
+                    waiter = TaskWaiter(begun._op, begun._timeout)
+                    queues.join(waiter)
+                else:
+                    raise_if_late(begun, waiter)
+                    await waiter.wait()
+                    queues.asks(waiter)
+                if not begun._paths._calls.is_blocked(begun._op):
+                    code, end = begun._begin_unsynced(worker)
+            if waiter is not None:
+                queues.quit(waiter)
+            await self._synced(end)
+        except BaseException as error:
+            undo(begun, error, worker, waiter)
+            raise
+
+    async def __aexit__(
+        self, kind: Optional[Type[BaseException]], error: Optional[BaseException], trace: Optional[TracebackType]
+    ) -> None:
+        if self._is_in_progress():
+            code, end = self._finish_unsynced()
+            if code == native.FINISHED:
+                await self._synced(end)
+
+    async def _synced(self, end: int) -> None:
+        """Waits until the journal is on the disk up to there."""
+        store = self._begun._paths._store
+        if store.is_ahead_of_disk(end):
+            await _aside(self._begun._paths._pool(), store.wait_for_sync, end)
+
+
+async def _aside(pool: concurrent.futures.Executor, call: Callable[..., T], *given: Any) -> T:
+    """What a call returns that another thread makes. A task that is cancelled meanwhile waits for its end, and then is."""
+    future = asyncio.get_running_loop().run_in_executor(pool, call, *given)
+    try:
+        return await asyncio.shield(future)
+    except asyncio.CancelledError:
+        while not future.done():
+            try:
+                await asyncio.wait([future])
+            except asyncio.CancelledError:
+                pass
+        if not future.cancelled():
+            future.exception()  # it is over, whatever it was
+        raise
+
+
+class StoreQueues(Queues):
+    """Who waits in this process. Those of an operation have a follower, which waits for all of them at the store; a thread that is the
+    first to wait for it does so itself."""
+
+    __slots__ = ("_store", "_followers", "alone")
+
+    def __init__(self, calls: Calls, store: Store) -> None:
+        super().__init__(calls)
+        self._store = store
+        self._followers: Dict[int, "Follower"] = {}
+        self.alone: Dict[object, int] = {}
+
+    def join(self, waiter: Waiter) -> Queue:
+        queue = super().join(waiter)
+        follower = self._followers.get(waiter.op)
+        if follower is None or not follower.goes_on():
+            self._followers[waiter.op] = follower = Follower(self, self._store, waiter.op)
+            follower.start()
+        return queue
+
+    def quit(self, waiter: Waiter) -> None:
+        super().quit(waiter)
+        self._store.pass_on(waiter.op)
+
+    def waiting(self, op: int) -> int:
+        return self.waiting_here(op) + list(self.alone.values()).count(op)
+
+    def waiting_here(self, op: int) -> int:
+        """How many wait for the follower."""
+        return super().waiting(op)
+
+    def wake_due(self, op: int) -> None:
+        """Wakes the first of those that wait for the operation, if it may start."""
+        for queue in list(self.due):
+            if queue.op == op and queue.waiters:
+                self._wake_first(queue)
+
+    def wake_every(self, op: int) -> None:
+        """Wakes all that wait for the operation, so that they ask themselves."""
+        for queue in list(self._queues.values()):
+            if queue.op == op:
+                for waiter in list(queue.waiters):
+                    self._wake(queue, waiter)
+
+
+class Follower(threading.Thread):
+    """Waits at the store while somebody in this process waits for an operation, and hands the turns on."""
+
+    def __init__(self, queues: StoreQueues, store: Store, op: int) -> None:
+        super().__init__(name="wanzoche follower", daemon=True)
+        self._queues = queues
+        self._store = store
+        self._op = op
+        self._called = threading.Event()
+        self._called.set()
+        self._ending = threading.Lock()
+        self._is_over = False
+
+    def goes_on(self) -> bool:
+        """Called when somebody has joined: whether this follower will see it. It has ended otherwise."""
+        self._called.set()
+        return not self._is_over and self.is_alive()
+
+    def run(self) -> None:
+        try:
+            while self._called.wait(LINGER):
+                self._called.clear()
+                self._follow()
+        except (WanzocheError, MemoryError, OSError, AttributeError):
+            pass  # whoever waits gets the same exception when it asks
+        self._is_over = True
+        if self._called.is_set() or self._queues.waiting_here(self._op):
+            self._queues.wake_every(self._op)
+            self._restart()
+
+    def _restart(self) -> None:
+        """For one that joined as this one ended."""
+        store, queues = self._store, self._queues
+        if not store._is_closed and store._fault is None and queues._followers.get(self._op) is self:
+            queues._followers[self._op] = follower = Follower(queues, store, self._op)
+            follower.start()
+
+    def _follow(self) -> None:
+        """While somebody waits."""
+        store, queues, op = self._store, self._queues, self._op
+        counts, is_late = 1, False
+        try:
+            while queues.waiting_here(op):
+                seen = store.look(op, counts, is_late)
+                counts = 0
+                queues.wake_due(op)
+                is_late = not store.sleep(op, seen, CHECK)
+        finally:
+            if not counts and not store._is_closed and store._fault is None:
+                store.look(op, -1, False)
+                store.pass_on(op)
+
+
+class StoredPaths(Paths):
+    """Paths over a store: what `Paths(text, store=..)` makes. See `Paths`."""
+
+    def __init__(
+        self,
+        text: Union[str, bytes],
+        *,
+        store: Any,
+        sync: bool = True,
+        lost: str = "finish",
+        room: int = native.MOST_LINES,
+        **other: Any,
+    ) -> None:
+        if other.pop("log", None) is not None or not other.pop("journal", True) or other.pop("resume", None) is not None:
+            raise ValueError("a store is the journal itself: it takes no `log`, no `journal` and no `resume`")
+        if lost not in ("finish", "keep"):
+            raise ValueError("`lost` is 'finish' or 'keep', not {!r}".format(lost))
+        source = self._source_of(text, room)
+        handle = native.Handle()
+        opened = self._new_store(store, source, handle, other, room=room, sync=sync, finishes_lost=lost == "finish")
+        self._store = opened
+        if other:
+            raise TypeError("Paths has no {}".format(", ".join(other)))
+        answer = opened.open()
+        if answer.code == native.OUT_OF_MEMORY:
+            raise MemoryError("no memory for a system")
+        if answer.code != native.OPENED:
+            raise declaration_error(answer, source)
+        self._executor: Optional[concurrent.futures.Executor] = None
+        self._set_out(source, opened.room, None)
+        self._read_names(handle)
+        self._finalizer = weakref.finalize(self, opened.end)
+        self._finalizer.atexit = False
+
+    def _new_store(self, store: Any, source: bytes, handle: native.Handle, other: Dict[str, Any], **options: Any) -> Store:
+        """The store, not yet open. It takes what it knows of the other options."""
+        return Store(store, source, handle, **options)
+
+    def __call__(self, operation: str, timeout: Optional[float] = None) -> Entry:
+        return StoredEntry(self, operation, timeout)
+
+    def aio(self, operation: str, timeout: Optional[float] = None) -> AsyncEntry:
+        return StoredAsyncEntry(self, operation, timeout)
+
+    @property
+    def worker(self) -> str:
+        """Who these paths are in the journal, as `process 3`. Each opening of a store has a number of its own."""
+        return process_name(self._store.worker)
+
+    def can_start(self, operation: str) -> bool:
+        op = self._number(operation)
+        return self._asked(lambda: self._store._replica.can_start(op))
+
+    def why(self, operation: str) -> Optional[Blocked]:
+        op = self._number(operation)
+        told = self._asked(lambda: None if self._store._replica.can_start(op) else self._read_report())
+        return None if told is None else self._why_of(operation, told)
+
+    def _why_of(self, operation: str, told: Report) -> Optional[Blocked]:
+        """What a report says that forbids the operation."""
+        number = told.blocked.get(operation)
+        if number is None:
+            return None
+        path = self._paths_of_text[number]
+        running = [(each.operation, each.worker) for each in told.live if each.operation in path.operations]
+        return Blocked(operation, number, path.resource, path.text, running)
+
+    def report(self) -> Report:
+        return self._asked(self._read_report)
+
+    def _read_report(self) -> Report:
+        told = read_report(self._text_of(native.report), process_name)
+        gone = {each.number for each in self._store.lost()}
+        return told._replace(lost=tuple(each for each in told.live if each.activation in gone))
+
+    def recover(self, worker: Union[str, int, Live], even_alive: bool = False) -> int:
+        """Finishes what a dead worker has in progress: how many operations that was. The worker is one of `report().lost`, or its name, or
+        its number.
+
+        Raises `ValueError` if the worker is alive, unless `even_alive`: then it gets `Lost` when it uses or leaves what it had. Only do
+        that when what it guards refuses a late writer by the token.
+        """
+        number = _worker_number(worker.worker if isinstance(worker, Live) else worker)
+        try:
+            return self._store.recover(number, even_alive)
+        except Closed:
+            raise self._closed() from None
+
+    def journal(self) -> str:
+        """All lines of the store, by all processes, without their marks; those too that were moved away."""
+        return "".join(self._texts())
+
+    def _texts(self) -> List[str]:
+        try:
+            return self._store.texts()
+        except Closed:
+            raise self._closed() from None
+
+    def rotate(self) -> None:
+        """Moves the journal's file away, to `FILE.1`, `FILE.2` and so on, and begins another. The paths do so by themselves when it has no
+        room left. All of them are read when the store is opened."""
+        try:
+            self._store.rotate()
+        except Closed:
+            raise self._closed() from None
+
+    def audit(self, text: Optional[str] = None, room: int = native.MOST_LINES) -> Verdict:
+        if self._forked:
+            raise self._closed()
+        if text is not None:
+            return audit(self._source, text, room)
+        replica = Replica(self._source, native.Handle())
+        replica.open()
+        try:
+            sound = all(replica.take_over(each.encode()) is None for each in self._texts())
+            return Verdict(None if sound else replica.lines)
+        finally:
+            replica.close()
+
+    def close(self) -> None:
+        """Finishes what this process has in progress, and gives the store and all memory back. Whoever waits gets `Closed`. A second close
+        does nothing, nor does one in the child of a fork."""
+        if self._forked:
+            return
+        try:
+            self._store.close()
+        finally:
+            self._queues.end_all()
+
+    # For entries
+
+    def _new_queues(self) -> Queues:
+        return StoreQueues(self._calls, self._store)
+
+    def _pool(self) -> concurrent.futures.Executor:
+        if self._executor is None:
+            self._executor = concurrent.futures.ThreadPoolExecutor(8, "wanzoche")
+        return self._executor
+
+    def _asked(self, question: Callable[[], T]) -> T:
+        try:
+            return self._store.ask(question)
+        except Closed:
+            raise self._closed() from None
+
+    def _made_room(self, before: Optional[int]) -> bool:
+        return False
+
+    def _after_fork(self) -> None:
+        self._store.abandon()
+        super()._after_fork()
