@@ -366,6 +366,101 @@ async function testAudit() {
   await shows("the trace is sound", () => text("journal-said"), "sound");
 }
 
+// What is said of the schedules of a script, and the items below it.
+const explored = async () => [await text("script-said"), await items("script-why")];
+const momentSaid = () => text("moment-said");
+
+async function testSchedules() {
+  await choose("crosswise");
+  await shows("an example without attempts has its script open", async () => [await on("#schedules", "it.open"), await field("script"), await field("attempts")],
+    [true, read("crosswise/script"), ""]);
+  await shows("nothing is played", () => on("#play", "it.hidden"), true);
+  await value(`document.getElementById("explore").focus()`);
+  await press("Enter");
+  const stall = ["A schedule stalls after 2 steps, and none sooner. It is under Attempts now.", ["sale: stalled hold_till", "refund: stalled hold_ledger"]];
+  await shows("a key explores", explored, stall);
+  await shows("the schedule is under the attempts", () => field("attempts"), "0 start hold_ledger\n1 start hold_till\n0 start hold_till\n1 start hold_ledger\n");
+  await shows("and answered", replies, ["started 0", "started 1", "blocked 1", "blocked 0"]);
+  await shows("at its end is the stall", async () => [await momentSaid(), await value(`document.querySelectorAll("#next .why li").length`)], ["after line 4 of 4", 3]);
+  same("the focus stays", await value("document.activeElement.id"), "explore");
+  await value(`(window.moments = [], new MutationObserver(() => moments.push($("moment-said").textContent)).observe($("moment-said"), { childList: true }))`);
+  await click("#play");
+  await until("beat === 0 && state.lines === 4");
+  same("it is played from the beginning, step by step", await value("moments.filter((it, i) => it !== moments[i - 1])"),
+    ["before line 1", ...[1, 2, 3, 4].map(it => `after line ${it} of 4`)]);
+  await click("#play");
+  await until("beat !== 0");
+  same("until it is stopped", await text("play"), "Stop");
+  await value(`document.getElementById("play").focus()`);
+  await press("Enter");
+  same("a key stops it", [await value("beat"), await text("play")], [0, "Play"]);
+  await click("#play");
+  await until("state.lines > 0");
+  await click("#earlier");
+  await until("beat === 0");
+  same("another moment stops it, too", [await text("play"), await value("state.lines < 4")], ["Play", true]);
+  same("what was written is taken back as if it were typed", await undone("attempts"), "");
+  await shows("and then nothing is to be played", () => on("#play", "it.hidden"), true);
+  await typeAtEnd("script", "process third\n");
+  await shows("of another script nothing is known", explored, ["", []]);
+  same("its text is taken back, too", await undone("script"), read("crosswise/script"));
+}
+
+async function testManySchedules() {
+  await choose("one_by_one");
+  await click("#explore");
+  await shows("five philosophers stall after five steps", async () => [(await text("script-said")).split(",")[0], (await replies()).length], ["A schedule stalls after 5 steps", 10]);
+  await choose("other_first");
+  await click("#explore");
+  await shows("one takes the other fork first", explored, ["No schedule stalls, and in none is a step refused: 1424 states.", []]);
+  same("and the attempts stay", await field("attempts"), "");
+  await choose("slot");
+  await shows("an example without a script has it closed", () => on("#schedules", "it.open"), false);
+  await click("#schedules summary");
+  await write("script", "process p\nenter remove\nleave\nend\n");
+  await click("#explore");
+  await shows("what stood under the attempts is kept", async () => [await text("script-said"), await value("drafts.at(-1).attempts")],
+    ["A schedule stalls after 0 steps, and none sooner. It is under Attempts now.", read("slot/attempts")]);
+  await write("script", "process p\nenter deposit\nuse take\nleave\nend\n");
+  await click("#explore");
+  await shows("a step that is refused", explored, ["A schedule has a step refused after 1 step, and none goes wrong sooner. It is under Attempts now.", ["p: faulted not offered"]]);
+  await shows("is the last line", replies, ["started 0", "not offered"]);
+  await write("script", "process p\nenter remvoe\nleave\nend\n");
+  await click("#explore");
+  await shows("a script at fault", explored, ["script: undeclared in line 2",
+    ["this isn't a declared operation", "expected the name of a declared operation", "nearest name: remove"]]);
+  await shows("is marked", () => value(`[...document.querySelector("#script-sheet .marks .rows").children].findIndex(it => it.className === "fault")`), 1);
+  await write("declaration", "resource");
+  await value(`document.getElementById("declaration").blur()`);
+  await click("#explore");
+  await shows("a declaration at fault comes first", () => text("script-said"), "First mend the declaration.");
+  await write("declaration", "resource r cell operation a end");
+  await write("script", Array.from({ length: 9 }, (_, i) => `process p${i}\n${"enter a\nleave\n".repeat(10)}end\n`).join(""));
+  await click("#explore");
+  await shows("too many states to say", () => text("script-said"),
+    "Undecided after 100000 states: there are more. pathsys explore looks at as many as its --most says.");
+}
+
+async function testScriptsElsewhere() {
+  await choose("crosswise");
+  await typeAtEnd("script", "process third\nend\n");
+  await until(`location.hash.includes("third")`);
+  const hash = await value("location.hash");
+  await openPage(hash);
+  await shows("a script comes back from its address", async () => [await field("script"), await on("#schedules", "it.open")],
+    [read("crosswise/script") + "process third\nend\n", true]);
+  await shows("its text area has a name", () => spokenAs("#script"),
+    ["textbox", "A script: processes, each with its steps in order. Is there an order of all their steps in which they get stuck?"]);
+  await click("#explore");
+  await shows("the buttons have names", async () => [await spokenAs("#explore"), await spokenAs("#play")], [["button", "Explore"], ["button", "Play"]]);
+  await shows("what was found is said in a status", () => spokenAs("#script-said"), ["status", ""]);
+  await size(390, 900, false);
+  await shows("nothing is wider than a narrow window", () => value("document.documentElement.scrollWidth <= 390"), true);
+  await shows("a process's line is whole there", () => on("#script-why li", "it.getBoundingClientRect().right <= 390"), true);
+  await size(1280, 1100, false);
+  await openPage();
+}
+
 async function testAddress() {
   await choose("pool");
   await shows("an example in the address", () => value("location.hash"), "#example=pool");
@@ -700,7 +795,9 @@ async function testFiles() {
   await choosing(["slot/declaration", "slot/attempts"]);
   await shows("so are attempts", () => field("attempts"), read("slot/attempts"));
   await value(`URL.createObjectURL = blob => { blob.text().then(it => { window.saved = it; }); return "#"; }`);
-  const saving = { declaration: read("slot/declaration"), attempts: read("slot/attempts"), journal: read("slot/trace") };
+  await choosing(["crosswise/script"]);
+  await shows("and a script", () => field("script"), read("crosswise/script"));
+  const saving = { declaration: read("slot/declaration"), attempts: read("slot/attempts"), journal: read("slot/trace"), script: read("crosswise/script") };
   for (const [kind, wanted] of Object.entries(saving)) {
     await value("window.saved = null, HTMLAnchorElement.prototype.click = function () { window.savedAs = this.download; }");
     await click("#save-" + kind);
@@ -833,7 +930,7 @@ try {
   await size(1280, 1100, false);
   await openPage();
   console.log((await text("about")).split(". ")[0]);
-  for (const test of [testExamples, testTyping, testHalfTyped, testClicking, testDrafts, testSlips, testAudit, testAddress, testPicture,
+  for (const test of [testExamples, testTyping, testHalfTyped, testClicking, testDrafts, testSlips, testAudit, testSchedules, testManySchedules, testScriptsElsewhere, testAddress, testPicture,
     testNumbers, testScrolling, testWorkers, testFirstScreen, testMoment, testTables, testWhy, testFiles, testContrast, testSpoken, testWithout, testMany]) await test();
   await choose("philosophers");
   await shoot("wide");

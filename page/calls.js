@@ -3,12 +3,14 @@
 //
 // An export takes, in this order: memory for its work, as the address of two words, its address and its size; the texts and numbers of
 // the call, a text as its address and its length; the buffers for both texts of the answer; and the address of two words for their
-// lengths. It returns the program's exit status, or TOO_SHORT. A call never gives memory back, so each has an instance of its own.
+// lengths. It returns the program's exit status, TOO_SHORT or UNDECIDED. A call never gives memory back, so each has an instance of its own.
 
 const STATUSES = ["done", "declaration refused", "room refused", "stream failed", "text refused", "unsound", "out of memory"];
 const TEXT_REFUSED = 4;
+const UNSOUND = 5;
 const OUT_OF_MEMORY = 6;
 const TOO_SHORT = 7;
+const UNDECIDED = 8;
 
 const MOST_LINES = 1048576;
 const MOST_MEMORY = 2 ** 30;
@@ -117,6 +119,8 @@ function callsOf(module) {
       call("explain", [declaration, room, attempts], 16 * attempts.length + PAGE, MEBIBYTE + 64 * attempts.length),
     // Whether a journal is sound, and if not, its first wrong line and what was owed; and how each resource stands behind that.
     judge: (declaration, journal, room = MOST_LINES) => call("judge", [declaration, room, journal], PAGE, MEBIBYTE + 16 * journal.length),
+    // What all schedules of a script come to, of which at most so many states are looked at.
+    explore: (declaration, script, most) => call("explore", [declaration, script, most], 8 * script.length + PAGE, 64 * MEBIBYTE),
     // The attempts as an SVG.
     picture: (declaration, attempts, room = roomFor(attempts)) =>
       call("picture", [declaration, room, attempts], 32 * attempts.length + PAGE, MEBIBYTE + 64 * attempts.length),

@@ -7,7 +7,7 @@ import { existsSync, readdirSync, readFileSync } from "node:fs";
 const [file, examples] = process.argv.slice(2);
 const page = readFileSync(file, "utf8");
 const element = id => new RegExp(`<script id="${id}"[^>]*>([^]*?)</script>`).exec(page)[1];
-const names = "{ callsOf, callOnce, answersTo, verdictOn, declaredIn, pathPlaces, lanesOf, Lines, standingIn, whyLast, faultWords, trimmedIn }";
+const names = "{ callsOf, callOnce, answersTo, verdictOn, exploredBy, declaredIn, pathPlaces, lanesOf, Lines, standingIn, whyLast, faultWords, trimmedIn }";
 const code = ["calls-code", "texts-code", "lanes-code", "tables-code"].map(element).join("\n");
 const its = new Function(`${code}\nreturn ${names};`)();
 const module = await WebAssembly.compile(Buffer.from(element("module"), "base64"));
@@ -30,7 +30,7 @@ function same(what, is, wanted) {
 
 same("imports", WebAssembly.Module.imports(module), []);
 const exported = WebAssembly.Module.exports(module).map(it => it.name).sort();
-same("exports", exported, ["__heap_base", "memory", ...["audit", "check", "compile", "explain", "judge", "picture", "trace"].map(it => "path_page_" + it)]);
+same("exports", exported, ["__heap_base", "memory", ...["audit", "check", "compile", "explain", "explore", "judge", "picture", "trace"].map(it => "path_page_" + it)]);
 
 // ---- the examples
 
@@ -59,6 +59,11 @@ for (const name of readdirSync(examples)) {
   if (read("listing") !== null) {
     const paths = its.trimmedIn(read("listing"));
     same(`${name}: semaphores`, paths.map(it => it.path), its.declaredIn(read("printed")).paths.map((_, i) => i));
+  }
+  if (read("explored") !== null) {
+    const found = calls.explore(declaration, read("script"), 100000);
+    same(`${name}: explored`, found.out + found.err, read("explored"));
+    if (found.status === 5) same(`${name}: its schedule`, calls.audit(declaration, found.out).out, "sound\n");
   }
   if (report !== null) same(`${name}: report`, calls.trace(declaration, attempts, true), done(trace + report));
   if (read("verdict") !== null) {
@@ -104,6 +109,30 @@ same("a wrong line behind a head", its.verdictOn(calls, SLOT, "journal 2 room 9\
   { says: "wrong line 2", isSound: false, line: 1 });
 same("a bad line behind a head", its.verdictOn(calls, SLOT, "journal 2 room 9\n1 strat\n"),
   { says: "text: bad line 2", line: 1, name: null, isSound: false });
+
+// ---- every schedule of a script
+
+const LOCKS = "resource a cell operation x path x end end resource b queue 1 operation y path y end end";
+const explored = (script, most = 100) => its.exploredBy(calls, LOCKS, script, most);
+const crosswise = "process p\nenter x\nenter y\nleave\nleave\nend\nprocess q\nenter y\nenter x\nleave\nleave\nend\n";
+same("a schedule that stalls", explored(crosswise), {
+  kind: "stalled", attempts: "0 start x\n1 start y\n0 start y\n1 start x\n", admitted: 2, processes: ["p: stalled y", "q: stalled x"],
+});
+same("a step that is refused", explored("process p\nenter y\nuse take\nleave\nend\n"), {
+  kind: "refused", attempts: "0 start y\n0 use 0 take\n", admitted: 1, processes: ["p: faulted empty"],
+});
+same("no schedule goes wrong", explored("process p\nenter x\nleave\nend\n"), { kind: "done", states: 3 });
+same("an empty script", explored(""), { kind: "done", states: 1 });
+same("too many states to say", explored("process p\nenter x\nleave\nend\n", 2), { kind: "undecided", states: 2 });
+same("what the module says of that", calls.explore(LOCKS, crosswise, 2), { status: 8, out: "", err: "undecided after 2 states\n" });
+same("a script at fault", explored("process p\nenter xy\nleave\nend\n"), {
+  kind: "fault", says: "script: undeclared in line 2", line: 1,
+  why: ["this isn't a declared operation", "expected the name of a declared operation", "nearest name: x"],
+});
+same("one that isn't over", explored("process p\n").says, "script: bad line 2");
+same("one that is too long", explored("\n".repeat(262145)), { kind: "fault", says: "script: too long", why: ["the text has more than 262,144 bytes"] });
+same("a declaration at fault", its.exploredBy(calls, "resource", crosswise, 9).says, "declaration: unexpected at 8");
+same("memory that is too small for a search at first", calls.call("explore", [LOCKS, crosswise, 100], 256, 16).status, 5);
 
 // ---- buffers and memory
 

@@ -9,11 +9,15 @@ const drafts = [];
 // What the case was before it was changed, if it is known: an example or a draft.
 let source = null;
 
+// The texts of a case. One that a case doesn't have is empty.
+const PARTS = ["declaration", "attempts", "journal", "script"];
+const partOf = (it, part) => it[part] ?? "";
+
 function caseNow() {
-  return { declaration: $("declaration").value, attempts: $("attempts").value, journal: $("journal").value };
+  return Object.fromEntries(PARTS.map(it => [it, $(it).value]));
 }
 
-const isSame = (one, other) => one.declaration === other.declaration && one.attempts === other.attempts && one.journal === other.journal;
+const isSame = (one, other) => PARTS.every(it => partOf(one, it) === partOf(other, it));
 
 const knownAs = now => [...examples, ...drafts].find(it => isSame(it, now));
 
@@ -29,7 +33,7 @@ function labelOfOwn() {
 // Keeps the case as a draft, unless it is known or empty.
 function keepDraft() {
   const now = caseNow();
-  if (!knownAs(now) && now.declaration + now.attempts + now.journal !== "") drafts.push({ ...labelOfOwn(), ...now });
+  if (!knownAs(now) && PARTS.some(it => now[it] !== "")) drafts.push({ ...labelOfOwn(), ...now });
 }
 
 let listed = "";
@@ -57,7 +61,7 @@ function showCase() {
 function fragmentOf(now) {
   const example = examples.find(it => isSame(it, now));
   if (example) return "example=" + example.name;
-  if (now.declaration.length + now.attempts.length + now.journal.length > MOST_LINKED) return null;
+  if (PARTS.reduce((sum, it) => sum + now[it].length, 0) > MOST_LINKED) return null;
   return String(new URLSearchParams(Object.entries(now).filter(([part, text]) => part === "declaration" || text !== "")));
 }
 
@@ -80,9 +84,8 @@ function openAddress() {
   const named = new URLSearchParams(location.hash.slice(1));
   const part = name => named.get(name) ?? "";
   const example = examples.find(it => it.name === named.get("example"));
-  const isOwn = ["declaration", "attempts", "journal"].some(it => named.has(it));
   if (example) open(example);
-  else if (isOwn) open({ declaration: part("declaration"), attempts: part("attempts"), journal: part("journal") });
+  else if (PARTS.some(it => named.has(it))) open(Object.fromEntries(PARTS.map(it => [it, part(it)])));
   else open(history.state ?? examples[0]);
 }
 
@@ -91,25 +94,28 @@ function open(it) {
   const isFirst = declared.text === null;
   if (!isFirst) keepDraft();
   source = it.label || it.name ? it : null;
-  $("audit").open = true;
+  $("audit").open = $("schedules").open = true;
   isBefore = false;
-  for (const id of ["declaration", "attempts", "journal"]) {
-    sheetOf(id).widen(new Lines(it[id]).length);
-    if (isFirst) $(id).value = it[id];
-    else rewrite($(id), it[id]);
+  for (const id of PARTS) {
+    const text = partOf(it, id);
+    sheetOf(id).widen(new Lines(text).length);
+    if (isFirst) $(id).value = text;
+    else rewrite($(id), text);
     if (id !== "attempts") $(id).scrollTop = 0;
-    $(id).setSelectionRange(it[id].length, it[id].length);
+    $(id).setSelectionRange(text.length, text.length);
   }
   $("audit").open = it.journal !== "";
+  $("schedules").open = partOf(it, "script") !== "" && (!it.name || it.attempts === "");
   $("workers").textContent = "";
   isTyping = false;
   show();
   judge();
+  showScript();
   attemptsSheet.reveal(answered.length - 1);
   noteAddress();
 }
 
-const sheetOf = id => ({ declaration: declarationSheet, attempts: attemptsSheet, journal: journalSheet })[id];
+const sheetOf = id => ({ declaration: declarationSheet, attempts: attemptsSheet, journal: journalSheet, script: scriptSheet })[id];
 
 // Copies the address of the case.
 async function copyLink() {
@@ -127,8 +133,9 @@ const sayOfFiles = text => say("files-said", escaped(text));
 // A longer file isn't read.
 const MOST_READ = 2 ** 24;
 
-// Which of the three texts a file has.
+// Which of the four texts a file has.
 function kindOf(text) {
+  if (/^process /.test(text)) return "script";
   if (/^(journal \d|\d+ [^\n:]*: )/.test(text)) return "journal";
   return /^\d+ /.test(text) ? "attempts" : "declaration";
 }
@@ -160,6 +167,7 @@ function layOutForPaper() {
   showLong($("declaration-printed"), $("declaration").value);
   showLong($("attempts-printed"), `${standingIn(out).front}\n${answered.lines.text.slice(answered.answeredText.length)}`.trim());
   showLong($("journal-printed"), $("journal").value);
+  showLong($("script-printed"), $("script").value);
 }
 
 // The picture of what is answered, as the program draws it.

@@ -17,7 +17,7 @@ HERE = os.path.dirname(os.path.realpath(__file__))
 TOP = os.path.dirname(HERE)
 PAGE = os.path.join(HERE, "wanzoche.html")
 CODE = ["calls.js", "texts.js", "lanes.js", "tables.js", "sheet.js", "state.js", "steps.js", "picture.js",
-        "cases.js", "page.js"]
+        "schedules.js", "cases.js", "page.js"]
 STYLE = "page.css"
 MODULE = re.compile(r'<script id="module" type="text/plain" data-sources="(\w+)">([^<]*)</script>')
 
@@ -65,10 +65,32 @@ def examples():
     """The examples with a declaration, in the order of the table of examples/README.md, each with what it shows, by the table or by
     shown.json."""
     rows = re.findall(r"^\| `(\w+)` \| (.+) \|$", read(TOP, "examples", "README.md"), re.MULTILINE)
-    texts = ("declaration", "attempts", "journal")
+    texts = ("declaration", "attempts", "journal", "script")
     found = [{"name": name, "shows": shows.replace("`", ""), **{it: text_of(name, it) for it in texts}} for name, shows in rows]
     instead = shown_instead()
     return [{**example, **instead.get(example["name"], {})} for example in found if example["declaration"]]
+
+
+def number_at(module, at):
+    """The number in a module that begins there, and where it ends."""
+    number = shift = 0
+    while True:
+        byte = module[at]
+        number, shift, at = number | (byte & 127) << shift, shift + 7, at + 1
+        if byte < 128:
+            return number, at
+
+
+def without_names(module):
+    """A module without its custom sections: the names of its functions, and what made it. No engine needs them."""
+    kept, at = module[:8], 8
+    while at < len(module):
+        size, begin = number_at(module, at + 1)
+        end = begin + size
+        if module[at] != 0:
+            kept += module[at:end]
+        at = end
+    return kept
 
 
 def allowed(texts):
@@ -105,7 +127,7 @@ def main(first, to=None):
             sys.exit("page/wanzoche.html has a module of other sources: run page/build")
     else:
         with open(first, "rb") as file:
-            fill(sum_of_sources(), base64.b64encode(file.read()).decode(), to)
+            fill(sum_of_sources(), base64.b64encode(without_names(file.read())).decode(), to)
 
 
 main(*sys.argv[1:])

@@ -71,7 +71,10 @@ function show() {
   readDeclaration();
   readAttempts();
   showAttempts();
-  if (text !== declared.text && text !== null) judge();
+  if (text !== declared.text && text !== null) {
+    judge();
+    showScript();
+  }
   clearTimeout(following);
   if (isLarge()) following = setTimeout(showRest, 100);
   else showRest();
@@ -86,6 +89,7 @@ function showRest() {
   $("save-declaration").disabled = $("declaration").value === "";
   $("save-attempts").disabled = answered.lines.text === "";
   $("save-journal").disabled = $("save-picture").disabled = answered.length === 0;
+  showPlay();
   showWhole();
 }
 
@@ -104,6 +108,9 @@ function listen() {
     $(id).addEventListener("blur", () => isWriting || judgeTyped());
   }
   $("journal").addEventListener("input", () => isWriting || showJournal());
+  $("script").addEventListener("input", () => isWriting || (showScript(), showWhole()));
+  $("explore").addEventListener("click", explore);
+  $("play").addEventListener("click", play);
   document.addEventListener("selectionchange", () => {
     if (document.activeElement === $("attempts") && !isWriting) caretMoved();
   });
@@ -144,6 +151,7 @@ function listen() {
   $("save-declaration").addEventListener("click", () => save("declaration", "text/plain", $("declaration").value));
   $("save-attempts").addEventListener("click", () => save("attempts", "text/plain", answered.lines.text));
   $("save-journal").addEventListener("click", () => save("journal", "text/plain", journalText()));
+  $("save-script").addEventListener("click", () => save("script", "text/plain", $("script").value));
   $("save-picture").addEventListener("click", () => save("picture.svg", "image/svg+xml", pictureFile()));
   window.addEventListener("hashchange", () => { if (location.hash.slice(1) !== lastFragment) openAddress(); });
 }
@@ -161,6 +169,7 @@ async function begin() {
   declarationSheet = new Sheet("declaration");
   attemptsSheet = new Sheet("attempts");
   journalSheet = new Sheet("journal");
+  scriptSheet = new Sheet("script");
   pictureView = viewOf($("picture"));
   listen();
   openAddress();

@@ -34,7 +34,7 @@ function showLong(element, text) {
 
 const examples = JSON.parse($("examples").textContent);
 let calls = null;
-let declarationSheet, attemptsSheet, journalSheet;
+let declarationSheet, attemptsSheet, journalSheet, scriptSheet;
 // What was read of the declaration's text, and of the attempts under it.
 let declared = { text: null, lines: new Lines(""), isRead: false, operations: [], paths: [], fault: null };
 let answered = new Answers("", new Lines(""), 0, "", null);

@@ -193,6 +193,30 @@ function verdictOn(calls, declaration, journal) {
   return { says: fromOne(says, head + 1), isSound: told.status === 0, line: wrong ? Number(wrong[1]) + head : undefined };
 }
 
+// Where a script is refused: { says, line, why }; `line` counts from 0, and `says` from 1.
+function scriptFault(err) {
+  const [says = "", ...place] = linesOf(err);
+  const line = /^script: .* (\d+)$/.exec(says);
+  return { says: fromOne(says), line: line ? Number(line[1]) : undefined, why: faultWords(place.join("\n")) };
+}
+
+// What all schedules of a script come to, by `kind`: "done" or "undecided", with how many states were looked at; "stalled" or "refused",
+// with the attempts of a shortest that goes wrong, how many of them are admitted, and where each process is; or "fault".
+function exploredBy(calls, declaration, script, most) {
+  const { status, out, err } = calls.explore(declaration, script, most);
+  if (status === 0) return { kind: "done", states: Number(/^states (\d+)$/m.exec(out)[1]) };
+  if (status === UNDECIDED) return { kind: "undecided", states: most };
+  if (status !== UNSOUND) return { kind: "fault", ...scriptFault(err || STATUSES[status]) };
+  const lines = linesOf(out).slice(1).map(it => it.split(": "));
+  const processes = linesOf(err);
+  return {
+    kind: processes.some(it => it.includes(": faulted ")) ? "refused" : "stalled",
+    attempts: lines.map(([attempt]) => attempt + "\n").join(""),
+    admitted: lines.filter(([, reply]) => /^(started|used|finished)/.test(reply)).length,
+    processes,
+  };
+}
+
 // What `explain` says behind attempts or a journal, of which `front` is what is said of the lines themselves: { front, resources, waits };
 // of each resource its name, lines on how it stands, and whether it is stuck; and lines on who waits, if all that is live does.
 function standingIn(text) {
