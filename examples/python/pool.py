@@ -1,15 +1,21 @@
-"""A pool of three connections, and a maintenance window that waits until all are back and lets nobody in meanwhile."""
+"""A pool of three connections, and a maintenance window that comes although queries overlap all the time.
+
+Who wants to query passes a door first, `admit`. Maintenance closes it, `announce`, and begins when the queries behind it are over.
+"""
 
 import threading
-from typing import List
+from contextlib import contextmanager
+from typing import Iterator, List
 
 from wanzoche import Paths, Timeout
 
 paths = Paths(
     """
     resource pool cell
-    operation query, maintain
+    operation query, maintain, admit, announce, give_up
     path { query : 3 } , maintain end
+    path admit , (announce ; maintain) end
+    path { admit ; (query , give_up) } end
     end
     """
 )
@@ -17,19 +23,35 @@ answers: List[int] = []
 answering = threading.Lock()
 
 
-@paths.guards("query")
+@contextmanager
+def connection(timeout: float = 60) -> Iterator[None]:
+    """One of three, for a `with` statement. Raises `Timeout` if there is none in time."""
+    paths.enter("admit", timeout).leave()
+    try:
+        entry = paths.enter("query", timeout)
+    except BaseException:
+        paths.enter("give_up").leave()  # else this admission would let somebody else in
+        raise
+    try:
+        yield
+    finally:
+        entry.leave()
+
+
 def query(number: int) -> None:
-    with answering:
+    with connection(), answering:
         answers.append(number * number)
 
 
 def maintain() -> None:
+    paths.enter("announce").leave()
     with paths("maintain"):
         assert [each.operation for each in paths.report().live] == ["maintain"]
         try:
-            paths.enter("query", timeout=0.01)
+            with connection(timeout=0.01):
+                pass
         except Timeout as error:
-            print("a {} has to wait: {}".format(error.operation, error.text))
+            print("{} has to wait: {}".format(error.operation, error.text))
 
 
 threads = [threading.Thread(target=query, args=(n,)) for n in range(40)]
