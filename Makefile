@@ -137,10 +137,13 @@ test_rust:
 test: all test_program test_library test_package test_page
 	@echo "make test: all passed"
 
-test_program: $(program)
+test_program: $(program) library
 	examples/run $(program)
 	examples/follow_test $(program)
 	examples/terminal_test $(program)
+	examples/done_test $(program)
+	WANZOCHE_LIBRARY=$(realpath $(shared_library)) examples/lasting_test $(realpath $(program)) follow examples/slot/declaration \
+	    --room 1048576 --journal FILE
 
 test_library: library
 	c/tests/run $(OUT)
@@ -161,8 +164,9 @@ pages := $(wildcard docs/*.md)
 installed := bin/pathsys \
     $(LIBDIR)/libwanzoche.a $(LIBDIR)/libwanzoche.so.0 $(LIBDIR)/libwanzoche.so $(LIBDIR)/pkgconfig/wanzoche.pc \
     include/wanzoche.h include/wanzoche_monitor.h \
-    share/man/man1/pathsys.1 share/man/man3/wanzoche.3 \
-    share/bash-completion/completions/pathsys share/zsh/site-functions/_pathsys share/fish/vendor_completions.d/pathsys.fish
+    share/man/man1/pathsys.1 share/man/man1/wanzoche.1 share/man/man3/wanzoche.3 \
+    $(foreach name,pathsys wanzoche,share/bash-completion/completions/$(name) share/zsh/site-functions/_$(name) \
+        share/fish/vendor_completions.d/$(name).fish)
 
 install: all
 	$(INSTALL) -d $(addprefix $(to)/,$(sort $(dir $(installed)))) $(to)/share/doc/wanzoche
@@ -171,11 +175,12 @@ install: all
 	ln -sf libwanzoche.so.0 $(to)/$(LIBDIR)/libwanzoche.so
 	printenv pc_of_prefix > $(to)/$(LIBDIR)/pkgconfig/wanzoche.pc
 	$(INSTALL) -m 644 $(headers) $(to)/include/
-	$(INSTALL) -m 644 man/pathsys.1 $(to)/share/man/man1/
+	$(INSTALL) -m 644 man/pathsys.1 man/wanzoche.1 $(to)/share/man/man1/
 	$(INSTALL) -m 644 man/wanzoche.3 $(to)/share/man/man3/
 	$(INSTALL) -m 644 completions/pathsys.bash $(to)/share/bash-completion/completions/pathsys
-	$(INSTALL) -m 644 completions/_pathsys $(to)/share/zsh/site-functions/
-	$(INSTALL) -m 644 completions/pathsys.fish $(to)/share/fish/vendor_completions.d/
+	$(INSTALL) -m 644 completions/wanzoche.bash $(to)/share/bash-completion/completions/wanzoche
+	$(INSTALL) -m 644 completions/_pathsys completions/_wanzoche $(to)/share/zsh/site-functions/
+	$(INSTALL) -m 644 completions/pathsys.fish completions/wanzoche.fish $(to)/share/fish/vendor_completions.d/
 	$(INSTALL) -m 644 README.md CHANGELOG.md dist/NOTICE $(pages) docs/page.png $(to)/share/doc/wanzoche/
 
 uninstall:

@@ -3,17 +3,18 @@
 # It lies as `pathsys` in share/bash-completion/completions, or is sourced by ~/.bashrc.
 
 _pathsys() {
-    local word=${COMP_WORDS[COMP_CWORD]} commands='check compile trace explain follow picture audit run help' options='' wants='' files=0 first=2 n it
+    local word=${COMP_WORDS[COMP_CWORD]} commands='check compile trace explain follow picture audit run explore help' options='' wants='' files=0 first=2 n it
     COMPREPLY=()
     case ${COMP_WORDS[1]} in
     check) files=1 options=' --help ' ;;
     compile) files=1 options=' --help ' ;;
-    trace) files=2 options=' --room --report --help ' ;;
-    explain) files=2 options=' --journal --room --help ' ;;
-    follow) files=1 options=' --room --help ' ;;
+    trace) files=2 options=' --room --report --after --help ' ;;
+    explain) files=2 options=' --journal --room --after --help ' ;;
+    follow) files=1 options=' --room --journal --sync --help ' ;;
     picture) files=2 options=' --journal --room --help ' ;;
     audit) files=999 options=' --room --help ' ;;
     run) files=2 options=' --room --help ' ;;
+    explore) files=2 options=' --most --help ' ;;
     -*) first=1 options=' --room --report --help --version ' ;;
     esac
     if [[ $COMP_CWORD -eq 1 && $word != -* || $COMP_CWORD -eq 2 && ${COMP_WORDS[1]} == help ]]; then
@@ -25,10 +26,14 @@ _pathsys() {
     for ((n = first; n < COMP_CWORD; n++)); do
         it=${COMP_WORDS[n]}
         if [ "$it" = = ]; then continue; fi
-        if [ -n "$wants" ]; then wants='' && continue; fi
+        case $wants:$it in
+        :* | --after:-*) wants='' ;;
+        --after:*) continue ;;
+        *) wants='' && continue ;;
+        esac
         options=${options/ ${it%%=*} / }
         case $it in
-        --journal | --room) wants=$it ;;
+        --after | --journal | --most | --room | --sync) wants=$it ;;
         esac
         case $it in
         --journal | --journal=*) files=$((files - 1)) ;;
@@ -39,8 +44,11 @@ _pathsys() {
 
     # An option in the place of a file needs one that is left. `default` lets bash complete a file.
     if [ "$files" -le 0 ]; then options=${options/ --journal / }; fi
+    case $wants:$word in
+    --after:-*) wants='' ;;
+    esac
     case $wants in
-    --journal) compopt -o default ;;
+    --after | --journal) compopt -o default ;;
     '')
         if [[ $word == -* ]]; then
             COMPREPLY=($(compgen -W "$options" -- "$word"))

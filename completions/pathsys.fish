@@ -4,10 +4,23 @@
 
 function __pathsys_words --description 'the words before the cursor, without an option whose value is being typed'
     set -l words (commandline -opc)
-    if contains -- $words[-1] --journal --room
+    if contains -- $words[-1] --after --journal --most --room --sync
         set -e words[-1]
     end
     string join \n -- $words
+end
+
+function __pathsys_goes_on --description 'whether the words before the cursor end with values of the option that takes several'
+    set -l given 0
+    for word in (commandline -opc)
+        switch $word
+            case --after
+                set given 1
+            case '-*'
+                set given 0
+        end
+    end
+    test $given -eq 1
 end
 
 function __pathsys_is --argument-names command --description 'whether the first word is this command, or an option if none is named'
@@ -24,13 +37,24 @@ function __pathsys_wants --argument-names command files --description 'whether t
     set -l words (__pathsys_words)
     set -e words[1..2]
     set -l is_value 0
+    set -l are_values 0
     for word in $words
         if test $is_value -eq 1
             set is_value 0
             continue
         end
         switch $word
-            case --journal --room
+            case --after
+                set are_values 1
+                continue
+            case '-*'
+                set are_values 0
+        end
+        if test $are_values -eq 1
+            continue
+        end
+        switch $word
+            case --journal --most --room --sync
                 set is_value 1
         end
         switch $word
@@ -62,6 +86,7 @@ complete -c pathsys -n __pathsys_wants_command -a follow -d 'Answers each attemp
 complete -c pathsys -n __pathsys_wants_command -a picture -d 'Draws attempts with their replies, or a journal, as an SVG: who ran when'
 complete -c pathsys -n __pathsys_wants_command -a audit -d 'Says whether a journal is sound, or names its first wrong line'
 complete -c pathsys -n __pathsys_wants_command -a run -d 'Runs the processes of a script, writes the journal and says how each process ended'
+complete -c pathsys -n __pathsys_wants_command -a explore -d 'Says whether every schedule of a script ends done, or writes a shortest that doesn\'t'
 complete -c pathsys -n __pathsys_wants_command -a help -d 'Print this message or the help of the given subcommand(s)'
 complete -c pathsys -n '__pathsys_is; and __pathsys_lacks --room' -l room -x -d 'how many lines the journal has room for, 1 to 1048576; 4096 if it isn\'t given'
 complete -c pathsys -n '__pathsys_is; and __pathsys_lacks --report' -l report -d 'then writes what can start, what is blocked and what is live, and whether all is stuck'
@@ -72,15 +97,21 @@ complete -c pathsys -n '__pathsys_is check; and __pathsys_lacks --help' -s h -l 
 complete -c pathsys -n '__pathsys_wants compile 1' -F
 complete -c pathsys -n '__pathsys_is compile; and __pathsys_lacks --help' -s h -l help -d 'Print help'
 complete -c pathsys -n '__pathsys_wants trace 2' -F
-complete -c pathsys -n '__pathsys_is trace; and __pathsys_lacks --room' -l room -x -d 'how many lines the journal has room for, 1 to 1048576; 4096 if it isn\'t given'
+complete -c pathsys -n '__pathsys_is trace; and __pathsys_lacks --room' -l room -x -d 'how many lines the journal has room for, 1 to 1048576, unless its file says so; 4096 if it isn\'t given'
 complete -c pathsys -n '__pathsys_is trace; and __pathsys_lacks --report' -l report -d 'then writes what can start, what is blocked and what is live, and whether all is stuck'
+complete -c pathsys -n '__pathsys_is trace; and __pathsys_lacks --after' -l after -r -F -d 'the file of a journal that the attempts go on from, or those of its segments, in order'
 complete -c pathsys -n '__pathsys_is trace; and __pathsys_lacks --help' -s h -l help -d 'Print help'
+complete -c pathsys -n __pathsys_goes_on -F
 complete -c pathsys -n '__pathsys_wants explain 2' -F
 complete -c pathsys -n '__pathsys_wants explain 2; and __pathsys_lacks --journal' -l journal -r -F -d 'the file of a journal, in place of attempts'
 complete -c pathsys -n '__pathsys_is explain; and __pathsys_lacks --room' -l room -x -d 'how many lines the journal has room for, 1 to 1048576, unless its text says so; 4096 if it isn\'t given'
+complete -c pathsys -n '__pathsys_is explain; and __pathsys_lacks --after' -l after -r -F -d 'the file of a journal that the attempts go on from, or those of its segments, in order'
 complete -c pathsys -n '__pathsys_is explain; and __pathsys_lacks --help' -s h -l help -d 'Print help'
+complete -c pathsys -n __pathsys_goes_on -F
 complete -c pathsys -n '__pathsys_wants follow 1' -F
-complete -c pathsys -n '__pathsys_is follow; and __pathsys_lacks --room' -l room -x -d 'how many lines the journal has room for, 1 to 1048576; 4096 if it isn\'t given'
+complete -c pathsys -n '__pathsys_is follow; and __pathsys_lacks --room' -l room -x -d 'how many lines the journal has room for, 1 to 1048576, unless its file says so; 4096 if it isn\'t given'
+complete -c pathsys -n '__pathsys_is follow; and __pathsys_lacks --journal' -l journal -r -F -d 'the file that keeps the journal: it is made, or gone on from'
+complete -c pathsys -n '__pathsys_is follow; and __pathsys_lacks --sync' -l sync -x -d 'when lines are on the disk: each before its answer, which is the usual, all at the end, or as it comes [possible values: each, close, never]'
 complete -c pathsys -n '__pathsys_is follow; and __pathsys_lacks --help' -s h -l help -d 'Print help'
 complete -c pathsys -n '__pathsys_wants picture 2' -F
 complete -c pathsys -n '__pathsys_wants picture 2; and __pathsys_lacks --journal' -l journal -r -F -d 'the file of a journal, in place of attempts'
@@ -92,3 +123,6 @@ complete -c pathsys -n '__pathsys_is audit; and __pathsys_lacks --help' -s h -l 
 complete -c pathsys -n '__pathsys_wants run 2' -F
 complete -c pathsys -n '__pathsys_is run; and __pathsys_lacks --room' -l room -x -d 'how many lines the journal has room for, 1 to 1048576; 4096 if it isn\'t given'
 complete -c pathsys -n '__pathsys_is run; and __pathsys_lacks --help' -s h -l help -d 'Print help'
+complete -c pathsys -n '__pathsys_wants explore 2' -F
+complete -c pathsys -n '__pathsys_is explore; and __pathsys_lacks --most' -l most -x -d 'how many states are looked at before it gives up, 1 to 4294967295; 1000000 if it isn\'t given'
+complete -c pathsys -n '__pathsys_is explore; and __pathsys_lacks --help' -s h -l help -d 'Print help'

@@ -1,12 +1,15 @@
-"""The commands and options of pathsys as a table, read from its help.
+"""The commands and options of a program as a table: of pathsys read from its help, of wanzoche from its parser.
 
-The help is the one source: the man page and the completions are made of this table. So a command or an option that the program gets
-is in both of them as soon as they are made again.
+The help and the parser are the one source: the man pages and the completions are made of these tables. So a command or an option that a
+program gets is in both of them as soon as they are made again.
 """
 
 from __future__ import annotations
 
+import argparse
+import os
 import re
+import runpy
 import subprocess
 from typing import Dict, Iterator, List, NamedTuple, Optional, Tuple
 
@@ -32,12 +35,13 @@ class Argument(NamedTuple):
 
 
 class Option(NamedTuple):
-    """An option: `names` are its spellings, the long one last; `value` is None if it takes none."""
+    """An option: `names` are its spellings, the long one last; `value` is None if it takes none, and `several` says whether it takes more."""
 
     names: List[str]
     value: Optional[str]
     help: str
     default: Optional[str]
+    several: bool
 
 
 class Command(NamedTuple):
@@ -91,12 +95,13 @@ def _argument(called: str, said: str) -> Argument:
 
 
 def _option(called: str, said: str) -> Option:
-    """An option, as `-h, --help` or `--room <N>`."""
-    parts = re.match(r"^((?:-\w, )?-(?:\w|-[\w-]+))(?: <(\w+)>)?$", called)
+    """An option, as `-h, --help`, `--room <N>` or `--after <JOURNAL>...`."""
+    parts = re.match(r"^((?:-\w, )?-(?:\w|-[\w-]+))(?: <(\w+)>(\.\.\.)?)?$", called)
     if not parts:
         raise HelpFault("no option: {!r}".format(called))
     default = _DEFAULT.search(said)
-    return Option(parts.group(1).split(", "), parts.group(2), _DEFAULT.sub("", said), default.group(1) if default else None)
+    said = _DEFAULT.sub("", said)
+    return Option(parts.group(1).split(", "), parts.group(2), said, default.group(1) if default else None, parts.group(3) is not None)
 
 
 def command_of(name: str, text: str) -> Command:
@@ -137,6 +142,35 @@ def read_program(program: str) -> Program:
     return Program(command_of("pathsys", own), commands, listed["help"])
 
 
+def _table_of(name: str, about: str, parser: argparse.ArgumentParser) -> Command:
+    """The command that a parser of Python's reads."""
+    arguments, options = [], []
+    for each in parser._actions:
+        shown = each.metavar if isinstance(each.metavar, str) else ""
+        said = (each.help or "").replace("%(default)s", str(each.default))
+        if each.option_strings:
+            options.append(Option(list(each.option_strings), shown or None, said, None, False))
+        elif not isinstance(each, argparse._SubParsersAction):
+            arguments.append(Argument(shown, said, True, each.nargs is not None))
+    return Command(name, about, arguments, options, [])
+
+
+def read_parser(path: str, version: str) -> Program:
+    """The table of the program whose parser is made by the function `parser` in this file of Python."""
+    parser: argparse.ArgumentParser = runpy.run_path(path)["parser"](version)
+    commands = next(each for each in parser._actions if isinstance(each, argparse._SubParsersAction))
+    about = {each.dest: each.help or "" for each in commands._choices_actions}
+    listed = [_table_of(name, about[name], commands.choices[name]) for name in about]
+    return Program(_table_of(parser.prog, parser.description or "", parser), listed, "")
+
+
+def read_wanzoche(top: str) -> Program:
+    """The table of the command wanzoche, in the repository that begins there."""
+    with open(os.path.join(top, "VERSION"), encoding="utf-8") as file:
+        version = file.read().strip()
+    return read_parser(os.path.join(top, "python", "wanzoche", "_options.py"), version)
+
+
 def stands_for(option: Option, command: Command) -> Optional[Argument]:
     """The argument in whose place an option is given, as its help says: `in place of attempts`."""
     said = _IN_PLACE_OF.search(option.help)
@@ -146,4 +180,4 @@ def stands_for(option: Option, command: Command) -> Optional[Argument]:
 
 def is_file(help: str) -> bool:
     """Whether what an argument or a value is, in the words of the help, is a file."""
-    return help.startswith("the file of ")
+    return help.startswith(("the file of ", "the file that "))

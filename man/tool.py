@@ -88,9 +88,14 @@ def statuses_of(command: Command) -> List[Tuple[str, str]]:
     return statuses
 
 
+def _value(option: Option) -> str:
+    """The value of an option behind a space, if it takes one."""
+    return " " + italic(option.value) + ("..." if option.several else "") if option.value else ""
+
+
 def _spelled(option: Option) -> str:
     """An option with its value."""
-    return bold(option.names[-1]) + (" " + italic(option.value) if option.value else "")
+    return bold(option.names[-1]) + _value(option)
 
 
 def _in_brackets(argument: Argument, instead: Optional[Option]) -> str:
@@ -119,7 +124,7 @@ def _is_own(option: Option) -> bool:
 
 def _option(option: Option) -> List[str]:
     """What an option is."""
-    names = ", ".join(bold(name) for name in option.names) + (" " + italic(option.value) if option.value else "")
+    names = ", ".join(bold(name) for name in option.names) + _value(option)
     said = option.help + ("; {} if it isn't given".format(option.default) if option.default else "")
     return tagged(names, prose(said))
 
