@@ -21,7 +21,9 @@ use crate::outcome::{End, Ended, Outcome, RunFault};
 use crate::turnstile::Turnstile;
 use path_model::Line;
 use path_script::{Process, Script};
-use path_workers::{Closed, ClosedPass, DeskName, Pass, SettleFault, SharedSystem, Steps, settle_own};
+use path_workers::{
+    Closed, ClosedPass, DeskName, Pass, SettleFault, SharedSystem, Steps, settle_own,
+};
 use std::alloc::{AllocError, Allocator};
 use std::marker::Brand;
 use std::sync::Wait;
@@ -109,7 +111,12 @@ fn ended<L: DeskName, S: Steps, A: Allocator + Copy>(
         closed_passes,
         fault,
     } = settle_own(shared, before, passes, closed_passes);
-    let fault = fault_of(fault, system.journal(), closed_passes.as_slice(), ends.as_slice());
+    let fault = fault_of(
+        fault,
+        system.journal(),
+        closed_passes.as_slice(),
+        ends.as_slice(),
+    );
     Ended {
         outcome: Outcome {
             system,

@@ -182,7 +182,12 @@ impl<L: DeskName, A: Allocator + Copy> Pass<L, A> {
         ensures finish { finishes_open attempt self.old.receipts ≡ true → IsOk result }
     {
         take_places(&mut self.receipts, self.starts, attempt)?;
-        let answer = shared.stamp(&mut self.receipts, &mut self.own_lines, self.worker, attempt);
+        let answer = shared.stamp(
+            &mut self.receipts,
+            &mut self.own_lines,
+            self.worker,
+            attempt,
+        );
         self.starts += started(answer.reply);
         self.order = self.order.then(answer.place);
         Ok(answer)
