@@ -10,7 +10,14 @@
 #define _GNU_SOURCE
 #include <stdbool.h>
 #include <stddef.h>
+#include <stdint.h>
 #include <stdlib.h>
+#ifndef LIBRARY
+#include <errno.h>
+#include <malloc.h>
+#include <sys/mman.h>
+#include <unistd.h>
+#endif
 
 /*
 ** What an allocation answers: whether there was memory, and where. The address
@@ -33,19 +40,46 @@ static allocation answer(void *at) {
     return it;
 }
 
+#if defined(LIBRARY) || !defined(MADV_HUGEPAGE)
+/* A library leaves it to its program how memory is laid out. */
+static void *in_huge_pages(void *at, size_t size) {
+    (void)size;
+    return at;
+}
+#else
+/*
+** Asks Linux to lay a block of at least 4 MB out in pages of 2 MB, if there is a
+** block. The texts and the lines of a large journal are such blocks, and most of
+** what their memory costs is the first touch of each page. Where the system has
+** no such pages, nothing changes. All pages of the block are named, since one of
+** which Linux knows two things can't be moved when it grows, but is copied.
+*/
+static void *in_huge_pages(void *at, size_t size) {
+    uintptr_t page, first, end;
+    int error = errno;
+    if (at == NULL || size < (size_t)1 << 22) return at;
+    page = (uintptr_t)sysconf(_SC_PAGESIZE);
+    first = (uintptr_t)at / page * page;
+    end = ((uintptr_t)at + malloc_usable_size(at) + page - 1) / page * page;
+    madvise((void *)first, end - first, MADV_HUGEPAGE);
+    errno = error;
+    return at;
+}
+#endif
+
 /*
 ** Memory for `size` bytes. An alignment is at most 16, which malloc keeps to on
 ** the processors that there is assembly for. malloc may answer null for 0
 ** bytes, so it is asked for some.
 */
 allocation rattle_alloc(size_t size, size_t alignment) {
-    return answer(malloc(size != 0 ? size : alignment));
+    return answer(in_huge_pages(malloc(size != 0 ? size : alignment), size));
 }
 
 /* The same memory with another size. If there is none, it stays as it was. */
 allocation rattle_realloc(void *at, size_t kept, size_t size, size_t alignment) {
     (void)kept;
-    return answer(realloc(at, size != 0 ? size : alignment));
+    return answer(in_huge_pages(realloc(at, size != 0 ? size : alignment), size));
 }
 
 void rattle_dealloc(void *at) {
@@ -53,7 +87,6 @@ void rattle_dealloc(void *at) {
 }
 
 #ifndef LIBRARY
-#include <errno.h>
 #include <signal.h>
 #include <sys/types.h>
 
@@ -123,7 +156,6 @@ __attribute__((constructor)) static void before_main(int count, char **all) {
 ** names that only glibc has.
 */
 #include <sys/syscall.h>
-#include <unistd.h>
 
 int __real_main(int count, char **all);
 int __wrap_main(int count, char **all);
