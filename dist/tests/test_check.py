@@ -17,8 +17,12 @@ class Check(unittest.TestCase):
     def setUpClass(cls):
         with open(os.path.join(DIST, "x86_64", "pathsys.s"), encoding="utf-8") as file:
             cls.text = file.read()
+        _, said = cls.checked(cls.text)
+        if "nothing is compared" in said:
+            raise unittest.SkipTest(said)
 
-    def checked(self, text):
+    @staticmethod
+    def checked(text):
         """What --check says of this text in the place of the program's assembly: its status and its words."""
         with tempfile.TemporaryDirectory() as folder:
             os.mkdir(os.path.join(folder, "x86_64"))
