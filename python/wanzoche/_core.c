@@ -15,7 +15,6 @@
 ** Neither type has a tp_clear: an entry never changes what it refers to, and a system refers only to what can be cleared itself, so each
 ** circle has another member that breaks it.
 */
-#define PY_SSIZE_T_CLEAN
 #include <Python.h>
 #include <structmember.h>
 
@@ -924,10 +923,12 @@ static PyObject *code_and_number(uint32_t code, unsigned long long number) {
 static PyObject *turns_start(PyObject *self, PyObject *args) {
     Turns *turns = (Turns *)self;
     Attempt attempt;
+    PyObject *name;
     bool is_made;
-    if (!PyArg_ParseTuple(args, "OIy#Ii:_start_now", &attempt.held, &attempt.operation, &attempt.name, &attempt.length, &attempt.caller,
-                          &attempt.counts))
-        return NULL;
+    /* The length of a text by "y#" would be an int or a Py_ssize_t, as the Python says that this was built with, and not the one that runs it. */
+    if (!PyArg_ParseTuple(args, "OISIi:_start_now", &attempt.held, &attempt.operation, &name, &attempt.caller, &attempt.counts)) return NULL;
+    attempt.name = PyBytes_AsString(name);
+    attempt.length = PyBytes_Size(name);
     if (attempt.operation >= turns->operations || is_live(attempt.held) != 0 || !take_turn(turns)) return PyErr_Occurred() ? NULL : none();
     is_made = start_in_turn(turns, &attempt);
     give_turn(turns);
