@@ -10,7 +10,7 @@ function judge() {
   const journal = $("journal").value;
   const lines = new Lines(journal);
   const marked = new Map();
-  let words = "";
+  let words = journal === "" ? "" : told(FIRST_MEND, "no");
   if (journal !== "" && declared.isRead) {
     const { says, isSound, line } = verdictOn(calls, declared.text, journal);
     if (line !== undefined) marked.set(line, "fault");

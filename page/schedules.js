@@ -22,7 +22,7 @@ function wordsOf(found) {
 // Looks at every schedule of the script. One that goes wrong takes the place of the attempts.
 function explore() {
   const script = $("script").value;
-  if (!declared.isRead) return say("script-said", told("First mend the declaration.", "no"));
+  if (!declared.isRead) return say("script-said", told(FIRST_MEND, "no"));
   const found = exploredBy(calls, declared.text, script, MOST_STATES);
   const marked = new Map(found.line === undefined ? [] : [[found.line, "fault"]]);
   if (found.attempts !== undefined) putSchedule(found.attempts);

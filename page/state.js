@@ -4,6 +4,9 @@
 // Of long lists beside the texts, so many are shown.
 const MOST_LISTED = 100;
 
+// What stands where nothing can be said under a declaration that is refused.
+const FIRST_MEND = "First mend the declaration.";
+
 const told = (text, kind) => `<span class="${kind}">${escaped(text)}</span>`;
 
 const sayings = new Map();
@@ -69,7 +72,8 @@ function readDeclaration() {
   } else {
     declared = { text, lines: new Lines(text), isRead: false, operations: [], paths: [], fault: declarationFault(text, read.err || STATUSES[read.status]) };
     compiledText = null;
-    $("compiled").textContent = $("semaphores").textContent = "";
+    $("compiled").textContent = "";
+    $("semaphores").innerHTML = `<p class="faint">${FIRST_MEND}</p>`;
     $("declaration-why").innerHTML = itemsOf(faultWords(calls.explain(text, "").err));
   }
   say("declaration-said", declared.isRead
@@ -127,7 +131,8 @@ function showAttempts() {
 
 // Says what is at fault, and how many attempts got which reply.
 function countAttempts() {
-  const { entries, fault } = answered;
+  const { entries, fault, lines } = answered;
+  if (!declared.isRead && lines.text !== "") return say("attempts-said", told(FIRST_MEND, "no"));
   const tally = new Map();
   for (const { kind } of entries) tally.set(kind, (tally.get(kind) ?? 0) + 1);
   const counts = [...tally].map(([kind, count]) => `${count} ${kind}`).join(", ");
@@ -229,7 +234,7 @@ function showNext() {
   // The picture of a long text is drawn a little later.
   const startOf = activation => picture.runs[activation] ? picture.runs[activation].from + 1 : "";
   const frozen = report.frozen ? `<p class="no">Nothing is live and nothing can start: nothing is ever admitted again.</p>` : "";
-  say("next", !declared.isRead ? ""
+  say("next", !declared.isRead ? `<p class="faint">${FIRST_MEND}</p>`
     : nextTables(report, declared, startOf, MOST_LISTED) + standingTables(state.standing, MOST_LISTED) + frozen);
   showLong($("report"), text);
 }

@@ -52,19 +52,20 @@ function showSteps() {
   refill($("starts"), operations.slice(0, MOST_LISTED).map(it => startButton(it, worker)).join(""));
   refill($("live"), live.slice(0, MOST_LISTED).map(liveItem).join(""));
   $("starts").inert = $("live").inert = !can;
-  const hint = !declared.isRead ? "First mend the declaration."
+  const hint = !declared.isRead ? FIRST_MEND
     : !can ? "First mend the line that is at fault."
     : frozen ? "Nothing is live and nothing can start: nothing is ever admitted again."
     : more(operations, "operations") + more(live, "live activations");
   say("steps-said", hint + refusal());
 }
 
-// The line that a button wrote last.
-let clickedLine = -1;
+// The line that a button wrote last, and the text that it made.
+let written = { line: -1, text: "" };
 
 // Why the start that a button wrote just now is refused, if it is: for the eye, since screen readers have it from the line of the attempt.
 function refusal() {
-  const entry = clickedLine === state.lines - 1 ? answered.entry(clickedLine) : undefined;
+  const { line, text } = written;
+  const entry = line === state.lines - 1 && text === answered.lines.text ? answered.entry(line) : undefined;
   return entry?.kind === "blocked" ? ` <span aria-hidden="true">${escaped(reasonFor(entry, declared.paths))}</span>` : "";
 }
 
@@ -100,16 +101,16 @@ function clicked(event) {
 function attempt(line) {
   const { area } = attemptsSheet;
   const { lines } = answered;
-  const before = area.value;
-  clickedLine = state.lines;
+  const to = state.lines;
   isTyping = false;
-  if (clickedLine === lines.counted) {
-    write(area, before.length, before.length, withLine(before, line).slice(before.length));
+  if (to === lines.counted) {
+    write(area, area.value.length, area.value.length, withLine(area.value, line).slice(area.value.length));
   } else {
-    const at = lines.starts[clickedLine];
+    const at = lines.starts[to];
     write(area, at, at, line + "\n");
     area.setSelectionRange(at + line.length, at + line.length);
   }
+  written = { line: to, text: area.value };
   show();
-  attemptsSheet.reveal(clickedLine);
+  attemptsSheet.reveal(to);
 }
