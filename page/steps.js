@@ -97,6 +97,16 @@ function clicked(event) {
   attempt(number ? `${line} ${$("number").value}` : line);
 }
 
+// Writes a line behind a text. The last line feed stays behind it: Chromium lays a text out once more for what goes into its empty last
+// line.
+function append(area, line) {
+  const { value } = area;
+  const at = value.endsWith("\n") ? value.length - 1 : value.length;
+  const added = withLine(value, line).slice(value.length);
+  write(area, at, at, at < value.length ? "\n" + added.slice(0, -1) : added);
+  area.setSelectionRange(value.length + added.length, value.length + added.length);
+}
+
 // Writes an attempt behind the lines so far, which makes its line that of the moment.
 function attempt(line) {
   const { area } = attemptsSheet;
@@ -104,7 +114,7 @@ function attempt(line) {
   const to = state.lines;
   isTyping = false;
   if (to === lines.counted) {
-    write(area, area.value.length, area.value.length, withLine(area.value, line).slice(area.value.length));
+    append(area, line);
   } else {
     const at = lines.starts[to];
     write(area, at, at, line + "\n");
