@@ -1,5 +1,6 @@
 // Drives the page in headless Chromium: node browser_test.mjs PAGE EXAMPLES PICTURES [CHROMIUM]
-// It opens the page from the disk, types, clicks, reads and measures, and writes pictures at three sizes and dark to the folder PICTURES.
+// It opens the page from the disk, types, clicks, reads and measures, and writes pictures at three sizes, dark, with forced colours and at
+// 200 % to the folder PICTURES.
 //
 // It waits for what it wants to see, and no fixed time, so that a slow machine makes it late and not wrong. Times are printed, and decide
 // nothing.
@@ -140,11 +141,14 @@ async function reload() {
   await until(`document.getElementById("about").textContent !== ""`);
 }
 
-async function size(width, height, isDark) {
+// Gives the window a size in pixels of the page, of which each has `scale` of the screen, and the colours that the system asks for.
+async function size(width, height, { isDark = false, isForced = false, scale = 1 } = {}) {
+  const colours = { "prefers-color-scheme": isDark ? "dark" : "light", "forced-colors": isForced ? "active" : "none" };
   await send("Emulation.setScrollbarsHidden", { hidden: true });
-  await send("Emulation.setDeviceMetricsOverride", { width, height, deviceScaleFactor: 1, mobile: false });
-  await send("Emulation.setEmulatedMedia", { features: [{ name: "prefers-color-scheme", value: isDark ? "dark" : "light" }] });
-  await until(`innerWidth === ${width} && matchMedia("(prefers-color-scheme: dark)").matches === ${isDark}`);
+  await send("Emulation.setDeviceMetricsOverride", { width, height, deviceScaleFactor: scale, mobile: false });
+  await send("Emulation.setEmulatedMedia", { features: Object.entries(colours).map(([name, value]) => ({ name, value })) });
+  const are = Object.entries(colours).map(([name, value]) => `matchMedia("(${name}: ${value})").matches`);
+  await until(`innerWidth === ${width} && devicePixelRatio === ${scale} && ${are.join(" && ")}`);
 }
 
 async function shoot(name) {
@@ -153,9 +157,20 @@ async function shoot(name) {
   writeFileSync(join(pictures, name + ".png"), Buffer.from(data, "base64"));
 }
 
+// The numbers that the browser has for keys.
+const KEYS = { Enter: 13, End: 35, Home: 36, ArrowLeft: 37, ArrowUp: 38, ArrowRight: 39, ArrowDown: 40 };
+
 async function press(key) {
-  await send("Input.dispatchKeyEvent", { type: "keyDown", key, code: key, windowsVirtualKeyCode: key === "Tab" ? 9 : key === "Enter" ? 13 : 32, text: key === "Enter" ? "\r" : undefined });
-  await send("Input.dispatchKeyEvent", { type: "keyUp", key, code: key });
+  const its = { key, code: key, windowsVirtualKeyCode: KEYS[key] };
+  await send("Input.dispatchKeyEvent", { type: "keyDown", ...its, text: key === "Enter" ? "\r" : undefined });
+  await send("Input.dispatchKeyEvent", { type: "keyUp", ...its });
+}
+
+// Ctrl+Z, with what it does in an editor, which a headless browser doesn't look up.
+async function pressUndo() {
+  const its = { key: "z", code: "KeyZ", windowsVirtualKeyCode: 90, modifiers: 2 };
+  await send("Input.dispatchKeyEvent", { type: "rawKeyDown", ...its, commands: ["undo"] });
+  await send("Input.dispatchKeyEvent", { type: "keyUp", ...its });
 }
 
 // Clicks in the middle of an element, as soon as it is there, once or several times.
@@ -243,10 +258,14 @@ async function testTyping() {
   await shows("a refused declaration", () => text("declaration-said"), "declaration: undeclared at 37 (line 2, column 10)");
   await shows("is marked", () => marked("declaration"), [["fault", "b"]]);
   await shows("nothing is answered", async () => [await replies(), await text("report"), await text("compiled")], [[], "", ""]);
+  await value(`document.getElementById("audit").open = true`);
+  await write("journal", "1 start a: started 0\n");
+  await shows("and each part says why", async () => [...new Set(await Promise.all(["attempts-said", "steps-said", "next", "semaphores", "journal-said"].map(text)))],
+    ["First mend the declaration."]);
 }
 
 async function testHalfTyped() {
-  const layout = () => value(`["picture", "report"].map(it => Math.round(document.getElementById(it).getBoundingClientRect().top + scrollY))`);
+  const layout = () => value(`["picture", "steps-said", "next"].map(it => Math.round(document.getElementById(it).getBoundingClientRect().top + scrollY))`);
   const buttons = () => value(`document.querySelectorAll("#starts button, #live button").length`);
   const words = async () => [await text("declaration-said"), await text("attempts-said")];
   const seen = async () => [await layout(), await buttons(), await marked("attempts"), await words()];
@@ -261,9 +280,17 @@ async function testHalfTyped() {
   await value(`document.getElementById("attempts").blur()`);
   same("so it is once the text is left", (await text("attempts-said")).startsWith("text: bad line 7."), true);
   await choose("slot");
+  await typeAtEnd("attempts", "1 fin");
+  await caretInto(2);
+  await shows("and once the caret is in another line", async () => (await text("attempts-said")).startsWith("text: bad line 7."), true);
+  await choose("slot");
   await typeAtEnd("declaration", "resource");
   same("the same for a declaration", await seen(), before);
   await shows("which is judged after a pause", () => text("declaration-said"), "declaration: unexpected at 83 (line 5, column 9)");
+  await choose("slot");
+  await typeAtEnd("declaration", "resource");
+  await value(`document.getElementById("declaration").blur()`);
+  same("or once it is left", await text("declaration-said"), "declaration: unexpected at 83 (line 5, column 9)");
 }
 
 async function testClicking() {
@@ -298,8 +325,31 @@ async function testClicking() {
   await press("Enter");
   await shows("a key finishes", lastReply, "finished");
   await shows("the focus stays in reach", () => value(`document.activeElement.id`), "live");
+  await write("attempts", "1 start deposit");
+  await click(`#live [data-key="finish 0"]`);
+  await shows("a line without a line feed gets one", () => field("attempts"), "1 start deposit\n1 finish 0\n");
+  same("and the caret is behind all lines", await on("#attempts", "it.selectionStart === it.value.length"), true);
   await choose("knot");
   await shows("a frozen system", () => text("steps-said"), "Nothing is live and nothing can start: nothing is ever admitted again.");
+}
+
+// What docs/page.md says to do first.
+async function testManual() {
+  await openPage();
+  await caretInto(2);
+  await shows("a refused attempt is explained", async () => [await text("selected"), await items("why"), await marked("declaration")],
+    ["Line 2, 2 start remove: blocked 0. Path 0 of slot forbids that remove starts now: deposit; remove.",
+      ["in progress: deposit (activation 0, worker 1); may begin next: nothing"], [["path", "path deposit ; remove end"]]]);
+  await caretInto(7);
+  await click(`#starts [data-key="start deposit"]`);
+  await shows("at the end a start is refused", async () => [(await field("attempts")).split("\n").at(-2), await lastReply()], ["1 start deposit", "blocked 0"]);
+  await click(`#live [data-key="finish 1"]`);
+  await shows("the removal is finished", lastReply, "finished");
+  await click(`#starts [data-key="start deposit"]`);
+  await shows("and the start is admitted", lastReply, "started 2");
+  await value(`document.getElementById("attempts").focus()`);
+  await pressUndo();
+  await shows("Ctrl+Z takes an attempt back", lastReply, "finished");
 }
 
 // Takes back what was written last, and gives the text that is left.
@@ -313,7 +363,9 @@ async function testDrafts() {
   await write("attempts", "1 start deposit\n");
   await click(`#live [data-key="finish 0"]`);
   await shows("a click writes an attempt", () => field("attempts"), "1 start deposit\n1 finish 0\n");
-  same("which is taken back as if it were typed", await undone("attempts"), "1 start deposit\n");
+  await value(`document.getElementById("attempts").focus()`);
+  await pressUndo();
+  await shows("which Ctrl+Z takes back as if it were typed", () => field("attempts"), "1 start deposit\n");
   await shows("and answered", replies, ["started 0"]);
   await shows("a changed example is marked", chosenCase, "slot, changed");
   same("nothing is listed but examples", (await listedCases()).length, await value("examples.length"));
@@ -331,13 +383,13 @@ async function testDrafts() {
   await typeAtEnd("attempts", "1 finish 0\n");
   await choose("knot");
   await shows("each draft stays", async () => (await listedCases()).slice(0, 3), ["slot, changed", "pool, changed", "slot, changed (2)"]);
-  await size(390, 600, false);
+  await size(390, 600);
   await choose("pool");
   const moved = await value(`(() => { const top = () => document.getElementById("live").getBoundingClientRect().top;
     scrollTo(0, document.getElementById("live").offsetTop); const before = top();
     document.querySelector("#live button").click(); return Math.abs(top() - before); })()`);
   same("the buttons stay where one is pressed", moved < 2, true);
-  await size(1280, 1100, false);
+  await size(1280, 1100);
   await openPage();
 }
 
@@ -454,10 +506,10 @@ async function testScriptsElsewhere() {
   await click("#explore");
   await shows("the buttons have names", async () => [await spokenAs("#explore"), await spokenAs("#play")], [["button", "Explore"], ["button", "Play"]]);
   await shows("what was found is said in a status", () => spokenAs("#script-said"), ["status", ""]);
-  await size(390, 900, false);
+  await size(390, 900);
   await shows("nothing is wider than a narrow window", () => value("document.documentElement.scrollWidth <= 390"), true);
   await shows("a process's line is whole there", () => on("#script-why li", "it.getBoundingClientRect().right <= 390"), true);
-  await size(1280, 1100, false);
+  await size(1280, 1100);
   await openPage();
 }
 
@@ -607,11 +659,11 @@ async function testNumbers() {
   await shows("lines count from 1 in the picture, too", () => on("#picture .axis", "it.textContent"), "1");
   await write("attempts", "4294967295 start eat0\n".repeat(40) + "7 start #99\n");
   await shows("the last reply", lastReply, "unknown operation");
-  await size(390, 900, false);
+  await size(390, 900);
   await shows("a reply fits into its column on a phone", () => on("#attempts-sheet .replies", "it.scrollWidth <= it.clientWidth"), true);
   const fits = "it.getBBox().x + it.getBBox().width <= it.ownerSVGElement.width.baseVal.value";
   await shows("a worker's long number fits beside the picture", () => on("#picture .labels text:last-child", fits), true);
-  await size(1280, 1100, false);
+  await size(1280, 1100);
 }
 
 async function testScrolling() {
@@ -628,9 +680,13 @@ async function testScrolling() {
   await choose(await value("drafts.length - 1"));
   const isSeen = `it.getBoundingClientRect().bottom <= it.closest(".sheet").getBoundingClientRect().bottom`;
   await shows("the line that is explained is in view", () => on("#attempts-sheet .at", isSeen), true);
+  const saved = () => value(`["declaration", "attempts", "journal", "script", "picture"].filter(it => !document.getElementById("save-" + it).disabled)`);
+  await shows("what is there can be saved", saved, ["declaration", "attempts", "journal", "script", "picture"]);
+  await value(`document.getElementById("schedules").open = true`);
+  await write("script", "");
   await write("attempts", "");
-  await shows("nothing is no file", () => value(`["attempts", "journal", "picture"].map(it => document.getElementById("save-" + it).disabled)`),
-    [true, true, true]);
+  await write("declaration", "");
+  await shows("nothing is no file", saved, []);
 }
 
 async function testWorkers() {
@@ -653,13 +709,16 @@ async function testFirstScreen() {
   const inView = height => value(`["lead", "legend", "choice", "picture", "moment", "sheet"].filter(it =>
     document.querySelector("." + it).getBoundingClientRect().bottom > ${height})`);
   for (const [width, height] of [[1600, 900], [1440, 900], [1024, 768]]) {
-    await size(width, height, false);
+    await size(width, height);
     await openPage();
     await shows(`${width} wide, the picture is on the first screen`, () => inView(height), []);
     await shows("beside the texts", () => on("#picture", `it.getBoundingClientRect().left > document.querySelector("#declaration-sheet").getBoundingClientRect().right`), true);
     same("and nothing is wider than the window", await value("document.documentElement.scrollWidth <= innerWidth"), true);
   }
-  await size(1280, 1100, false);
+  await size(1280, 1100);
+  same("three examples are named by their problem", await value(`[...document.querySelectorAll("#problems button")].map(it => it.textContent)`),
+    ["One at a time, in turn", "Readers and a writer", "A deadlock"]);
+  same("one sentence says what this is", await on(".lead", `[it.firstChild.textContent.match(/[.!?](\\s|$)/g).length, it.textContent.startsWith("A path states")]`), [1, true]);
   same("each sign has a line", await value(`[...document.querySelectorAll(".legend dt")].map(it => it.textContent)`),
     ["a ; b", "a , b", "{ a }", "{ a : 3 }", "1 start a", "1 use 0 look", "1 finish 0"]);
   for (const name of ["readers_and_writers", "two_locks", "slot"]) {
@@ -705,9 +764,16 @@ async function testMoment() {
   await click(`#picture g[data-line="4"] .path`);
   await shows("a click on a tick goes to its line", () => text("moment-said"), "after line 5 of 12");
   await value(`document.getElementById("picture").focus()`);
-  for (const [key, line] of [["ArrowLeft", 4], ["ArrowRight", 5], ["End", 12]]) {
+  for (const [key, line] of [["ArrowLeft", 4], ["ArrowRight", 5], ["End", 12], ["ArrowLeft", 11]]) {
     await press(key);
     await shows(`${key} in the picture`, () => text("moment-said"), `after line ${line} of 12`);
+  }
+  await press("Home");
+  await shows("Home in the picture", () => text("moment-said"), "before line 1");
+  await value(`document.getElementById("moment").focus()`);
+  for (const [key, line] of [["ArrowRight", 1], ["ArrowUp", 2], ["ArrowLeft", 1]]) {
+    await press(key);
+    await shows(`${key} at the slider`, () => text("moment-said"), `after line ${line} of 12`);
   }
   await click(`#attempts-sheet .replies [data-line="0"]`);
   await shows("a click on a reply goes to its line", () => text("moment-said"), "after line 1 of 12");
@@ -727,6 +793,11 @@ async function testTables() {
     ["read", "PP(c0,P(s0)) / adds 1 to c0; the first in takes 1 from s0", "VV(c0,V(s0)) / takes 1 from c0; the last out gives 1 to s0"],
     ["write", "P(s0) / takes 1 from s0", "V(s0) / gives 1 to s0"]]);
   await shows("with what was trimmed", () => on("#semaphores .faint", "it.textContent"), "semaphore s0 opens with 1, counter c0 opens with 0; trimmed: m0");
+  await choose("slot");
+  await shows("where nothing is trimmed they stand there once", () => cells("semaphores"), [
+    ["deposit", "P(s0) / takes 1 from s0", "V(s1) / gives 1 to s1"], ["remove", "P(s1) / takes 1 from s1", "V(s0) / gives 1 to s0"]]);
+  await shows("what the program writes is closed", () => value(`document.querySelectorAll("details.raw[open]").length`), 0);
+  await choose("readers_and_writers");
   await caretInto(1);
   await shows("the table is that of the moment", () => cells("next"), [["read", "can start", ""], ["write", "blocked", "path 0: { read }, write"], ["0", "read", "1", "1"], ["book", "no"]]);
   await choose("knot");
@@ -797,16 +868,28 @@ async function testFiles() {
   await value(`URL.createObjectURL = blob => { blob.text().then(it => { window.saved = it; }); return "#"; }`);
   await choosing(["crosswise/script"]);
   await shows("and a script", () => field("script"), read("crosswise/script"));
-  const saving = { declaration: read("slot/declaration"), attempts: read("slot/attempts"), journal: read("slot/trace"), script: read("crosswise/script") };
+  const saving = { declaration: read("slot/declaration"), attempts: read("slot/attempts"), journal: read("slot/trace"), script: read("crosswise/script"),
+    picture: await value("pictureFile()") };
   for (const [kind, wanted] of Object.entries(saving)) {
     await value("window.saved = null, HTMLAnchorElement.prototype.click = function () { window.savedAs = this.download; }");
     await click("#save-" + kind);
-    await shows(`${kind} is saved`, () => value("[savedAs, saved]"), [kind, wanted]);
+    await shows(`${kind} is saved`, () => value("[savedAs.split('.')[0], saved]"), [kind, wanted]);
   }
+  await value(`(files => {
+    for (const it of ["1 start deposit\\n", "resource r cell operation a end\\n"]) files.items.add(new File([it], "dropped"));
+    document.dispatchEvent(new DragEvent("drop", { dataTransfer: files, cancelable: true }));
+  })(new DataTransfer())`);
+  await shows("files are dropped", async () => [await field("declaration"), await field("attempts"), await text("files-said")],
+    ["resource r cell operation a end\n", "1 start deposit\n", "Opened: dropped, attempts; dropped, declaration."]);
+  await choose("slot");
+  await value("window.printed = 0, window.print = () => { window.printed++; }");
+  await click("#print");
+  await shows("a button prints", () => value("printed"), 1);
   await value(`dispatchEvent(new Event("beforeprint"))`);
   await send("Emulation.setEmulatedMedia", { media: "print" });
   await shows("on paper all lines of the texts", () => on("#attempts-printed", "[it.textContent, it.offsetHeight > 0]"),
     [read("slot/explained").split("\n\n")[0], true]);
+  same("once each", await on(".reasons", "it.offsetHeight"), 0);
   same("and no buttons", await value(`[...document.querySelectorAll("button, textarea")].filter(it => it.offsetHeight > 0).length`), 0);
   await send("Emulation.setEmulatedMedia", { media: "" });
   await openPage();
@@ -830,13 +913,13 @@ const EDGES = [["edge", "paper"], ["edge", "field"], ["bar", "field"], ["focus",
 
 async function testContrast() {
   for (const isDark of [false, true]) {
-    await size(1280, 1100, isDark);
+    await size(1280, 1100, { isDark });
     const where = isDark ? "dark" : "light";
     const weak = async (pairs, least) => (await contrasts(pairs)).flatMap((it, i) => it >= least ? [] : [[...pairs[i], it]]);
     same(`texts, ${where}`, await weak(TEXTS, 4.5), []);
     same(`edges, ${where}`, await weak(EDGES, 3), []);
   }
-  await size(1280, 1100, false);
+  await size(1280, 1100);
   await choose("slot");
   const colour = (selector, property) => on(selector, `getComputedStyle(it).${property}`);
   const names = await value(`Object.fromEntries(["edge", "bar", "field"].map(it => {
@@ -859,8 +942,20 @@ async function spokenAs(selector) {
 async function testSpoken() {
   await choose("slot");
   await shows("a button's name has its activation", () => spokenAs(`#live [data-key="finish 1"]`), ["button", "finish activation 1, remove"]);
+  await choose("philosophers");
+  const names = async () => {
+    const all = await value(`[...document.querySelectorAll("#starts button, #live button")].map(it => it.getAttribute("aria-label") ?? it.textContent)`);
+    return [all.length, new Set(all).size];
+  };
+  await shows("no two buttons have the same", names, [11, 11]);
+  await choose("slot");
   await shows("what can happen next has a name", () => spokenAs("#next"), ["region", "What can happen next"]);
   await shows("so have the semaphores", () => spokenAs("#semaphores"), ["region", "The semaphores"]);
+  await value(`for (const it of document.querySelectorAll("details.raw")) it.open = true`);
+  await shows("so has what the program writes", async () => [await spokenAs("#report"), await spokenAs("#compiled"), await spokenAs("#explained")], [
+    ["region", "What can happen next, as the program writes it"], ["region", "The semaphores, as the program writes them"],
+    ["region", "Why each attempt got its reply"]]);
+  await value(`for (const it of document.querySelectorAll("details.raw")) it.open = false`);
   await shows("the slider says where it is", () => on("#moment", "it.getAttribute('aria-valuetext')"), "after line 6 of 6");
   const changes = await value(`new Promise(done => {
     let changes = 0;
@@ -884,6 +979,8 @@ async function testWithout() {
   await visit("about:blank");
   await visit("file://" + resolve(page));
   await shows("without such WebAssembly the page says so", async () => [await first(), await isSeen(), await shown()], [needs, true, []]);
+  const versions = async () => (await text("cannot")).match(/Chrome or Edge \d+|Firefox \d+|Safari \d+ doesn't/g);
+  same("and where it is", await versions(), ["Chrome or Edge 133", "Firefox 134", "Safari 26 doesn't"]);
   same("and what is amiss", (await text("cannot")).endsWith("(TypeError: no such memory)"), true);
   await send("Page.removeScriptToEvaluateOnNewDocument", { identifier });
   await send("Emulation.setScriptExecutionDisabled", { value: true });
@@ -894,6 +991,44 @@ async function testWithout() {
   await openPage();
   same("otherwise it doesn't", await isSeen(), false);
   same("and shows all", (await shown()).length, 3);
+}
+
+// What pictures are of: three widths, dark, and 200 %, where a window has half as many pixels of the page.
+const LOOKS = [
+  { name: "wide", width: 1500, height: 900, example: "philosophers" },
+  { name: "middle", width: 900, height: 1100, example: "readers_and_writers" },
+  { name: "narrow", width: 390, height: 844, example: "pool" },
+  { name: "dark", width: 1500, height: 900, isDark: true, example: "till" },
+  { name: "double", width: 750, height: 450, scale: 2, example: "two_locks" },
+];
+
+async function testSizes() {
+  for (const { name, width, height, example, ...more } of LOOKS) {
+    await size(width, height, more);
+    await openPage("#example=" + example);
+    await shoot(name);
+    same(`${name}: nothing is wider than the window`, await value("document.documentElement.scrollWidth <= innerWidth"), true);
+    same(`${name}: no reply is cut off`, await on("#attempts-sheet .replies", "it.scrollWidth <= it.clientWidth"), true);
+    same(`${name}: no button is cut off`, await value(`[...document.querySelectorAll("button")].filter(it => it.scrollWidth > it.clientWidth + 1).map(it => it.textContent)`), []);
+  }
+  await size(1280, 1100);
+}
+
+// With forced colours the system has no backgrounds for marks, so they have outlines.
+async function testForced() {
+  const outline = selector => on(selector, "getComputedStyle(it).outlineStyle");
+  await size(1500, 900, { isForced: true });
+  await openPage("#example=two_locks");
+  await shoot("forced");
+  same("with forced colours a path's mark has an outline", await outline("#declaration-sheet mark.path"), "solid");
+  same("so has the example's button", await outline("#problems [aria-pressed=true]"), "solid");
+  same("a live bar has an edge", await on("#picture .bar.live", "getComputedStyle(it).stroke !== getComputedStyle(it).fill"), true);
+  await choose("till");
+  await shows("a wrong line has another outline", () => outline("#journal-sheet .fault"), "dashed");
+  await choose("refused");
+  await shows("so has a fault", () => outline("#declaration-sheet mark.fault"), "dashed");
+  await size(1280, 1100);
+  await openPage();
 }
 
 async function testMany() {
@@ -927,23 +1062,11 @@ async function testMany() {
 try {
   await startBrowser();
   for (const domain of ["Page", "Runtime", "Log", "Network"]) await send(domain + ".enable");
-  await size(1280, 1100, false);
+  await size(1280, 1100);
   await openPage();
   console.log((await text("about")).split(". ")[0]);
-  for (const test of [testExamples, testTyping, testHalfTyped, testClicking, testDrafts, testSlips, testAudit, testSchedules, testManySchedules, testScriptsElsewhere, testAddress, testPicture,
-    testNumbers, testScrolling, testWorkers, testFirstScreen, testMoment, testTables, testWhy, testFiles, testContrast, testSpoken, testWithout, testMany]) await test();
-  await choose("philosophers");
-  await shoot("wide");
-  await size(800, 1100, false);
-  await choose("readers_and_writers");
-  await shoot("middle");
-  await size(390, 1100, false);
-  await choose("pool");
-  await shoot("narrow");
-  await shows("nothing is wider than a narrow window", () => value("document.documentElement.scrollWidth <= 390"), true);
-  await size(1280, 1100, true);
-  await choose("till");
-  await shoot("dark");
+  for (const test of [testExamples, testTyping, testHalfTyped, testManual, testClicking, testDrafts, testSlips, testAudit, testSchedules, testManySchedules, testScriptsElsewhere, testAddress, testPicture,
+    testNumbers, testScrolling, testWorkers, testFirstScreen, testMoment, testTables, testWhy, testFiles, testContrast, testSpoken, testWithout, testSizes, testForced, testMany]) await test();
   same("requests", requests.filter(it => !it.startsWith("file:") && !it.startsWith("about:")), []);
   same("complaints", complaints, []);
 } catch (error) {
