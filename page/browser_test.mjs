@@ -428,6 +428,8 @@ async function testSchedules() {
   await choose("crosswise");
   await shows("an example without attempts has its script open", async () => [await on("#schedules", "it.open"), await field("script"), await field("attempts")],
     [true, read("crosswise/script"), ""]);
+  await shows("which begins in view", () => value(`["declaration", "script"].map(it => [document.getElementById(it).scrollTop, document.getElementById(it).selectionStart])`),
+    [[0, 0], [0, 0]]);
   await shows("nothing is played", () => on("#play", "it.hidden"), true);
   await value(`document.getElementById("explore").focus()`);
   await press("Enter");
@@ -454,7 +456,8 @@ async function testSchedules() {
   await until("beat === 0");
   same("another moment stops it, too", [await text("play"), await value("state.lines < 4")], ["Play", true]);
   same("what was written is taken back as if it were typed", await undone("attempts"), "");
-  await shows("and then nothing is to be played", () => on("#play", "it.hidden"), true);
+  await shows("and then nothing is to be played", async () => [await on("#play", "it.hidden"), await text("script-said")],
+    [true, "A schedule stalls after 2 steps, and none sooner."]);
   await typeAtEnd("script", "process third\n");
   await shows("of another script nothing is known", explored, ["", []]);
   same("its text is taken back, too", await undone("script"), read("crosswise/script"));

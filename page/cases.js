@@ -101,8 +101,9 @@ function open(it) {
     sheetOf(id).widen(new Lines(text).length);
     if (isFirst) $(id).value = text;
     else rewrite($(id), text);
-    if (id !== "attempts") $(id).scrollTop = 0;
-    $(id).setSelectionRange(text.length, text.length);
+    const caret = id === "attempts" ? text.length : 0;
+    $(id).setSelectionRange(caret, caret);
+    if (caret === 0) $(id).scrollTop = 0;
   }
   $("audit").open = it.journal !== "";
   $("schedules").open = partOf(it, "script") !== "" && (!it.name || it.attempts === "");

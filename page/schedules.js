@@ -6,16 +6,19 @@ const MOST_STATES = 100000;
 // Milliseconds from one step that is played to the next.
 const BEAT = 900;
 
-// The attempts of the schedule that was found, while they are those of the page.
+// What the schedules of the script came to, while that is known; and the attempts of the one that was found, while they are those of
+// the page.
+let found = null;
 let schedule = null;
 
 function wordsOf(found) {
+  const where = schedule === null ? "" : " It is under Attempts now.";
   switch (found.kind) {
     case "done": return `${told("No schedule stalls", "yes")}, and in none is a step refused: ${found.states} states.`;
     case "undecided": return `${told(`Undecided after ${found.states} states`, "no")}: there are more. pathsys explore looks at as many as its --most says.`;
     case "fault": return told(found.says, "no");
-    case "stalled": return `${told(`A schedule stalls after ${counted(found.admitted, "step")}`, "no")}, and none sooner. It is under Attempts now.`;
-    default: return `${told(`A schedule has a step refused after ${counted(found.admitted, "step")}`, "no")}, and none goes wrong sooner. It is under Attempts now.`;
+    case "stalled": return `${told(`A schedule stalls after ${counted(found.admitted, "step")}`, "no")}, and none sooner.${where}`;
+    default: return `${told(`A schedule has a step refused after ${counted(found.admitted, "step")}`, "no")}, and none goes wrong sooner.${where}`;
   }
 }
 
@@ -23,7 +26,7 @@ function wordsOf(found) {
 function explore() {
   const script = $("script").value;
   if (!declared.isRead) return say("script-said", told(FIRST_MEND, "no"));
-  const found = exploredBy(calls, declared.text, script, MOST_STATES);
+  found = exploredBy(calls, declared.text, script, MOST_STATES);
   const marked = new Map(found.line === undefined ? [] : [[found.line, "fault"]]);
   if (found.attempts !== undefined) putSchedule(found.attempts);
   say("script-said", wordsOf(found));
@@ -46,6 +49,7 @@ function putSchedule(attempts) {
 
 // Forgets what was found: of another script or declaration nothing is known.
 function showScript() {
+  found = null;
   say("script-said", "");
   say("script-why", "");
   scriptSheet.show(new Lines($("script").value), new Map());
@@ -58,7 +62,10 @@ function showScript() {
 let beat = 0;
 
 function showPlay() {
-  if (schedule !== null && answered.lines.text !== schedule) schedule = null;
+  if (schedule !== null && answered.lines.text !== schedule) {
+    schedule = null;
+    if (found) say("script-said", wordsOf(found));
+  }
   if (schedule === null) stopPlaying();
   $("play").hidden = schedule === null;
   $("play").textContent = beat ? "Stop" : "Play";
