@@ -1027,6 +1027,8 @@ async function testForced() {
   await shoot("forced");
   same("with forced colours a path's mark has an outline", await outline("#declaration-sheet mark.path"), "solid");
   same("so has the example's button", await outline("#problems [aria-pressed=true]"), "solid");
+  same("a link has the colour of links, which stands out", await value(`((one, other) => getComputedStyle(one).color === getComputedStyle(other).color)(
+    document.getElementById("project"), document.querySelector("#next .no"))`), true);
   same("a live bar has an edge", await on("#picture .bar.live", "getComputedStyle(it).stroke !== getComputedStyle(it).fill"), true);
   await choose("till");
   await shows("a wrong line has another outline", () => outline("#journal-sheet .fault"), "dashed");
