@@ -581,14 +581,19 @@ async function keystrokes(id) {
   return times;
 }
 
-// Prints what a keystroke in the page takes, and what it takes in a text area alone, where nothing listens.
-async function measureKeystrokes(inPage) {
+// Prints what keystrokes and clicks in the page take, and what they take in a text area alone, where nothing listens: of a click that is
+// its attempt with the line feed.
+async function measureKeystrokes(inPage, clicks) {
   await visit("about:blank");
   await value(`document.body.innerHTML = '<textarea id="alone" wrap="off" spellcheck="false" style="width: 18rem; height: 19rem"></textarea>'`);
   await value(`(it => { it.value = ${MANY}; it.setSelectionRange(it.value.length, it.value.length); it.scrollTop = it.scrollHeight; })(document.getElementById("alone"))`);
   const alone = await keystrokes("alone");
-  console.log("keystrokes in a text of 10,000 attempts");
+  await keystroke("alone", "\n");
+  const written = [];
+  for (let i = 0; i < 20; i++) written.push(await keystroke("alone", "1 start deposit\n"));
+  console.log("in a text of 10,000 attempts");
   for (const kind in alone) console.log(`${kind}: ${inShort(inPage[kind])}; in a text area alone ${inShort(alone[kind])}`);
+  console.log(`a click: ${inShort(clicks)}; in a text area alone ${inShort(written)}`);
 }
 
 // The time of a click on a button, with all that follows from it at once, and the layout.
@@ -598,15 +603,15 @@ const timedClick = selector => value(`(began => {
   return performance.now() - began;
 })(performance.now())`);
 
-// Prints what a click takes, with the buttons of a slot in turn.
-async function measureClicks() {
+// Times clicks, with the buttons of a slot in turn.
+async function timesOfClicks() {
   const times = [];
   for (let i = 0; i < 20; i++) {
     const before = await value("answered.length");
     times.push(await timedClick(i % 2 ? `#live [data-key^="finish"]` : `#starts button:not(.forbidden)`));
     await until(`answered.length === ${before + 1} && state.lines === answered.length && ($("live").firstChild !== null) === ${i % 2 === 0}`);
   }
-  console.log(`a click in a text of 10,000 attempts: ${inShort(times)}`);
+  return times;
 }
 
 const PAINTED = "new Promise(done => requestAnimationFrame(() => requestAnimationFrame(done)))";
@@ -1059,8 +1064,7 @@ async function testMany() {
     && [...replies.element.children].every((it, i) => it.textContent === "line " + (first + i + 1) + ": " + answered.entry(first + i)?.reply))(attemptsSheet)`), true);
   await value(`(it => { it.focus(); it.value = ${MANY}; it.setSelectionRange(it.value.length, it.value.length); it.dispatchEvent(new Event("input")); })(document.getElementById("attempts"))`);
   await until("state.lines === 10000");
-  await measureClicks();
-  await measureKeystrokes(inPage);
+  await measureKeystrokes(inPage, await timesOfClicks());
   await measureOpening();
   await measureDeclaration();
   await openPage();
