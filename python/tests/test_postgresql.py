@@ -196,6 +196,22 @@ class Sharing(OnServer, unittest.TestCase):
         self.assertLess(len(calls), 12)  # several lines go in one append
         self.assertEqual((b.waiting(), self.waiters()), ({}, []))
 
+    def test_who_has_nothing_to_do_sleeps(self):
+        """Also behind a wait, for which it was going to look for the dead."""
+        a, b = self.open(BOOK), self.open(BOOK)
+        with a("write"):
+            self.assertRaises(Timeout, b.enter, "read", timeout=0.01)
+            waits = threading.Thread(target=lambda: b.enter("read", timeout=20).leave())
+            waits.start()
+            self.until(lambda: len(self.waiters()) == 1)
+        waits.join(20)
+        time.sleep(1.5 * _clerk.CHECK)
+        sleeps, sleep = [], b._served.clerk._sleep
+        b._served.clerk._sleep = lambda: (sleeps.append(1), sleep())
+        b._served.clerk.ring()
+        time.sleep(0.3)
+        self.assertLess(len(sleeps), 4)
+
     def test_an_attempt_that_meets_nobody_is_one_round_trip(self):
         paths = self.open(BOOK)
         calls = []

@@ -180,6 +180,7 @@ class Clerk:
         if self._inbox:
             self._read_inbox()
         if self._is_idle():
+            self._check_at = float("inf")
             return False
         self._forget_unwanted()
         self._take_notices()
