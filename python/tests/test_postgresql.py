@@ -28,7 +28,7 @@ from wanzoche import (
 )
 
 from .declarations import BOOK, LINE, SLOT
-from .interrupts import at_instruction, interrupt, no_longer_than
+from .interrupts import Interrupt, at_instruction, interrupt, no_longer_than
 from .servers import OnServer, Server, needs_server
 from .stores import THOROUGH
 
@@ -312,6 +312,126 @@ class Sharing(OnServer, unittest.TestCase):
                 self.assertEqual((first.token, second.token), (25001, 25002))
             self.assertEqual(b.journal().count("\n"), 50006)
             self.assertTrue(a.audit())
+
+
+@needs_server
+class AtTheDesk(OnServer, unittest.TestCase):
+    """A thread does itself what it wants, where nobody else wants anything."""
+
+    def setUp(self):
+        super().setUp()
+        guard = no_longer_than(120)
+        guard.__enter__()
+        self.addCleanup(guard.__exit__, None, None, None)
+
+    def around_calls(self, paths, before=None, behind=None):
+        """Does that around each call at the server; the threads that made one."""
+        session, threads = paths._served._log.session, []
+        call = session.call
+
+        def calls(*given):
+            threads.append(threading.current_thread())
+            if before:
+                before()
+            found = call(*given)
+            if behind:
+                behind()
+            return found
+
+        session.call = calls
+        self.addCleanup(setattr, session, "call", call)
+        return threads
+
+    def test_who_calls(self):
+        a, b = self.open(LINE), self.open(LINE)
+        self.sleeps(a)
+        threads = self.around_calls(a)
+        with a("put") as entry:
+            entry.put(3)
+            self.assertIsNone(a.try_enter("put"))
+        a.report()
+        self.assertEqual(set(threads), {threading.current_thread()})
+        with b("put"):
+            threads.clear()
+            waits = threading.Thread(target=lambda: a.enter("put", timeout=20).leave())
+            waits.start()
+            self.until(lambda: a.waiting() == {"put": 1} and waits in threads)
+            self.assertEqual(a.journal().count("started"), 2)
+            self.assertEqual(set(threads), {waits, a._served.clerk.thread})
+        waits.join(20)
+        self.assertTrue(a.audit())
+
+    def sleeps(self, paths):
+        """Waits until the clerk sleeps."""
+        self.until(lambda: paths._served.clerk._is_asleep)
+
+    def test_a_handler_that_comes_between(self):
+        """It can't wait for the thread that it interrupts. What it drops is finished all the same."""
+        a, b = self.open(BOOK), self.open(BOOK)
+        self.sleeps(a)
+        kept, told = [a.enter("read")], []
+
+        def asks():
+            for call in (a.report, a.close, lambda: a.enter("read"), lambda: a.try_enter("read"), kept[0].leave if kept else a.journal):
+                with self.assertRaisesRegex(RuntimeError, "^this thread is using the log log .* already"):
+                    call()
+                    told.append(call)
+            kept.clear()
+
+        self.around_calls(a, asks)
+        a.enter("read").leave()
+        self.assertEqual(told, [])
+        self.until(lambda: b.report().live == ())
+        self.assertTrue(b.audit())
+
+    def test_an_interrupt_costs_nobody_else_anything(self):
+        """Before a call, behind one, and in one whose answer hasn't come, each while another thread wants something, too."""
+        for when in ("before", "behind", "in"):
+            for wanted in ("enter", "leave", "report"):
+                with self.subTest(when + " " + wanted):
+                    self.interrupts(when, wanted)
+
+    def interrupts(self, when, wanted):
+        self.name += "'"
+        a, b, found = self.open(BOOK), self.open(BOOK), []
+        self.sleeps(a)
+        entry = a.enter("read") if wanted == "leave" else None
+        other = threading.Thread(target=lambda: found.append(a.enter("read", timeout=20)))
+        session = a._served._log.session
+
+        def comes():
+            if threading.current_thread() is not other and not found:
+                other.start()
+                self.until(lambda: a._served.clerk._inbox)
+                del session.call, session._read
+                found.append("interrupted")
+                interrupt()
+
+        call, read = session.call, session._read
+        session.call = lambda *given: (when == "before" and comes(), call(*given), when == "behind" and comes())[1]
+        session._read = lambda *given: (when == "in" and comes(), read(*given))[1]
+        with self.assertRaises(Interrupt):
+            {"enter": lambda: a.enter("read"), "leave": lambda: entry.leave(), "report": a.report}[wanted]()
+        other.join(20)
+        self.assertEqual((len(found), found[0], a.worker), (2, "interrupted", "process 1"))
+        if entry:
+            with self.assertRaises(wanzoche.NotInProgress):
+                entry.leave()
+        self.until(lambda: [each.activation for each in b.report().live] == [found[1].activation])
+        found[1].leave()
+        self.assertEqual(a.report().live, ())
+        b.enter("write", timeout=0).leave()
+        self.assertTrue(a.audit())
+
+    def test_a_session_that_is_cut_under_a_thread(self):
+        a, b = self.open(BOOK), self.open(BOOK)
+        for _ in range(5):
+            self.sleeps(a)
+            a._served._log.session._connection.finish()
+            with a("write") as entry:
+                self.assertEqual(entry.worker, "process 1")
+                self.assertIsNone(b.try_enter("read"))
+        self.assertEqual(a.journal().count("started"), 5)
 
 
 @needs_server

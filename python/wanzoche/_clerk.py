@@ -1,7 +1,9 @@
-"""The thread that does all that one process wants of a log at a server.
+"""What one process does at a log that a server keeps: at its desk one thread works at a time, with the session and the replica.
 
-Threads and tasks hand it requests, and wait for their replies. So it alone uses the session and the replica, an interrupt of a thread can
-cut nothing in two, and what several want at once goes in one append.
+That is the clerk, a thread of its own, to which threads and tasks hand requests, and wait for their replies; what several want at once goes
+in one append. But while the clerk sleeps and nobody else wants anything, a thread sits down at the desk and does itself what it wants,
+which saves two switches of threads for each call. An interrupt may cut that off at any instruction. Then the clerk begins another session,
+and reads the log from its begin: what is known is what stands there, and what the interrupted thread wanted is undone.
 """
 
 from __future__ import annotations
@@ -11,10 +13,10 @@ import select
 import threading
 import time
 from collections import deque
-from typing import Callable, Deque, Dict, List, Optional, Sequence, Set, Tuple
+from typing import Any, Callable, Deque, Dict, List, Optional, Sequence, Set, Tuple
 
 from . import _native as native
-from ._errors import Closed, StoreError
+from ._errors import Closed, CorruptStore, StoreError
 from ._log import Gone, Log, Wishes
 from ._postgresql import Cut
 from ._requests import Batch, Bell, Finish, Held, Nobody, Question, Request, Start, Use, wake_nobody
@@ -35,7 +37,8 @@ _VERBS = {native.PUT: b"put %d", native.TAKE: b"take", native.LOOK: b"look", nat
 
 
 class Clerk:
-    """Works until it is told to end, or until a line of the log isn't owed."""
+    """Works until it is told to end, or until a line of the log isn't owed. All but `submit`, `do`, `ring` and `end` is for who is at the
+    desk."""
 
     def __init__(self, log: Log, paths: Sequence[Path], numbers: Dict[str, int], finishes_lost: bool, patience: float) -> None:
         self.log = log
@@ -49,8 +52,11 @@ class Clerk:
         self._finishes_lost, self._patience = finishes_lost, patience
         self._inbox: Deque[Request] = deque()
         self._bell = Bell()
-        self._poller, self._watched = select.poll(), -1
-        self._is_asleep = False
+        self._desk = threading.RLock()
+        self._here: Optional[Request] = None  # what a thread does at the desk, or did when it was interrupted
+        self._is_cut = False  # whether it was
+        self._poller, self._watched = select.epoll(), -1
+        self._is_asleep = False  # whether the clerk has left the desk, until something happens
         self._ends = False
         self._starts: Dict[int, Deque[Start]] = {}
         self._uses: List[Use] = []
@@ -78,6 +84,32 @@ class Clerk:
         if self.is_over:
             self._refuse_all()
 
+    def do(self, request: Request) -> None:
+        """Does what a thread wants, here and now if the clerk sleeps and nobody else wants anything. Else the clerk does it. Raises
+        RuntimeError if an interrupt of this thread wants something while the thread is at the desk."""
+        is_taken = False
+        if not self.is_over:
+            self.has_to_be_away()
+            try:
+                try:
+                    is_taken = self._desk.acquire(False) and self._do_here(request)
+                    self._leave_desk()
+                except BaseException:
+                    self._leave_desk()
+                    raise
+            except BaseException:
+                self._leave_desk()  # again, for an interrupt may have cut it off
+                raise
+        if not is_taken:
+            self.submit(request)
+        elif self.is_over:
+            self._refuse_all()
+
+    def has_to_be_away(self) -> None:
+        """Raises RuntimeError if this thread is at the desk: a signal handler that came between can't wait for it."""
+        if self._is_at_desk():
+            raise RuntimeError("this thread is using the log {} already: what interrupts it has to do without".format(self.log.name))
+
     def ring(self) -> None:
         """Wakes the clerk, if it sleeps."""
         self._bell.ring()
@@ -92,24 +124,108 @@ class Clerk:
         known = list(self._starts.get(op, ())) + [each for each in list(self._inbox) if isinstance(each, Start) and each.held._op == op]
         return sum(each.waits and each.is_wanted() for each in known)
 
+    # Threads at the desk
+
+    def _is_at_desk(self) -> bool:
+        desk: Any = self._desk
+        return bool(desk._is_owned())  # as threading.Condition asks of its lock
+
+    def _do_here(self, request: Request) -> bool:
+        """At the desk: whether the request is done, or the clerk knows of it. Nobody else's is touched, so an interrupt costs nobody else
+        anything."""
+        if not self._is_asleep or self._inbox or self._ends or self._is_cut or self._is_unsure or self.fault or self._flight:
+            return False
+        watched = self._watched
+        if not self._is_idle() or self.log.session.fileno() != watched:
+            return False
+        self._here = request
+        self._check_at = float("inf")
+        try:
+            self._poller.modify(watched, 0)  # or each answer would wake the clerk
+            only = self._only(request)
+            if only is None:
+                self._put_in(request)
+            else:
+                self._send(only)
+            while not (request.is_over() or self._inbox) and self._do_next():
+                pass
+            self._poller.modify(watched, select.EPOLLIN)
+        except Cut:
+            pass  # the clerk begins another session, and sends again what was on its way
+        except Gone:
+            self._is_unsure = True
+        except CorruptStore as error:
+            self.fault = error  # which ends the clerk
+        if self._inbox or self._flight or self._is_unsure or self.fault or not self._is_idle() or self.log.session.fileno() != watched:
+            self.ring()
+        self._here = None
+        return True
+
+    def _only(self, request: Request) -> Optional[Batch]:
+        """What is to be appended for this request, while nobody else wants anything; None if it isn't one line."""
+        log = self.log
+        if isinstance(request, Start):
+            answer = log.replica.owed_start(log.worker, request.held._op)
+            if answer.code == native.STARTED:
+                return Batch(((request, self._start_line(request.held._op, answer.number)),), {}, Wishes(), log.place, False)
+        elif isinstance(request, Finish):
+            held = request.held
+            if held._live and self.held.get(held._number) is held and not self._is_lost(held._number):
+                return Batch((), {held._number: request}, Wishes((held._number,), tuple(self._rivals[held._op])), log.place, False)
+        return None
+
+    def _start_line(self, op: int, number: int) -> bytes:
+        return b"%d start %b: started %d" % (self.log.worker, self._names[op], number)
+
+    def _leave_desk(self) -> None:
+        """Of a thread: if it was interrupted there, the clerk sets all right, and what it wanted is undone."""
+        if self._is_at_desk():
+            here = self._here
+            if here is not None and not self._is_cut:
+                if isinstance(here, (Start, Finish)):
+                    here.held._live = False
+                self.ring()
+                self._is_cut = True
+            self._desk.release()
+
+    def _mend(self) -> None:
+        """After that: ends the session, in which a call may be on its way. Nobody but the interrupted thread wanted anything."""
+        here = self._here
+        if isinstance(here, (Start, Finish)):
+            for number in [number for number, held in self.held.items() if held is here.held]:
+                del self.held[number]
+        self._starts, self._uses, self._finishes, self._questions, self._flight = {}, [], [], [], None
+        self._unknown.clear()
+        self._passes.update(self._names)  # for one that was to be woken
+        self._is_unsure = True
+        self._is_cut, self._here = False, None
+        self.log.session.close()
+        raise Cut("it was interrupted")
+
     # The thread
 
     def _run(self) -> None:
-        try:
-            while not self._ends:
-                self._through_outages(self._work)
-            while not self._through_outages(self._finish_all):
-                pass
-        except BaseException as error:
-            self.fault = self.fault or error
-        self.is_over = True
-        self.log.session.close()
-        self.log.replica.close()
-        self._refuse_all()
+        with self._desk:
+            try:
+                while not self._ends:
+                    self._through_outages(self._work)
+                while not self._through_outages(self._finish_all):
+                    pass
+            except BaseException as error:
+                self.fault = self.fault or error
+            self.is_over = True
+            self.log.session.close()
+            self.log.replica.close()
+            self._poller.close()
+            self._refuse_all()
 
     def _through_outages(self, work: Callable[[], None]) -> bool:
         """Does that: False if the session was cut meanwhile, or the server has lost lines."""
         try:
+            if self.fault is not None:
+                raise self.fault
+            if self._is_cut:
+                self._mend()
             if self._is_unsure:
                 self._begin_anew()
             work()
@@ -128,23 +244,30 @@ class Clerk:
             self._sleep()
 
     def _sleep(self) -> None:
-        """Until a request comes, a notification, the end of the session, or the time of a check."""
+        """Until a request comes, a notification, the end of the session, or the time of a check. Meanwhile the desk is free."""
         fd = self.log.session.fileno()
         if fd < 0:
             raise Cut("the connection was closed")
         if fd != self._watched:
-            self._poller, self._watched = select.poll(), fd
-            self._poller.register(self._bell.rung, select.POLLIN)
-            self._poller.register(fd, select.POLLIN)
+            self._watch(fd)
+        seconds = max(self._check_at - time.monotonic(), 0) if self._check_at < float("inf") else None
         self._is_asleep = True
-        seconds = max(self._check_at - time.monotonic(), 0) * 1000 if self._check_at < float("inf") else None
-        ready = () if self._inbox else self._poller.poll(seconds)
+        self._desk.release()
+        ready = [] if self._inbox else self._poller.poll(seconds)
         self._is_asleep = False
+        self._desk.acquire()
         for each, _ in ready:
             if each == fd:
                 self.log.session.look()
             else:
                 self._bell.silence()
+
+    def _watch(self, fd: int) -> None:
+        """For a new session. A command that was given the one before keeps its socket known to the old poller."""
+        self._poller.close()
+        self._poller, self._watched = select.epoll(), fd
+        self._poller.register(self._bell.rung, select.EPOLLIN)
+        self._poller.register(fd, select.EPOLLIN)
 
     def _has_waiters(self) -> bool:
         return any(self._starts.values())
@@ -162,15 +285,17 @@ class Clerk:
 
     def _read_inbox(self) -> None:
         while self._inbox:
-            request = self._inbox.popleft()
-            if isinstance(request, Start):
-                self._starts.setdefault(request.held._op, deque()).append(request)
-            elif isinstance(request, Use):
-                self._uses.append(request)
-            elif isinstance(request, Finish):
-                self._finishes.append(request)
-            elif isinstance(request, Question):
-                self._questions.append(request)
+            self._put_in(self._inbox.popleft())
+
+    def _put_in(self, request: Request) -> None:
+        if isinstance(request, Start):
+            self._starts.setdefault(request.held._op, deque()).append(request)
+        elif isinstance(request, Use):
+            self._uses.append(request)
+        elif isinstance(request, Finish):
+            self._finishes.append(request)
+        elif isinstance(request, Question):
+            self._questions.append(request)
 
     def _step(self) -> bool:
         """One call at the server, or several in a turn: False if there is nothing to do."""
@@ -179,6 +304,10 @@ class Clerk:
             return True
         if self._inbox:
             self._read_inbox()
+        return self._do_next()
+
+    def _do_next(self) -> bool:
+        """The same, of what was read."""
         if self._is_idle():
             self._check_at = float("inf")
             return False
@@ -314,7 +443,7 @@ class Clerk:
             if ready and len(found) < 2:
                 answer = self.log.replica.owed_start(self.log.worker, op)
                 if answer.code == native.STARTED:
-                    line = b"%d start %b: started %d" % (self.log.worker, self._names[op], answer.number)
+                    line = self._start_line(op, answer.number)
                     found += [(each, line) for each in ready[: 1 if op in self._alone else 2]]
                 elif answer.code != native.BLOCKED:
                     self._refuse_starts(op, answer.code)
@@ -384,7 +513,7 @@ class Clerk:
                 if answer.code != native.STARTED:
                     break
                 queue.remove(start)
-                lines.append((start, b"%d start %b: started %d" % (self.log.worker, self._names[op], answer.number)))
+                lines.append((start, self._start_line(op, answer.number)))
                 count += 1
             if len(ready) > 1 and count == 1:
                 self._alone.add(op)
@@ -427,6 +556,8 @@ class Clerk:
 
     def _reply_blocked(self) -> None:
         """To those that don't wait, unless a dead worker was in their way. A request stays where it is until no call may be cut off."""
+        if not self._has_waiters():
+            return
         blocked = self._blocked()
         if blocked and self._finishes_lost and self._bury_dead():
             blocked = self._blocked()
@@ -540,7 +671,7 @@ class Clerk:
             self._questions.remove(each)
 
     def lost(self) -> List[native.Activation]:
-        """In the clerk's thread: what dead workers have in progress."""
+        """At the desk: what dead workers have in progress."""
         live = [each for each in self.log.replica.live() if each.worker != self.log.worker]
         dead = self.log.dead(sorted({each.worker for each in live}))
         return [each for each in live if each.worker in dead]
@@ -555,7 +686,7 @@ class Clerk:
         return bool(found)
 
     def bury(self, worker: int, found: Sequence[native.Activation], even_alive: bool) -> bool:
-        """In the clerk's thread: finishes this for a worker, if it is dead."""
+        """At the desk: finishes this for a worker, if it is dead."""
         wakes = {op for each in found for op in self._rivals[each.operation]}
         return self.log.bury(worker, [each.number for each in found], sorted(wakes), even_alive)
 

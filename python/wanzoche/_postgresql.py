@@ -180,11 +180,12 @@ class Session:
         self._connection.flush()
         while True:
             result = self._next(until)
-            status = -1 if result is None else int(result.status)
             if result is None:
                 if not self._is_in_pipeline:
                     break
-            elif status == self._synced:
+                continue
+            status = int(result.status)
+            if status == self._synced:
                 syncs -= 1
                 if not syncs:
                     break

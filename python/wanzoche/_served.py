@@ -33,7 +33,7 @@ _LOST = "activation {} was finished by others, which took this process for dead"
 
 
 class ServedStore:
-    """One opening of a log. Its clerk's thread does the work."""
+    """One opening of a log. Its clerk does the work, in its thread or in a caller's."""
 
     room = 65536
     sync = False
@@ -91,7 +91,7 @@ class ServedStore:
         asleep.acquire()
         start = begun._attempt = Start(asleep.release, begun, worker, until is None or until > time.monotonic())
         try:
-            self.clerk.submit(start)
+            self.clerk.do(start)
             if until is None or not start.waits:
                 asleep.acquire()
             elif not asleep.acquire(True, min(max(until - time.monotonic(), 0.0), threading.TIMEOUT_MAX)):
@@ -117,11 +117,11 @@ class ServedStore:
                 self.drop(begun)
 
     def _wait_for(self, make: Callable[[Callable[[], None]], Request]) -> int:
-        """Hands a request to the clerk, and waits for the reply: the answer's code."""
+        """Makes a request, and waits for the reply: the answer's code."""
         asleep = threading.Lock()
         asleep.acquire()
         request = make(asleep.release)
-        self.clerk.submit(request)
+        self.clerk.do(request)
         asleep.acquire()
         return self.code_of(request)
 
@@ -160,7 +160,7 @@ class ServedStore:
         return native.Answer(code, made[0].number)
 
     def ask(self, asks: Callable[[], T]) -> T:
-        """What a question gives in the clerk's thread, when the log has been followed."""
+        """What a question gives at the desk, when the log has been followed."""
         made: List[Question] = []
 
         def make(wake: Callable[[], None]) -> Request:
@@ -185,7 +185,7 @@ class ServedStore:
         return len(found)
 
     def lost(self) -> List[native.Activation]:
-        """In the clerk's thread: what dead workers have in progress."""
+        """At the desk: what dead workers have in progress."""
         return self.clerk.lost()
 
     def texts(self) -> List[str]:
@@ -219,6 +219,7 @@ class ServedStore:
         can't be told."""
         if self._is_closed:
             return
+        self.clerk.has_to_be_away()
         self._is_closed = True
         self.clerk.end()
         if threading.current_thread() is not self.clerk.thread:
@@ -449,7 +450,7 @@ class ServedPaths(StoredPaths):
         return ServedQueues(self._calls, self._served.clerk)
 
     def _blocked_now(self, operation: str) -> Optional[Blocked]:
-        """In the clerk's thread: what forbids the operation."""
+        """At the desk: what forbids the operation."""
         told = None if self._replica_can_start(operation) else self._read_report()
         return None if told is None else self._why_of(operation, told)
 
