@@ -179,6 +179,27 @@ class Sharing(OnServer, unittest.TestCase):
         told = "select worker from wanzoche.waiting join wanzoche.log using (log) where name = %s and since is not null"
         return self.server.run(told, self.name)
 
+    def test_who_begins_to_wait_does_so_in_a_turn(self):
+        """So whoever appends behind it knows, and what was appended before it is read."""
+        a, b = self.open(BOOK), self.open(BOOK)
+        key = "wanzoche.key((select log from wanzoche.log where name = '{}'), 0)".format(self.name)
+        with a("write"):
+            self.assertRaises(Timeout, b.enter, "read", timeout=0.01)  # the first time it begins to listen, too
+            self.until(lambda: not self.waiters())
+            import psycopg
+
+            with psycopg.connect(self.server.url, autocommit=True, gssencmode="disable") as other:
+                other.execute("select pg_advisory_lock({})".format(key))
+                waits = threading.Thread(target=lambda: b.enter("read", timeout=20).leave())
+                waits.start()
+                self.until(lambda: self.server.run("select 1 from pg_locks where locktype = 'advisory' and not granted"))
+                self.assertEqual(self.waiters(), [])
+                other.execute("select pg_advisory_unlock({})".format(key))
+            self.until(lambda: len(self.waiters()) == 1)
+        waits.join(20)
+        self.until(lambda: not self.waiters())
+        self.assertEqual(a.journal().count("started"), 2)
+
     def test_a_process_waits_once(self):
         a, b = self.open(BOOK), self.open(BOOK)
         entry = a.enter("write")

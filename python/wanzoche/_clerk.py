@@ -26,8 +26,8 @@ CHECK = 1.0
 """After so many seconds who waits looks for dead workers, and for a wake that somebody owed who died."""
 TOGETHER = 64
 """At most so many lines go in one append."""
-BEATEN = 2
-"""After so many appends that came too late the next one is made in a turn."""
+BEATEN = 8
+"""After so many appends that came too late the next one is made in a turn: that keeps all others waiting for two calls."""
 CONNECTING = 10.0
 """So many seconds one attempt to connect may take."""
 LATE = 1.0

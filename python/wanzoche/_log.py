@@ -32,6 +32,17 @@ PUT = (
     "on conflict do nothing returning stamp"
 )
 """Appends one line, if its place is the next one: then there is a row."""
+WAIT = (
+    "insert into wanzoche.waiting (log, operation, worker, since) select $1::int, o, $2::int, clock_timestamp() "
+    "from (select pg_advisory_xact_lock(wanzoche.key($1::int, 0)) offset 0) turn, unnest($3::int[]) o "
+    "on conflict (log, operation, worker) do update set since = excluded.since where waiting.since is null"
+)
+"""Waits for operations from now on. In a turn, so that whoever appends behind it knows; what was appended before it is read then."""
+STOP = (
+    "update wanzoche.waiting set since = null where log = $1::int and worker = $2::int and operation = any ($3::int[]) "
+    "and exists (select from wanzoche.line x where x.log = $1::int and x.place = $4::bigint and x.line = $5)"
+)
+"""Waits for operations no more, if a line was appended."""
 STATEMENTS = {
     b"begin": "begin",
     b"commit": "commit",
@@ -43,6 +54,8 @@ STATEMENTS = {
     b"lines": "select * from wanzoche.lines($1, $2, $3)",
     b"put": PUT,
     b"put_and_wake": PUT + ", wanzoche.wake($1::int, $2::int, $6::int[])",
+    b"wait": WAIT,
+    b"stop": STOP,
     b"lasts": "select set_config('synchronous_commit', $1, true), pg_logical_emit_message(true, 'wanzoche', '')",
     b"append": "select * from wanzoche.append($1, $2, $3, $4, $5, $6, $7, $8, $9, $10)",
     b"turn": "select * from wanzoche.turn($1, $2, $3)",
@@ -153,9 +166,13 @@ class Log:
         """Appends lines if their place is the next one, and finishes, and takes over what has come: whether the lines are in the log, and
         which of the finishes are others'. With `is_stepped` the replica has taken these lines already, in a turn, which ends."""
         over, wakes, waits, stops = wishes
-        if not (waits or stops or is_stepped) and len(over) + (text is not None) == 1 and (text is None or b"\n" not in text):
+        if waits and self._listens and not (over or wakes or stops or is_stepped) and text is None:
+            self._wait(waits)
+            return False, set()
+        is_one = len(over) + (text is not None) == 1 and (text is None or b"\n" not in text)
+        if is_one and not (waits or is_stepped or stops and (over or wakes)):
             line = b"%d finish %d: finished" % (self.worker, over[0]) if text is None else text
-            is_put, is_there = self._put(line, wakes, before)
+            is_put, is_there = self._put(line, wakes, stops, before)
             if text is not None or is_put:
                 return is_there and text is not None, set()
             before = self.place  # somebody else may have finished it, with the same line
@@ -179,10 +196,19 @@ class Log:
                 self.follow()
         return is_in, {int(each) for each in (taken or b"{}")[1:-1].split(b",") if each}
 
-    def _put(self, line: bytes, wakes: Sequence[int], before: Place) -> Tuple[bool, bool]:
-        """Appends a line, if its place is the next one, and takes over what is new: whether it was appended, and whether it is there."""
+    def _wait(self, operations: Sequence[int]) -> None:
+        """Waits for operations from now on, and takes over what is new."""
+        given: Row = (self._log, b"%d" % self.worker, array(operations))
+        if self._take(self._call(Call(b"wait", given), Call(b"lines", self._known()))[1][0]) >= MOST:
+            self.follow()
+
+    def _put(self, line: bytes, wakes: Sequence[int], stops: Sequence[int], before: Place) -> Tuple[bool, bool]:
+        """Appends a line, if its place is the next one, and takes over what is new: whether it was appended, and whether it is there. If it
+        is, it doesn't wait for the operations `stops` any more."""
         given: Row = (self._log, b"%d" % self.worker, b"%d" % before.lines, before.stamp, line)
         calls = [Call(b"put_and_wake", (*given, array(wakes))) if wakes else Call(b"put", given)]
+        if stops:
+            calls.append(Call(b"stop", (self._log, given[1], array(stops), given[2], line)))
         if self._sync:
             calls.append(self._lasts())
         if self._has_company:
