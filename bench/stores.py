@@ -30,7 +30,8 @@ def alone(folder, syncs, pairs):
             with paths("write"):
                 pass
         took = time.perf_counter() - began
-    os.unlink(store)
+    for end in ("", ".shared"):
+        os.unlink(store + end)
     return took / pairs * 1e6
 
 

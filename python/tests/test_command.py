@@ -4,6 +4,7 @@ import os
 import signal
 import subprocess
 import sys
+import time
 import unittest
 
 from wanzoche import Paths
@@ -45,8 +46,29 @@ class Commands(InFolder, unittest.TestCase):
                 told, why, status = self.runs("exec", *options, "read", "--", "echo", "hello")
                 self.assertEqual((told, status), ("", 9 if len(options) == 3 else 1))
                 self.assertRegex(why, "^wanzoche: read is blocked( for 0.05 seconds)?: .* in progress: write by process 1\n$")
-            self.assertEqual(self.runs("status")[0], "startable\nblocked read 0\nblocked write 0\nlive 0 1 write\nfrozen no\n")
+            told = "startable\nblocked read 0\nblocked write 0\nlive 0 1 write\nfrozen no\nprocess 1 {}\n".format(os.getpid())
+            self.assertEqual(self.runs("status")[0], told)
         self.assertEqual(self.runs("exec", "read", "--", "echo", "hello"), ("hello\n", "", 0))
+
+    def test_who_waits_is_told_so_on_a_terminal(self):
+        paths = self.open(BOOK)
+        words = self.words("exec", "--timeout", "20", "read", "--", "echo", "hello")
+        ours, theirs = os.openpty()
+        self.addCleanup(os.close, ours)
+        with paths("write"):
+            with subprocess.Popen(words, stdin=subprocess.DEVNULL, stdout=subprocess.PIPE, stderr=theirs) as process:
+                os.close(theirs)
+                told = b""
+                while not told.endswith(b"\n"):
+                    told += os.read(ours, 1000)
+                why = "^wanzoche: waiting: read is blocked: path 0 of book: .*; in progress: write by process 1 [(]process 1 is {}[)]\r\n$"
+                self.assertRegex(told.decode(), why.format(os.getpid()))
+                paths._store.finish(paths._store.held[0])
+                self.assertEqual((process.stdout.read(), process.wait(60)), (b"hello\n", 0))
+            with subprocess.Popen(words, stdin=subprocess.DEVNULL, stdout=subprocess.PIPE, stderr=subprocess.PIPE) as process:
+                with paths("write"):
+                    time.sleep(1.5)
+                self.assertEqual((process.stdout.read(), process.stderr.read()), (b"hello\n", b""))
 
     def test_signals_are_handed_on(self):
         ready = "trap 'echo caught; exit 3' TERM; echo ready; while :; do sleep 0.05; done"

@@ -2,6 +2,7 @@
 
 import os
 import signal
+import socket
 import subprocess
 import sys
 import tempfile
@@ -44,6 +45,8 @@ class Commands(OnServer, unittest.TestCase):
             told, why, status = self.runs("exec", "--nonblock", "--conflict-status", "9", "read", "--", "echo", "hello")
             self.assertEqual((told, status), ("", 9))
             self.assertRegex(why, "^wanzoche: read is blocked( for .* seconds)?: .* in progress: write by process ")
+            told = "process {} {} {}\n".format(paths.worker.split()[-1], os.getpid(), socket.gethostname())
+            self.assertEqual(self.runs("status")[0].partition("frozen no\n")[2], told)
 
     def test_a_command_outlives_who_runs_it(self):
         """Then its operation is in progress until it ends, too."""

@@ -724,7 +724,8 @@ class Refusals(InFolder, unittest.TestCase):
                 file.write(head)
             self.refused(CorruptStore, "in line 1: ")
             self.assertEqual(self.text(), head)
-        os.unlink(self.file)
+        for end in ("", ".shared"):
+            os.unlink(self.file + end)
         with Paths(BOOK, store=self.file):
             pass
         with open(self.file + ".shared", "r+b") as file:
@@ -748,14 +749,33 @@ class Refusals(InFolder, unittest.TestCase):
         self.open(BOOK)
 
     def test_the_journal_is_gone(self):
+        """Nobody begins another one in its place: what was in progress would be forgotten, and tokens given again."""
         paths = self.open(BOOK)
+        paths.enter("read").leave()
+        text = self.text()
         os.unlink(self.file)
-        self.refused(CorruptStore, "isn't the file that others have open$")
+        told = "door.log is gone, and .*door.log.shared, which belongs to it, is there: put the journal back, or remove that file, too"
+        self.refused(StoreError, told)
         for call in (paths.report, lambda: paths.enter("read")):
             with self.assertRaisesRegex(CorruptStore, "the file was removed$"):
                 call()
         paths.close()
+        self.refused(StoreError, told)
+        self.assertEqual(os.listdir(self.folder), ["door.log.shared"])
+        with open(self.file, "wb") as file:
+            file.write(text)
+        with Paths(BOOK, store=self.file) as again:
+            self.assertEqual((again.worker, again.journal().count("\n")), ("process 2", 2))
+        for end in ("", ".shared"):
+            os.unlink(self.file + end)
         self.open(BOOK)
+
+    def test_another_journal_in_its_place(self):
+        paths = self.open(BOOK)
+        os.unlink(self.file)
+        open(self.file, "w").close()
+        self.refused(CorruptStore, "isn't the file that others have open$")
+        paths.close()
 
     def test_files_that_cannot_be_opened(self):
         with self.assertRaisesRegex(StoreError, "can't be opened: Is a directory$"):

@@ -2,7 +2,8 @@
 
 Turns and presence are locks on bytes far behind its end, which the kernel gives back when a process dies, however that comes. They are
 locks of the open file (`F_OFD_SETLK`), so no other use of the file in the process drops them. The first page is mapped: it has the word
-that those wait on who wait for a turn (a futex), and numbers that all share. The declaration stands behind it.
+that those wait on who wait for a turn (a futex), and numbers that all share. The declaration stands behind it, and behind that the number
+of each worker's process.
 """
 
 from __future__ import annotations
@@ -16,7 +17,7 @@ import platform
 import struct
 import time
 from ctypes import c_uint8, c_uint32, c_uint64
-from typing import Any
+from typing import Any, Optional
 
 from ._errors import StoreError
 
@@ -25,6 +26,7 @@ VERSION = 1
 
 _MAGIC = b"wanzoche"
 _HEAD = struct.Struct("=8sII")  # the magic, the version, and the length of the declaration
+_PROCESS = struct.Struct("=Q")
 PAGE = 4096
 _OFD_GETLK, _OFD_SETLK, _OFD_SETLKW = 36, 37, 38
 _FLOCK = "hhqqi4x"  # struct flock on Linux with 64 bits
@@ -133,7 +135,18 @@ class Beside:
 
     def arrive(self, worker: int) -> None:
         """From now on this worker is alive, until this opening is closed or the process dies."""
+        os.pwrite(self.fd, _PROCESS.pack(os.getpid()), self._place_of(worker))
         fcntl.fcntl(self.fd, _OFD_SETLK, _asked(fcntl.F_WRLCK, _WORKERS + worker))
+
+    def process_of(self, worker: int) -> Optional[int]:
+        """The number that a worker's process gave itself; None if it isn't known."""
+        found = os.pread(self.fd, _PROCESS.size, self._place_of(worker)).ljust(_PROCESS.size, b"\0")
+        number: int = _PROCESS.unpack(found)[0]
+        return number or None
+
+    def _place_of(self, worker: int) -> int:
+        """Where the number of its process stands: behind the declaration."""
+        return int(PAGE * (2 + self._length // PAGE) + _PROCESS.size * worker)
 
     def is_gone(self, worker: int) -> bool:
         """Whether another's worker has ended or died."""

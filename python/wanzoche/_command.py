@@ -8,12 +8,13 @@ import shutil
 import signal
 import subprocess
 import sys
+import threading
 import time
 from typing import Any, List, Optional
 
 from . import __version__
 from ._beside import Beside
-from ._errors import CorruptStore, StoreError, Timeout, WanzocheError
+from ._errors import Blocked, CorruptStore, StoreError, Timeout, WanzocheError
 from ._log import declaration_of
 from ._options import parser
 from ._paths import Paths
@@ -24,6 +25,8 @@ WRONG_LINE = 5
 OWN_FAULT = 125
 """As `env` and `timeout` have it: the fault is this program's, and the command wasn't run."""
 NOT_RUNNABLE, NOT_FOUND = 126, 127
+TELLS = 1.0
+"""After so many seconds `exec` says on a terminal what it waits for."""
 HANDED_ON = (signal.SIGTERM, signal.SIGHUP, signal.SIGUSR1, signal.SIGUSR2, signal.SIGINT, signal.SIGQUIT)
 OF_TERMINAL = (signal.SIGINT, signal.SIGQUIT)
 """A terminal sends these to the command, too."""
@@ -93,11 +96,49 @@ def _operations(given: Any) -> int:
     return 0
 
 
+class _Told:
+    """While this lasts somebody waits for an operation: on a terminal they are told so after a while, and why."""
+
+    def __init__(self, paths: StoredPaths, operation: str) -> None:
+        self._paths, self._operation = paths, operation
+        self._is_over, self._telling = threading.Event(), threading.Lock()
+
+    def __enter__(self) -> None:
+        if sys.stderr.isatty():
+            threading.Thread(target=self._tell, daemon=True).start()
+
+    def __exit__(self, *_: Any) -> None:
+        self._is_over.set()
+        with self._telling:
+            pass  # nothing is told behind this
+
+    def _tell(self) -> None:
+        while not self._is_over.wait(TELLS):
+            try:
+                why = self._paths.why(self._operation)
+                who = "" if why is None else _processes(self._paths, why)
+            except (WanzocheError, OSError):
+                return  # who waits is told the same
+            with self._telling:
+                if why is not None and not self._is_over.is_set():
+                    print("wanzoche: waiting: {}{}".format(why, who), file=sys.stderr, flush=True)
+                    return
+
+
+def _processes(paths: StoredPaths, why: Blocked) -> str:
+    """Which processes those are that are in the way, as far as the store knows."""
+    workers = dict.fromkeys(int(worker.split()[-1]) for _, worker in why.in_progress)
+    known = [(worker, paths._store.process_of(worker)) for worker in workers]
+    told = ["process {} is {}".format(worker, process) for worker, process in known if process]
+    return " ({})".format(", ".join(told)) if told else ""
+
+
 def _exec(paths: StoredPaths, given: Any) -> int:
     """Runs a command as an operation: its status, or that of a conflict."""
     words = given.run[given.run[:1] == ["--"] :]
     try:
-        entry = paths.enter(given.operation, 0 if given.nonblock else given.timeout)
+        with _Told(paths, given.operation):
+            entry = paths.enter(given.operation, 0 if given.nonblock else given.timeout)
     except Timeout as error:
         print("wanzoche: {}".format(error), file=sys.stderr)
         return int(given.conflict_status)
@@ -144,6 +185,10 @@ def _status(paths: StoredPaths) -> int:
     sys.stdout.write(report.text)
     for each in report.lost:
         print("lost {} {} {}".format(each.activation, each.worker.split()[-1], each.operation))
+    for worker in dict.fromkeys(int(each.worker.split()[-1]) for each in report.live):
+        process = paths._store.process_of(worker)
+        if process:
+            print("process {} {}".format(worker, process))
     return 0
 
 

@@ -3,6 +3,7 @@
 from __future__ import annotations
 
 import os
+import socket
 import time
 from typing import List, NamedTuple, Optional, Sequence, Set, Tuple
 
@@ -48,7 +49,8 @@ STATEMENTS = {
     b"commit": "commit",
     b"rollback": "rollback",
     b"open": "select * from wanzoche.open($1, $2)",
-    b"arrive": "select wanzoche.arrive($1)",
+    b"arrive": "select wanzoche.arrive($1, $2)",
+    b"process": "select process from wanzoche.worker where log = $1 and worker = $2",
     b"hold": "select wanzoche.hold($1, $2)",
     b"leave": "select wanzoche.leave($1, $2)",
     b"lines": "select * from wanzoche.lines($1, $2, $3)",
@@ -139,10 +141,16 @@ class Log:
             raise self._refused(error) from error
 
     def _arrive(self) -> None:
-        ((number,),) = self._call(Call(b"arrive", (self._log,)))[0]
+        process = "{} {}".format(os.getpid(), socket.gethostname())
+        ((number,),) = self._call(Call(b"arrive", (self._log, process.encode())))[0]
         if number is None:
             raise StoreError("the log {} was removed".format(self.name))
         self.worker = int(number)
+
+    def process_of(self, worker: int) -> Optional[str]:
+        """The process of a worker, and its machine; None if that isn't known."""
+        rows = self._call(Call(b"process", (self._log, b"%d" % worker)))[0]
+        return " ".join(rows[0][0].decode("utf-8", "replace").split()) if rows and rows[0][0] else None
 
     def leave(self) -> None:
         """The worker ends."""

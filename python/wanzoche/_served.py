@@ -184,6 +184,10 @@ class ServedStore:
         log.follow()
         return len(found)
 
+    def process_of(self, worker: int) -> Optional[str]:
+        """The process of a worker, and its machine; None if that isn't known."""
+        return self.ask(lambda: self._log.process_of(worker))
+
     def lost(self) -> List[native.Activation]:
         """At the desk: what dead workers have in progress."""
         return self.clerk.lost()

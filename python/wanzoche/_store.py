@@ -138,10 +138,10 @@ class Store(Turns):
         if answer.code != native.OPENED:
             return answer
         try:
-            self._lines = Lines(self.path)
+            self._lines = self._journal()
         except OSError as error:
             self._replica.close()
-            raise self._failed("can't be opened", error) from error
+            raise error if isinstance(error, StoreError) else self._failed("can't be opened", error) from error
         try:
             self._begin()
         except BaseException:
@@ -149,6 +149,18 @@ class Store(Turns):
             self._lines.close()
             raise
         return answer
+
+    def _journal(self) -> Lines:
+        """The journal's file. It is made if there is none, but not where there was one: it is made before the file beside it, and is never
+        gone while that is there."""
+        beside = self.path + ".shared"
+        if not os.path.exists(beside):
+            return Lines(self.path)
+        try:
+            return Lines(self.path, 0)
+        except FileNotFoundError as error:
+            told = "{} is gone, and {}, which belongs to it, is there: put the journal back, or remove that file, too, to begin anew"
+            raise StoreError(told.format(self.path, beside)) from error
 
     def _begin(self) -> None:
         """The rest, once the journal is open."""
@@ -783,6 +795,11 @@ class Store(Turns):
         finally:
             os.close(file)
         return [without_marks(each.decode("ascii")).partition("\n")[2] for each in texts]
+
+    def process_of(self, worker: int) -> Optional[str]:
+        """The process of a worker, by the number that it gave itself; None if it isn't known."""
+        found = self._beside.process_of(worker)
+        return None if found is None else str(found)
 
     # Ending
 

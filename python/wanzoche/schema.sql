@@ -47,6 +47,7 @@ create unique index line_finishes on wanzoche.line (log, finishes) where finishe
 create table wanzoche.worker (
     log int not null,
     worker int not null,
+    process text,  -- for whoever asks who that is: the number of its process, and its machine
     gone timestamptz,  -- when somebody first saw its lock free
     is_over boolean not null default false,  -- it never comes back, and others may finish what it has in progress
     primary key (log, worker)
@@ -80,11 +81,11 @@ begin
 end $$;
 
 -- A new worker, whose lock the session has.
-create function wanzoche.arrive(l int) returns int language plpgsql as $$
+create function wanzoche.arrive(l int, process text) returns int language plpgsql as $$
 declare w int;
 begin
     update wanzoche.log set workers = workers + 1 where log = l returning workers into w;
-    insert into wanzoche.worker (log, worker) values (l, w);
+    insert into wanzoche.worker (log, worker, process) values (l, w, process);
     perform pg_advisory_lock(wanzoche.key(l, w));
     if current_setting('synchronous_commit') = 'off' then
         perform set_config('synchronous_commit', 'on', true);  -- or the number might be given again after a crash
