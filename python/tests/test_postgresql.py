@@ -3,7 +3,9 @@
 import asyncio
 import gc
 import os
+import random
 import signal
+import sys
 import threading
 import time
 import unittest
@@ -1002,6 +1004,44 @@ class Interrupts(OnServer, unittest.TestCase):
             entry.leave()
 
         self.each(call, 17)
+
+    def test_signals_at_random_moments(self):
+        """Also in psycopg, while another thread and another process want something, too."""
+        guard = no_longer_than(300)
+        guard.__enter__()
+        self.addCleanup(guard.__exit__, None, None, None)
+        before = signal.signal(signal.SIGALRM, lambda *_: interrupt())
+        self.addCleanup(signal.signal, signal.SIGALRM, before)
+        unraisable = mock.patch.object(sys, "unraisablehook", lambda what: None)  # of psycopg's finalizers
+        unraisable.start()
+        self.addCleanup(unraisable.stop)
+        paths, other, entries, is_over = self.open(BOOK, sync=False, grace=60), self.open(BOOK, sync=False, grace=60), [0, 0], threading.Event()
+
+        def enters(number, of):
+            while not is_over.wait(0.02):
+                with of("read", timeout=60):
+                    entries[number] += 1
+
+        threads = [threading.Thread(target=enters, args=given) for given in ((0, paths), (1, other))]
+        for thread in threads:
+            thread.start()
+        for _ in range(400):
+            try:
+                signal.setitimer(signal.ITIMER_REAL, random.uniform(1e-4, 6e-3))
+                until = time.monotonic() + 0.2
+                while time.monotonic() < until:  # a finalizer hands no exception on
+                    with paths("write", timeout=60):
+                        pass
+                signal.setitimer(signal.ITIMER_REAL, 0)
+            except Interrupt:
+                pass
+        is_over.set()
+        for thread in threads:
+            thread.join(60)
+        gc.collect()
+        self.assertEqual((paths.report().live, paths.waiting(), paths.worker), ((), {}, "process 1"))
+        other.enter("write", timeout=0).leave()
+        self.assertTrue(other.audit() and min(entries))
 
 
 if __name__ == "__main__":
