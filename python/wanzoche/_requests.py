@@ -20,7 +20,7 @@ class Held(Protocol):
 
 
 class Request:
-    """What somebody wants. `wake` is called when the reply is there, by the clerk's thread."""
+    """What somebody wants. `wake` is called when the reply is there, by who is at the clerk's desk."""
 
     def __init__(self, wake: Callable[[], None]) -> None:
         self.wake = wake
