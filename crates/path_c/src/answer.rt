@@ -5,6 +5,7 @@ ghost use Rattle.path_c.specs.Answers.{declaration_answer, fault_answer, journal
 ghost use Rattle.path_c.specs.Answers.{reply_answer, resume_answer, script_answer, search_answer};
 ghost use Rattle.path_c.specs.Answers.{taken_answer, text_answer, verdict_answer};
 
+use crate::codes;
 use path_audit::Verdict;
 use path_lex::DeclFault;
 use path_lines::TextFault;
@@ -24,33 +25,6 @@ pub struct CodedAnswer {
     /// As of a start that is admitted the activation, and of a fault its place.
     pub number: u64,
 }
-
-/// The handle has no system.
-pub(crate) const CLOSED: u32 = 0;
-/// The verb has no such code.
-pub(crate) const NO_VERB: u32 = 14;
-/// The lines so far were given up.
-pub(crate) const ROTATED: u32 = 16;
-/// The text and a zero byte are in the buffer.
-pub(crate) const WRITTEN: u32 = 17;
-/// The buffer is too small for the text and a zero byte.
-pub(crate) const TOO_SMALL: u32 = 18;
-/// The handle was opened.
-pub(crate) const OPENED: u32 = 19;
-/// The handle has a system.
-pub(crate) const ALREADY_OPEN: u32 = 20;
-/// An allocation failed.
-pub(crate) const OUT_OF_MEMORY: u32 = 22;
-/// The handle keeps no lines.
-pub(crate) const NO_JOURNAL: u32 = 28;
-/// Every schedule ends done.
-pub(crate) const ALL_DONE: u32 = 47;
-/// A schedule stalls.
-pub(crate) const STALLS: u32 = 48;
-/// A schedule has a step refused.
-pub(crate) const REFUSED: u32 = 49;
-/// There are more states than were to be looked at.
-pub(crate) const UNDECIDED: u32 = 50;
 
 /// An answer without a number.
 pub(crate) fn plainly(code: u32) -> CodedAnswer
@@ -72,19 +46,19 @@ fn code_of(reply: Reply) -> u32
     ensures { result ≡ (reply_answer reply).code }
 {
     match reply {
-        Reply::Started(_) => 1,
-        Reply::Blocked(_) => 2,
-        Reply::UnknownOperation => 3,
-        Reply::Used(_) => 4,
-        Reply::NotOffered => 5,
-        Reply::Empty => 6,
-        Reply::Full => 7,
-        Reply::Overflow => 8,
-        Reply::DeviceFailed => 9,
-        Reply::Finished => 10,
-        Reply::Stale => 11,
-        Reply::NotYours => 12,
-        Reply::NoRoom => 13,
+        Reply::Started(_) => codes::STARTED,
+        Reply::Blocked(_) => codes::BLOCKED,
+        Reply::UnknownOperation => codes::UNKNOWN_OPERATION,
+        Reply::Used(_) => codes::USED,
+        Reply::NotOffered => codes::NOT_OFFERED,
+        Reply::Empty => codes::EMPTY,
+        Reply::Full => codes::FULL,
+        Reply::Overflow => codes::OVERFLOW,
+        Reply::DeviceFailed => codes::DEVICE_FAILED,
+        Reply::Finished => codes::FINISHED,
+        Reply::Stale => codes::STALE,
+        Reply::NotYours => codes::NOT_YOURS,
+        Reply::NoRoom => codes::NO_ROOM,
     }
 }
 
@@ -114,10 +88,10 @@ pub(crate) fn may(told: Result<(), StartRefusal>) -> CodedAnswer
     ensures { result ≡ may_answer told }
 {
     match told {
-        Ok(()) => plainly(15),
-        Err(StartRefusal::Blocked(path)) => with(2, u64::from(path.0)),
-        Err(StartRefusal::UnknownOperation) => plainly(3),
-        Err(StartRefusal::NoRoom) => plainly(13),
+        Ok(()) => plainly(codes::CAN_START),
+        Err(StartRefusal::Blocked(path)) => with(codes::BLOCKED, u64::from(path.0)),
+        Err(StartRefusal::UnknownOperation) => plainly(codes::UNKNOWN_OPERATION),
+        Err(StartRefusal::NoRoom) => plainly(codes::NO_ROOM),
     }
 }
 
@@ -126,21 +100,21 @@ pub(crate) fn undeclared(fault: DeclFault) -> CodedAnswer
     ensures { result ≡ declaration_answer fault }
 {
     match fault {
-        DeclFault::OutOfMemory => plainly(OUT_OF_MEMORY),
-        DeclFault::TooLong => plainly(32),
-        DeclFault::BadByte(at) => with(33, u64::from(at)),
-        DeclFault::WordTooLong(at) => with(34, u64::from(at)),
-        DeclFault::NumberTooLong(at) => with(35, u64::from(at)),
-        DeclFault::Unexpected(at) => with(36, u64::from(at)),
-        DeclFault::TooDeep(at) => with(37, u64::from(at)),
-        DeclFault::DuplicateResource(at) => with(38, u64::from(at)),
-        DeclFault::DuplicateOperation(at) => with(39, u64::from(at)),
-        DeclFault::Undeclared(at) => with(40, u64::from(at)),
-        DeclFault::RepeatedName(at) => with(41, u64::from(at)),
-        DeclFault::NestedBraces(at) => with(42, u64::from(at)),
-        DeclFault::BadCapacity(at) => with(43, u64::from(at)),
-        DeclFault::BadCount(at) => with(44, u64::from(at)),
-        DeclFault::TooMany(at) => with(45, u64::from(at)),
+        DeclFault::OutOfMemory => plainly(codes::OUT_OF_MEMORY),
+        DeclFault::TooLong => plainly(codes::TOO_LONG),
+        DeclFault::BadByte(at) => with(codes::BAD_BYTE, u64::from(at)),
+        DeclFault::WordTooLong(at) => with(codes::WORD_TOO_LONG, u64::from(at)),
+        DeclFault::NumberTooLong(at) => with(codes::NUMBER_TOO_LONG, u64::from(at)),
+        DeclFault::Unexpected(at) => with(codes::UNEXPECTED, u64::from(at)),
+        DeclFault::TooDeep(at) => with(codes::TOO_DEEP, u64::from(at)),
+        DeclFault::DuplicateResource(at) => with(codes::DUPLICATE_RESOURCE, u64::from(at)),
+        DeclFault::DuplicateOperation(at) => with(codes::DUPLICATE_OPERATION, u64::from(at)),
+        DeclFault::Undeclared(at) => with(codes::UNDECLARED, u64::from(at)),
+        DeclFault::RepeatedName(at) => with(codes::REPEATED_NAME, u64::from(at)),
+        DeclFault::NestedBraces(at) => with(codes::NESTED_BRACES, u64::from(at)),
+        DeclFault::BadCapacity(at) => with(codes::BAD_CAPACITY, u64::from(at)),
+        DeclFault::BadCount(at) => with(codes::BAD_COUNT, u64::from(at)),
+        DeclFault::TooMany(at) => with(codes::TOO_MANY, u64::from(at)),
     }
 }
 
@@ -150,8 +124,8 @@ pub(crate) fn unopened(fault: ServiceFault) -> CodedAnswer
 {
     match fault {
         ServiceFault::Declaration(fault) => undeclared(fault),
-        ServiceFault::BadRoom => plainly(21),
-        ServiceFault::OutOfMemory => plainly(OUT_OF_MEMORY),
+        ServiceFault::BadRoom => plainly(codes::BAD_ROOM),
+        ServiceFault::OutOfMemory => plainly(codes::OUT_OF_MEMORY),
     }
 }
 
@@ -160,8 +134,8 @@ pub(crate) fn no_text(fault: JournalFault) -> CodedAnswer
     ensures { result ≡ text_answer fault }
 {
     match fault {
-        JournalFault::NotKept => plainly(NO_JOURNAL),
-        JournalFault::OutOfMemory => plainly(OUT_OF_MEMORY),
+        JournalFault::NotKept => plainly(codes::NO_JOURNAL),
+        JournalFault::OutOfMemory => plainly(codes::OUT_OF_MEMORY),
     }
 }
 
@@ -170,8 +144,8 @@ pub(crate) fn judged(verdict: Verdict) -> CodedAnswer
     ensures { result ≡ verdict_answer verdict }
 {
     match verdict {
-        Verdict::Sound => plainly(23),
-        Verdict::WrongLine(line) => with(24, u64::from(line)),
+        Verdict::Sound => plainly(codes::SOUND),
+        Verdict::WrongLine(line) => with(codes::WRONG_LINE, u64::from(line)),
     }
 }
 
@@ -180,10 +154,10 @@ pub(crate) fn no_journal(fault: TextFault) -> CodedAnswer
     ensures { result ≡ journal_answer fault }
 {
     match fault {
-        TextFault::TooLong => plainly(25),
-        TextFault::BadLine(line) => with(26, u64::from(line)),
-        TextFault::Undeclared(line) => with(27, u64::from(line)),
-        TextFault::OutOfMemory => plainly(OUT_OF_MEMORY),
+        TextFault::TooLong => plainly(codes::JOURNAL_TOO_LONG),
+        TextFault::BadLine(line) => with(codes::BAD_LINE, u64::from(line)),
+        TextFault::Undeclared(line) => with(codes::UNDECLARED_LINE, u64::from(line)),
+        TextFault::OutOfMemory => plainly(codes::OUT_OF_MEMORY),
     }
 }
 
@@ -194,8 +168,8 @@ pub(crate) fn unjudged(refusal: AuditRefusal) -> CodedAnswer
     match refusal {
         AuditRefusal::Declaration(fault) => undeclared(fault),
         AuditRefusal::Journal(fault) => no_journal(fault),
-        AuditRefusal::BadRoom => plainly(21),
-        AuditRefusal::OutOfMemory => plainly(OUT_OF_MEMORY),
+        AuditRefusal::BadRoom => plainly(codes::BAD_ROOM),
+        AuditRefusal::OutOfMemory => plainly(codes::OUT_OF_MEMORY),
     }
 }
 
@@ -204,8 +178,8 @@ pub(crate) fn taken_over(taken: TakenText) -> CodedAnswer
     ensures { result ≡ taken_answer taken }
 {
     match taken.owed {
-        None => with(46, taken.lines as u64),
-        Some(_) => with(24, taken.lines as u64),
+        None => with(codes::TAKEN, taken.lines as u64),
+        Some(_) => with(codes::WRONG_LINE, taken.lines as u64),
     }
 }
 
@@ -216,9 +190,9 @@ pub(crate) fn unresumed(refusal: ResumeRefusal) -> CodedAnswer
     match refusal {
         ResumeRefusal::Declaration(fault) => undeclared(fault),
         ResumeRefusal::Journal(fault) => no_journal(fault),
-        ResumeRefusal::BadRoom => plainly(21),
-        ResumeRefusal::WrongLine(line, _) => with(24, line as u64),
-        ResumeRefusal::OutOfMemory => plainly(OUT_OF_MEMORY),
+        ResumeRefusal::BadRoom => plainly(codes::BAD_ROOM),
+        ResumeRefusal::WrongLine(line, _) => with(codes::WRONG_LINE, line as u64),
+        ResumeRefusal::OutOfMemory => plainly(codes::OUT_OF_MEMORY),
     }
 }
 
@@ -227,13 +201,13 @@ fn no_script(fault: ScriptFault) -> CodedAnswer
     ensures { result ≡ script_answer fault }
 {
     match fault {
-        ScriptFault::TooLong => plainly(51),
-        ScriptFault::BadLine(line) => with(52, u64::from(line)),
-        ScriptFault::Undeclared(line) => with(53, u64::from(line)),
-        ScriptFault::Unbalanced(line) => with(54, u64::from(line)),
-        ScriptFault::TooDeep(line) => with(55, u64::from(line)),
-        ScriptFault::TooMany(line) => with(56, u64::from(line)),
-        ScriptFault::OutOfMemory => plainly(OUT_OF_MEMORY),
+        ScriptFault::TooLong => plainly(codes::SCRIPT_TOO_LONG),
+        ScriptFault::BadLine(line) => with(codes::SCRIPT_BAD_LINE, u64::from(line)),
+        ScriptFault::Undeclared(line) => with(codes::SCRIPT_UNDECLARED, u64::from(line)),
+        ScriptFault::Unbalanced(line) => with(codes::SCRIPT_UNBALANCED, u64::from(line)),
+        ScriptFault::TooDeep(line) => with(codes::SCRIPT_TOO_DEEP, u64::from(line)),
+        ScriptFault::TooMany(line) => with(codes::SCRIPT_TOO_MANY, u64::from(line)),
+        ScriptFault::OutOfMemory => plainly(codes::OUT_OF_MEMORY),
     }
 }
 
@@ -244,6 +218,6 @@ pub(crate) fn unsearched(refusal: ExploreRefusal) -> CodedAnswer
     match refusal {
         ExploreRefusal::Declaration(fault) => undeclared(fault),
         ExploreRefusal::Script(fault) => no_script(fault),
-        ExploreRefusal::OutOfMemory => plainly(OUT_OF_MEMORY),
+        ExploreRefusal::OutOfMemory => plainly(codes::OUT_OF_MEMORY),
     }
 }

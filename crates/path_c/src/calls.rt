@@ -8,7 +8,8 @@ ghost use Rattle.path_system.specs.Accounts.{all_lines, rotated};
 ghost use Rattle.path_c.specs.Answers.{closed, has_rotated, no_verb, verb_at};
 ghost use Rattle.path_c.specs.Calls.{IsAnswered, IsStartable, IsVerb};
 
-use crate::answer::{CLOSED, CodedAnswer, NO_VERB, ROTATED, may, plainly, replied};
+use crate::answer::{CodedAnswer, may, plainly, replied};
+use crate::codes;
 use crate::handle::Handle;
 use path_model::{ActId, Attempt, OpId, Verb};
 use std::alloc::Global;
@@ -35,7 +36,7 @@ fn step(alloc: Global, handle: &mut Handle, worker: u32, attempt: Attempt) -> Co
     ensures stepped { handle.old.live ≡ true → IsAnswered handle.old.held.service worker attempt result handle.new.held.service }
 {
     match handle.take(alloc) {
-        None => plainly(CLOSED),
+        None => plainly(codes::CLOSED),
         Some(mut service) => {
             let reply = service.step(worker, attempt);
             handle.put(service);
@@ -78,7 +79,7 @@ pub extern "C" fn path_c_use(
         (λ v. IsAnswered handle.old.held.service worker (Apply (record { 0 = activation }) v) result handle.new.held.service) }
 {
     match verb_of(verb, number) {
-        None => plainly(NO_VERB),
+        None => plainly(codes::NO_VERB),
         Some(verb) => step(
             alloc,
             handle,
@@ -118,7 +119,7 @@ pub extern "C" fn path_c_can_start(
         (admitted_history (all_lines handle.old.held.service.account)) (record { 0 = operation }) result }
 {
     match handle.take(alloc) {
-        None => plainly(CLOSED),
+        None => plainly(codes::CLOSED),
         Some(service) => {
             let told = service.can_start(OpId(operation));
             handle.put(service);
@@ -137,11 +138,11 @@ pub extern "C" fn path_c_rotate(alloc: Global, handle: &mut Handle) -> CodedAnsw
     ensures keeps { handle.old.live ≡ true → handle.new.held.service.keeps ≡ handle.old.held.service.keeps }
 {
     match handle.take(alloc) {
-        None => plainly(CLOSED),
+        None => plainly(codes::CLOSED),
         Some(mut service) => {
             service.rotate();
             handle.put(service);
-            plainly(ROTATED)
+            plainly(codes::ROTATED)
         }
     }
 }

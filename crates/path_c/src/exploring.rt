@@ -4,9 +4,8 @@ ghost use Rattle.std.specs.Prelude.{◌≡◌, ◌<◌, ◌≤◌, ◌⊎◌, le
 ghost use Rattle.path_c.specs.Answers as answers;
 ghost use Rattle.path_c.specs.Searched as searched;
 
-use crate::answer::{
-    ALL_DONE, CodedAnswer, REFUSED, STALLS, TOO_SMALL, UNDECIDED, unsearched, with,
-};
+use crate::answer::{CodedAnswer, unsearched, with};
+use crate::codes;
 use crate::texts::{give_as, put_front, put_words};
 use path_script::LIMIT;
 use path_service::{Found, explore_text};
@@ -28,19 +27,19 @@ fn found_told(found: &Found<Global>, journal: &mut [u8], message: &mut [u8]) -> 
     match found {
         Found::AllDone { states } => {
             put_front(message, b"");
-            with(ALL_DONE, *states as u64)
+            with(codes::ALL_DONE, *states as u64)
         }
         Found::Stalls(schedule) => {
             put_front(message, schedule.standings.as_bytes());
-            give_as(STALLS, journal, schedule.journal.as_bytes())
+            give_as(codes::STALLS, journal, schedule.journal.as_bytes())
         }
         Found::Refused(schedule) => {
             put_front(message, schedule.standings.as_bytes());
-            give_as(REFUSED, journal, schedule.journal.as_bytes())
+            give_as(codes::REFUSED, journal, schedule.journal.as_bytes())
         }
         Found::Undecided { states } => {
             put_front(message, b"");
-            with(UNDECIDED, *states as u64)
+            with(codes::UNDECIDED, *states as u64)
         }
     }
 }
@@ -67,7 +66,7 @@ pub extern "C" fn path_c_explore(
     let wanted = enough(script.len());
     if journal.len() <= wanted {
         put_front(message, b"too small");
-        return with(TOO_SMALL, wanted as u64);
+        return with(codes::TOO_SMALL, wanted as u64);
     }
     match explore_text(alloc, declaration, script, most) {
         Ok(found) => found_told(&found, journal, message),

@@ -7,7 +7,8 @@ ghost use Rattle.path_model.specs.Declarations.{Declaration};
 ghost use Rattle.path_c.specs.Answers.{out_of_memory};
 ghost use Rattle.path_c.specs.Calls.{IsFindingGiven};
 
-use crate::answer::{CodedAnswer, OUT_OF_MEMORY, plainly, undeclared};
+use crate::answer::{CodedAnswer, plainly, undeclared};
+use crate::codes;
 use crate::texts::give;
 use path_locate::{declaration_finding, push_finding};
 use path_model::OutOfMemory;
@@ -26,7 +27,7 @@ fn words(alloc: Global, text: &[u8]) -> Result<String<Global>, OutOfMemory>
     let Err(fault) = read(alloc, text) else {
         return Ok(told);
     };
-    if undeclared(fault).code == OUT_OF_MEMORY {
+    if undeclared(fault).code == codes::OUT_OF_MEMORY {
         return Err(OutOfMemory);
     }
     if let Some(finding) = declaration_finding(alloc, text, fault)? {
@@ -43,6 +44,6 @@ pub extern "C" fn path_c_finding(alloc: Global, text: &[u8], buffer: &mut [u8]) 
 {
     match words(alloc, text) {
         Ok(words) => give(buffer, words.as_bytes()),
-        Err(_) => plainly(OUT_OF_MEMORY),
+        Err(_) => plainly(codes::OUT_OF_MEMORY),
     }
 }

@@ -4,6 +4,7 @@
 
 mod answer;
 mod calls;
+mod codes;
 mod exploring;
 mod finding;
 mod handle;

@@ -7,9 +7,8 @@ ghost use Rattle.path_service.specs.Services.{IsOpened, IsServiceFault};
 ghost use Rattle.path_c.specs.Answers.{already_open, opened};
 ghost use Rattle.path_c.specs.Calls.{IsJudged, IsUnjudged, IsUnopened};
 
-use crate::answer::{
-    ALREADY_OPEN, CodedAnswer, OPENED, OUT_OF_MEMORY, judged, plainly, unjudged, unopened,
-};
+use crate::answer::{CodedAnswer, judged, plainly, unjudged, unopened};
+use crate::codes;
 use crate::handle::Handle;
 use crate::texts::{put_front, put_words};
 use path_model::OpId;
@@ -64,13 +63,13 @@ fn open(
 {
     if handle.is_live() {
         put_front(message, b"already open");
-        return plainly(ALREADY_OPEN);
+        return plainly(codes::ALREADY_OPEN);
     }
     match boxed(alloc, text, room, keeps) {
         Ok(service) => {
             handle.put(service);
             put_front(message, b"");
-            plainly(OPENED)
+            plainly(codes::OPENED)
         }
         Err(fault) => {
             put_words(alloc, message, fault);

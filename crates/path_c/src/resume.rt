@@ -7,11 +7,9 @@ ghost use Rattle.path_c.specs.Answers.{already_open, closed, no_verb, verb_at};
 ghost use Rattle.path_c.specs.Calls.{IsVerb};
 ghost use Rattle.path_c.specs.Taken.{IsOwedAnswer, IsUnresumed, TakesOver, amount_of, nothing_taken};
 
-use crate::answer::{
-    ALREADY_OPEN, CLOSED, CodedAnswer, NO_VERB, OPENED, no_journal, plainly, replied, taken_over,
-    unresumed, with,
-};
+use crate::answer::{CodedAnswer, no_journal, plainly, replied, taken_over, unresumed, with};
 use crate::calls::verb_of;
+use crate::codes;
 use crate::handle::Handle;
 use crate::texts::{put_front, put_words};
 use path_model::{ActId, Attempt, OpId, Reply};
@@ -38,7 +36,7 @@ fn owed(alloc: Global, handle: &mut Handle, worker: u32, attempt: Attempt) -> Co
     ensures owed { handle.old.live ≡ true → IsOwedAnswer handle.old.held.service.account worker attempt result }
 {
     match handle.take(alloc) {
-        None => plainly(CLOSED),
+        None => plainly(codes::CLOSED),
         Some(service) => {
             let reply = service.owed(worker, attempt);
             handle.put(service);
@@ -82,7 +80,7 @@ pub extern "C" fn path_c_owed_use(
         (λ v. IsOwedAnswer handle.old.held.service.account worker (Apply (record { 0 = activation }) v) result) }
 {
     match verb_of(verb, number) {
-        None => plainly(NO_VERB),
+        None => plainly(codes::NO_VERB),
         Some(verb) => owed(
             alloc,
             handle,
@@ -142,7 +140,7 @@ pub extern "C" fn path_c_take_over(
         owed: plainly(0),
     };
     match handle.take(alloc) {
-        None => plainly(CLOSED),
+        None => plainly(codes::CLOSED),
         Some(mut service) => {
             let told = service.take_text(alloc, text);
             handle.put(service);
@@ -194,13 +192,13 @@ fn resume(
 {
     if handle.is_live() {
         put_front(message, b"already open");
-        return plainly(ALREADY_OPEN);
+        return plainly(codes::ALREADY_OPEN);
     }
     match boxed(alloc, text, room, keeps, journal) {
         Ok((service, bytes)) => {
             handle.put(service);
             put_front(message, b"");
-            with(OPENED, bytes as u64)
+            with(codes::OPENED, bytes as u64)
         }
         Err(refusal) => {
             put_words(alloc, message, refusal);

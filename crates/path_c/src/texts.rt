@@ -7,9 +7,8 @@ ghost use Rattle.path_system.specs.Accounts.{all_lines};
 ghost use Rattle.path_c.specs.Answers.{closed, no_journal, out_of_memory};
 ghost use Rattle.path_c.specs.Calls.{IsGiven, IsGivenAs, IsReportGiven, with_text};
 
-use crate::answer::{
-    CLOSED, CodedAnswer, OUT_OF_MEMORY, TOO_SMALL, WRITTEN, no_text, plainly, with,
-};
+use crate::answer::{CodedAnswer, no_text, plainly, with};
+use crate::codes;
 use crate::handle::Handle;
 use std::alloc::Global;
 use std::fmt::Display;
@@ -50,7 +49,7 @@ pub(crate) fn give_as(code: u32, buffer: &mut [u8], text: &[u8]) -> CodedAnswer
 {
     let length = text.len() as u64;
     if text.len() >= buffer.len() {
-        return with(TOO_SMALL, length);
+        return with(codes::TOO_SMALL, length);
     }
     put_whole(buffer, text);
     with(code, length)
@@ -60,7 +59,7 @@ pub(crate) fn give_as(code: u32, buffer: &mut [u8], text: &[u8]) -> CodedAnswer
 pub(crate) fn give(buffer: &mut [u8], text: &[u8]) -> CodedAnswer
     ensures { IsGiven text.now buffer.old result buffer.new }
 {
-    give_as(WRITTEN, buffer, text)
+    give_as(codes::WRITTEN, buffer, text)
 }
 
 /// The text of the lines since the last rotation, if they are kept.
@@ -80,7 +79,7 @@ pub extern "C" fn path_c_journal(
         (lines_text handle.old.held.service.account.declaration handle.old.held.service.account.journal) buffer.old result buffer.new }
 {
     match handle.take(alloc) {
-        None => plainly(CLOSED),
+        None => plainly(codes::CLOSED),
         Some(service) => {
             let text = service.journal_text(alloc);
             handle.put(service);
@@ -107,13 +106,13 @@ pub extern "C" fn path_c_report(
         handle.old.held.service.account.declaration (all_lines handle.old.held.service.account) buffer.old result buffer.new }
 {
     match handle.take(alloc) {
-        None => plainly(CLOSED),
+        None => plainly(codes::CLOSED),
         Some(service) => {
             let text = service.report_text(alloc);
             handle.put(service);
             match text {
                 Ok(text) => give(buffer, text.as_bytes()),
-                Err(_) => plainly(OUT_OF_MEMORY),
+                Err(_) => plainly(codes::OUT_OF_MEMORY),
             }
         }
     }
@@ -134,13 +133,13 @@ pub extern "C" fn path_c_declaration(
         → IsGiven (printed handle.old.held.service.account.declaration) buffer.old result buffer.new }
 {
     match handle.take(alloc) {
-        None => plainly(CLOSED),
+        None => plainly(codes::CLOSED),
         Some(service) => {
             let text = service.declaration_text(alloc);
             handle.put(service);
             match text {
                 Ok(text) => give(buffer, text.as_bytes()),
-                Err(_) => plainly(OUT_OF_MEMORY),
+                Err(_) => plainly(codes::OUT_OF_MEMORY),
             }
         }
     }
