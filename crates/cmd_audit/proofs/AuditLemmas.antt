@@ -1,5 +1,5 @@
 -- The verdict on the text of a journal, and how it is written.
-use Rattle.std.proofs.Common.{◌≡◌, ℕ, List, Option, refl, sym, subst}
+use Rattle.std.proofs.Common.{◌≡◌, ℕ, List, Option, None, refl, sym, subst}
 use Rattle.std.specs.Prelude.{◌↔◌}
 use Rattle.std.specs.Option.{unwrap_or}
 use Rattle.path_model.specs.declared.journal.Line.{Line}
@@ -17,21 +17,21 @@ use Rattle.cmd_base.specs.Own.{own_openings}
 use Rattle.cmd_audit.specs.Audits.{IsAuditOf, TellsVerdict, verdict_line, verdict_status}
 
 -- the line of the verdict on a text is one that its audit may write
-pub tells : (d : Declaration) (room : ℕ) (text : List ℕ) (v : Verdict) → IsAuditOf d room text v → OfJournal (TellsVerdict d room text) d room text (verdict_status v) (verdict_line v)
+pub tells : (d : Declaration) (room : ℕ) (text : List ℕ) (v : Verdict) → IsAuditOf d room text v → OfJournal (TellsVerdict d room text) d room text (verdict_status v) (verdict_line None v)
 tells d room text Sound is = (Sound, is, (refl, refl))
 tells d room text (WrongLine n) is = (WrongLine n, is, (refl, refl))
 
 -- what is sound doesn't end as unsound
-pub never_wrong : (v : Verdict) (old new : Option (List ℕ)) (s : Status) → Sound ≡ v → Ends (Writes (verdict_status v) (verdict_line v)) old new s → s ≡ Unsound → ⊥
-never_wrong v old new s is ends e = let wrote = subst (Ends (Writes (verdict_status v) (verdict_line v)) old new) e ends in differs v is wrote.wrote.1.0
+pub never_wrong : (v : Verdict) (old new : Option (List ℕ)) (s : Status) → Sound ≡ v → Ends (Writes (verdict_status v) (verdict_line None v)) old new s → s ≡ Unsound → ⊥
+never_wrong v old new s is ends e = let wrote = subst (Ends (Writes (verdict_status v) (verdict_line None v)) old new) e ends in differs v is wrote.wrote.1.0
   where
     differs : (v : Verdict) → Sound ≡ v → Unsound ≡ verdict_status v → ⊥
     differs Sound is e = cc
     differs (WrongLine n) is e = cc
 
 -- what is wrong doesn't end as done
-pub never_sound : (v : Verdict) (old new : Option (List ℕ)) (s : Status) (n : ℕ) → WrongLine n ≡ v → Ends (Writes (verdict_status v) (verdict_line v)) old new s → s ≡ Done → ⊥
-never_sound v old new s n is ends e = let wrote = subst (Ends (Writes (verdict_status v) (verdict_line v)) old new) e ends in differs v is wrote.wrote.1.0
+pub never_sound : (v : Verdict) (old new : Option (List ℕ)) (s : Status) (n : ℕ) → WrongLine n ≡ v → Ends (Writes (verdict_status v) (verdict_line None v)) old new s → s ≡ Done → ⊥
+never_sound v old new s n is ends e = let wrote = subst (Ends (Writes (verdict_status v) (verdict_line None v)) old new) e ends in differs v is wrote.wrote.1.0
   where
     differs : (v : Verdict) → WrongLine n ≡ v → Done ≡ verdict_status v → ⊥
     differs Sound is e = cc

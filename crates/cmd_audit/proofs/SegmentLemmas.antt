@@ -22,7 +22,8 @@ use Rattle.cmd_base.specs.Own.{own_openings}
 use Rattle.cmd_base.specs.Statuses.{audit_status, text_status}
 use Rattle.cmd_base.proofs.CallerLemmas.{own_refused}
 use Rattle.cmd_audit.specs.Segments.{AreAuditOf, AreNoSegments, AreSegmentTexts, IsSegmentText, LackRoom, NamesAnother}
-use Rattle.cmd_audit.specs.Segments.{TellsSegments, segments_line, segments_status}
+use Rattle.cmd_audit.specs.Audits.{verdict_line, verdict_status}
+use Rattle.cmd_audit.specs.Segments.{TellsSegments, file_of, verdict_in}
 
 module _ (d : Declaration) (given : ℕ) (texts : List (List ℕ)) where
   -- the first i texts are those of these segments
@@ -145,6 +146,6 @@ module _ {F : Type 0} (f : F → List ℕ) (files : List F) (i : ℕ) (v : F) (w
 
 -- the line of the verdict on texts is one that their audit may write
 pub tells : (d : Declaration) (given : ℕ) (names all : List (List ℕ)) (v : SegmentsVerdict) → AreAuditOf d given all v
-    → OfText (TellsSegments d given names all) (LackRoom d given all) (AreNoSegments d given all) (segments_status v) (segments_line names v)
+    → OfText (TellsSegments d given names all) (LackRoom d given all) (AreNoSegments d given all) (verdict_status (verdict_in v)) (verdict_line (file_of names v) (verdict_in v))
 tells d given names all verdicts.Sound is = (verdicts.Sound, is, (refl, refl))
 tells d given names all (verdicts.WrongLine k n) is = (verdicts.WrongLine k n, is, (refl, refl))

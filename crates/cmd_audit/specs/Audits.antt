@@ -1,5 +1,5 @@
 -- What an audit says of a journal's text.
-use Rattle.std.specs.Prelude.{◌≡◌, ℕ, List, ◌∷◌, [], ◌++◌, codes, decimal, Option}
+use Rattle.std.specs.Prelude.{◌≡◌, ℕ, List, ◌∷◌, [], ◌++◌, codes, decimal, Option, Some, None}
 use Rattle.std.specs.Option.{unwrap_or}
 use Rattle.path_model.specs.declared.journal.Line.{Line}
 use Rattle.path_model.specs.Declarations.{Declaration}
@@ -33,10 +33,11 @@ IsSoundText d room text = IsAuditOf d room text Sound
 abbrev pub IsWrongText : Declaration → ℕ → List ℕ → ℕ → Type 0
 IsWrongText d room text n = IsAuditOf d room text (WrongLine n)
 
--- the line of a verdict, with its line feed
-abbrev pub verdict_line : Verdict → List ℕ
-verdict_line Sound = codes "sound\n"
-verdict_line (WrongLine n) = codes "wrong line " ++ (decimal n ++ 10 ∷ [])
+-- the line of a verdict, with its line feed; that of a wrong line has the name of its file, if there are several
+abbrev pub verdict_line : Option (List ℕ) → Verdict → List ℕ
+verdict_line file Sound = codes "sound\n"
+verdict_line None (WrongLine n) = codes "wrong line " ++ (decimal n ++ 10 ∷ [])
+verdict_line (Some name) (WrongLine n) = codes "wrong line " ++ (decimal n ++ (codes " of " ++ (name ++ 10 ∷ [])))
 
 -- the status with which it is written
 abbrev pub verdict_status : Verdict → Status
@@ -46,7 +47,7 @@ verdict_status (WrongLine n) = statuses.Unsound
 -- the bytes are the line of the verdict on a text, which ends so
 abbrev pub TellsVerdict : Declaration → ℕ → List ℕ → Status → List ℕ → Type 0
 TellsVerdict d room text status out =
-    (verdict : Verdict) × IsAuditOf d room text verdict × Writes (verdict_status verdict) (verdict_line verdict) status out
+    (verdict : Verdict) × IsAuditOf d room text verdict × Writes (verdict_status verdict) (verdict_line None verdict) status out
 
 -- how an audit of the journal in a text ends
 abbrev pub AuditEnd : ℕ → List ℕ → Declaration → Status → List ℕ → Type 0

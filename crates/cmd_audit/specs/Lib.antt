@@ -1,4 +1,3 @@
 pub mod Audits
 pub mod Files
 pub mod Segments
-pub mod Inner

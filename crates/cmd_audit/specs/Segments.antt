@@ -1,18 +1,20 @@
 -- What an audit says of the texts of a journal in segments, a file for each.
-use Rattle.std.specs.Prelude.{◌≡◌, ◌≢◌, ◌<◌, ◌++◌, ◌∷◌, [], ◌⊎◌, ℕ, List, length, take, codes, decimal, slice_index_or, Option, Some}
+use Rattle.std.specs.Prelude.{◌≡◌, ◌≢◌, ◌<◌, [], ◌⊎◌, ℕ, List, length, take, slice_index_or, Option, Some, None}
 use Rattle.std.specs.Option.{unwrap_or}
 use Rattle.path_model.specs.declared.journal.Line.{Line}
 use Rattle.path_model.specs.Declarations.{Declaration}
 use Rattle.path_model.specs.Rooms.{IsRoom, IsBadRoom}
 use Rattle.path_journal.specs.JournalTexts.{IsJournalText}
+use Rattle.path_audit.specs.declared.journals.Verdict.{Verdict}
+use Rattle.path_audit.specs.declared.journals.Verdict.TheVariants as verdicts
 use Rattle.path_audit.specs.declared.journals.SegmentsVerdict.{SegmentsVerdict}
 use Rattle.path_audit.specs.declared.journals.SegmentsVerdict.TheVariants.{Sound, WrongLine}
 use Rattle.path_audit.specs.Judged.{IsSegmentsVerdict}
 use Rattle.cmd_base.specs.declared.status.Status.{Status}
-use Rattle.cmd_base.specs.declared.status.Status.TheVariants as statuses
 use Rattle.cmd_base.specs.Ends.{OfText, UnderText, Writes}
 use Rattle.cmd_base.specs.Own.{own_openings}
 use Rattle.cmd_base.specs.Refusals.{IsBadJournal}
+use Rattle.cmd_audit.specs.Audits.{verdict_line, verdict_status}
 
 -- the text is that of a segment with these lines: it names this room, or none
 pub record IsSegmentText (d : Declaration) (room : ℕ) (text : List ℕ) (lines : List Line) : Type 0 where
@@ -33,11 +35,6 @@ pub record AreAuditOf (d : Declaration) (given : ℕ) (texts : List (List ℕ)) 
   pub told : AreSegmentTexts d given texts room segments
   pub in_range : IsRoom room
   pub judged : IsSegmentsVerdict d room (own_openings d) segments verdict
-
--- the line of a verdict, with its line feed: a wrong line is told with the name of its file
-abbrev pub segments_line : List (List ℕ) → SegmentsVerdict → List ℕ
-segments_line names Sound = codes "sound\n"
-segments_line names (WrongLine s n) = codes "wrong line " ++ (decimal n ++ (codes " of " ++ (slice_index_or names s [] ++ 10 ∷ [])))
 
 -- the text of file i is a journal that names another room than the segments before it
 pub record NamesAnother (d : Declaration) (given : ℕ) (texts : List (List ℕ)) (i : ℕ) : Type 0 where
@@ -60,16 +57,21 @@ pub record LackRoom (d : Declaration) (given : ℕ) (texts : List (List ℕ)) : 
   pub told : AreSegmentTexts d given texts given segments
   pub bad : IsBadRoom given
 
--- the status with which it is written
-abbrev pub segments_status : SegmentsVerdict → Status
-segments_status Sound = statuses.Done
-segments_status (WrongLine s n) = statuses.Unsound
+-- the line of a verdict, as that of its own file
+abbrev pub verdict_in : SegmentsVerdict → Verdict
+verdict_in Sound = verdicts.Sound
+verdict_in (WrongLine s n) = verdicts.WrongLine n
+
+-- the name of the file of a wrong line
+abbrev pub file_of : List (List ℕ) → SegmentsVerdict → Option (List ℕ)
+file_of names Sound = None
+file_of names (WrongLine s n) = Some (slice_index_or names s [])
 
 -- the bytes are the line of the verdict that the texts have, which ends so
 abbrev pub TellsSegments : Declaration → ℕ → List (List ℕ) → List (List ℕ) → Status → List ℕ → Type 0
 TellsSegments d given names texts status out =
     (verdict : SegmentsVerdict) × AreAuditOf d given texts verdict
-    × Writes (segments_status verdict) (segments_line names verdict) status out
+    × Writes (verdict_status (verdict_in verdict)) (verdict_line (file_of names verdict) (verdict_in verdict)) status out
 
 -- how an audit of a journal in files of these names ends
 abbrev pub SegmentsEnd : ℕ → List (List ℕ) → List (List ℕ) → Declaration → Status → List ℕ → Type 0

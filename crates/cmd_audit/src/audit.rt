@@ -1,6 +1,6 @@
-//! Whether the text of a journal is sound.
+//! Whether the text of a journal is sound, or the texts of its segments, a file for each.
 
-ghost use Rattle.std.specs.Prelude.{◌≡◌, ◌≢◌, ℕ, IfOk, IfErr};
+ghost use Rattle.std.specs.Prelude.{◌≡◌, ◌≢◌, ℕ, IfOk, IfErr, map, option_map};
 ghost use Rattle.std.specs.String.{string_bytes};
 ghost use Rattle.path_audit.specs.declared.journals.Verdict.{Verdict};
 ghost use Rattle.cmd_base.specs.Ends.{Ends, RefusesText, Writes};
@@ -8,9 +8,12 @@ ghost use Rattle.cmd_base.specs.Refusals.{IsBadJournal, LacksRoom};
 ghost use Rattle.cmd_base.specs.Statuses.{status_of};
 ghost use Rattle.cmd_audit.specs.Audits.{AuditEnd, AuditEnds, IsAuditOf, IsSoundText, IsTextFaultOf, IsWrongText};
 ghost use Rattle.cmd_audit.specs.Audits.{verdict_line, verdict_status};
+ghost use Rattle.cmd_audit.specs.Files.{fault_status};
+ghost use Rattle.cmd_audit.specs.Segments.{AreAuditOf, AreNoSegments, LackRoom, SegmentTextsEnd};
 
+use crate::files::{FilesFault, JournalFile, read_segments, tell_of_file};
 use cmd_base::{Fault, Status, own_openings, put_ending, tell};
-use path_audit::{Verdict, audit};
+use path_audit::{SegmentsVerdict, Verdict, audit, audit_segments};
 use path_decl::Decl;
 use path_journal::read_journal;
 use path_model::OutOfMemory;
@@ -47,13 +50,42 @@ pub fn verdict_on<A: Allocator + Copy>(
     }
 }
 
-/// The line of a verdict.
-fn line_of<A: Allocator + Copy>(alloc: A, verdict: Verdict) -> Result<String<A>, OutOfMemory>
-    ensures { IfOk result (λ line. string_bytes line ≡ verdict_line verdict) }
+/// The verdict on the segments of these files.
+fn verdict_on_files<A: Allocator + Copy>(
+    alloc: A,
+    decl: &Decl<A>,
+    given: u32,
+    files: &[JournalFile<A>],
+) -> Result<SegmentsVerdict, FilesFault>
+    ensures ok { IfOk result (AreAuditOf decl.now.declaration given (map (λ f. f.text.items) files.now)) }
+    ensures err { IfErr result (λ fault.
+        RefusesText (LackRoom decl.now.declaration given (map (λ f. f.text.items) files.now))
+        (AreNoSegments decl.now.declaration given (map (λ f. f.text.items) files.now)) (fault_status fault)) }
 {
-    let line = match verdict {
-        Verdict::Sound => format!(in alloc; "sound\n")?,
-        Verdict::WrongLine(number) => format!(in alloc; "wrong line {number}\n")?,
+    let segments = read_segments(alloc, decl, given, files)?;
+    let Ok(openings) = own_openings(alloc, decl) else {
+        return Err(FilesFault::OutOfMemory);
+    };
+    match audit_segments(alloc, decl, segments.room, &openings, &segments.lists) {
+        Ok(found) => Ok(found),
+        Err(fault) => Err(FilesFault::Audit(fault)),
+    }
+}
+
+/// The line of a verdict; that of a wrong line says in which file it is, if there are several.
+fn line_of<A: Allocator + Copy>(
+    alloc: A,
+    verdict: Verdict,
+    file: Option<&str>,
+) -> Result<String<A>, OutOfMemory>
+    ensures { IfOk result (λ line. string_bytes line ≡ verdict_line (option_map (λ name. name.now) file.entry) verdict) }
+{
+    let line = match (verdict, file) {
+        (Verdict::Sound, _) => format!(in alloc; "sound\n")?,
+        (Verdict::WrongLine(number), None) => format!(in alloc; "wrong line {number}\n")?,
+        (Verdict::WrongLine(number), Some(name)) => {
+            format!(in alloc; "wrong line {number} of {name}\n")?
+        }
     };
     Ok(line)
 }
@@ -62,12 +94,14 @@ fn line_of<A: Allocator + Copy>(alloc: A, verdict: Verdict) -> Result<String<A>,
 fn tell_verdict<A: Allocator + Copy, O: Write, E: Write>(
     alloc: A,
     verdict: Verdict,
+    file: Option<&str>,
     out: &mut O,
     err: &mut E,
 ) -> Status
-    ensures { Ends (Writes (verdict_status verdict) (verdict_line verdict)) (O.contents out.old) (O.contents out.new) result }
+    ensures { Ends (Writes (verdict_status verdict) (verdict_line (option_map (λ name. name.now) file.entry) verdict))
+        (O.contents out.old) (O.contents out.new) result }
 {
-    let Ok(line) = line_of(alloc, verdict) else {
+    let Ok(line) = line_of(alloc, verdict, file) else {
         return tell(err, Fault::OutOfMemory);
     };
     let status = match verdict {
@@ -106,7 +140,7 @@ pub fn audit_to<A: Allocator + Copy, O: Write, E: Write>(
     let verdict = verdict_on(alloc, &decl, room, journal);
     drop(decl);
     match verdict {
-        Ok(verdict) => tell_verdict(alloc, verdict, out, err),
+        Ok(verdict) => tell_verdict(alloc, verdict, None, out, err),
         Err(fault) => tell(err, fault),
     }
 }
@@ -128,6 +162,42 @@ pub fn audit_bytes<A: Allocator + Copy, O: Write, E: Write>(
 {
     match read(alloc, declaration) {
         Ok(decl) => audit_to(alloc, decl, room, journal, out, err),
+        Err(fault) => tell(err, Fault::Declaration(fault)),
+    }
+}
+
+/// Reads the texts of a journal's segments, one in each file, in order, replays them, and writes `sound`, or `wrong line N of FILE`,
+/// where N, counted from 0 in that file, is the first line whose reply wasn't owed by the lines of the files before it and by those
+/// before it in its own. The devices are the program's own, as for [`audit_to`]. The room is that of each segment: the
+/// one that the first text names, else `room`, 1 to [`MOST_LINES`](path_model::MOST_LINES). Writes nothing before all texts have been read.
+///
+/// `Unsound`: a line is wrong. `TextRefused`: a text isn't a journal, or is too long, or names another room than the first.
+/// `CommandRefused`: the first text names no room, and `room` is out of range. `DeclarationRefused`: the declaration is refused, which
+/// counts first. In these last three cases nothing was written. `StreamFailed`: a writer failed, and what it took is unknown.
+/// `NoMemory`: allocation failed, and a front of the line was written. A fault is one line on `err`, with the file's name.
+///
+/// The cost is that of [`audit_to`] for all texts together; the lines of all are kept, 56 bytes each.
+pub fn audit_files<A: Allocator + Copy, O: Write, E: Write>(
+    alloc: A,
+    declaration: &[u8],
+    room: u32,
+    files: &[JournalFile<A>],
+    out: &mut O,
+    err: &mut E,
+) -> Status
+    // As the table of audits of segments has it.
+    ensures { Ends (SegmentTextsEnd declaration.now room (map (λ f. string_bytes f.name) files.now) (map (λ f. f.text.items) files.now))
+        (O.contents out.old) (O.contents out.new) result }
+{
+    match read(alloc, declaration) {
+        Ok(decl) => match verdict_on_files(alloc, &decl, room, files) {
+            Ok(SegmentsVerdict::Sound) => tell_verdict(alloc, Verdict::Sound, None, out, err),
+            Ok(SegmentsVerdict::WrongLine { segment, line }) => {
+                let name = files[segment].name.as_str();
+                tell_verdict(alloc, Verdict::WrongLine(line), Some(name), out, err)
+            }
+            Err(fault) => tell_of_file(err, files, fault),
+        },
         Err(fault) => tell(err, Fault::Declaration(fault)),
     }
 }

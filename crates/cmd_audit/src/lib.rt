@@ -3,8 +3,6 @@
 
 mod audit;
 mod files;
-mod segments;
 
-pub use audit::{audit_bytes, audit_to, verdict_on};
+pub use audit::{audit_bytes, audit_files, audit_to, verdict_on};
 pub use files::{FilesFault, JournalFile, Segments, name_of, read_segments, tell_of_file};
-pub use segments::audit_files;

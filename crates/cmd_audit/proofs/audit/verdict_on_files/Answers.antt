@@ -1,7 +1,7 @@
 -- The segments that were read are judged, or only their room is refused.
 use Rattle.std.specs.Prelude.{map}
 use Rattle.cmd_audit.proofs.SegmentLemmas.{refuses_segments}
-use Rattle.cmd_audit.proofs.segments.verdict_on_files.Goals as goal
+use Rattle.cmd_audit.proofs.audit.verdict_on_files.Goals as goal
 
 pub returns-in-Ok-audit_segments-clause-ok : goal.returns-in-Ok-audit_segments-clause-ok
 returns-in-Ok-audit_segments-clause-ok g c = record {

@@ -1,2 +1,0 @@
--- How values are stored, and what loops and private functions know. What a public call promises is in the files beside this one.
-pub mod Verdicts
