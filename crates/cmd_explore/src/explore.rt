@@ -1,6 +1,6 @@
 //! A search of all schedules, from bytes to bytes.
 
-ghost use Rattle.std.specs.Prelude.{◌≡◌, ◌⊎◌, IfOk, Some};
+ghost use Rattle.std.specs.Prelude.{◌≡◌, IfOk, Some};
 ghost use Rattle.std.specs.String.{string_bytes};
 ghost use Rattle.path_journal.specs.JournalTexts.{journal_text};
 ghost use Rattle.path_explore.specs.Schedules.{ample};
@@ -10,7 +10,8 @@ ghost use Rattle.cmd_explore.specs.Searches.{HasSearched, IsOpen, IsUndecided, O
 
 use crate::searched::Searched;
 use crate::standings::standings_text;
-use cmd_base::{Fault, Status, put_ending, put_text, tell};
+use crate::telling::{tell_undecided, tell_wrong};
+use cmd_base::{Fault, Status, put_text, tell};
 use path_decl::Decl;
 use path_explore::{Explored, explore};
 use path_journal::write_journal;
@@ -62,23 +63,7 @@ fn tell_schedule<A: Allocator + Copy, O: Write, E: Write>(
     let Ok(standings) = standings_text(alloc, decl, script.processes(), lines) else {
         return tell(err, Fault::OutOfMemory);
     };
-    match put_ending(out, err, journal.as_bytes(), Status::Unsound) {
-        Status::Unsound => match err.write_all(standings.as_bytes()) {
-            Ok(()) => Status::Unsound,
-            Err(_) => Status::StreamFailed,
-        },
-        status => status,
-    }
-}
-
-/// Says on `err` that a search came to no answer, and after how many configurations.
-fn tell_undecided<E: Write>(states: usize, err: &mut E) -> Searched
-    ensures { (result ≡ Searched.Undecided) ⊎ (result ≡ Searched.Ended Status.StreamFailed) }
-{
-    match writeln!(err, "undecided after {states} states") {
-        Ok(()) => Searched::Undecided,
-        Err(_) => Searched::Ended(Status::StreamFailed),
-    }
+    tell_wrong(journal.as_bytes(), standings.as_bytes(), out, err)
 }
 
 /// Writes what a search came to.

@@ -4,7 +4,9 @@
 mod explore;
 mod searched;
 mod standings;
+mod telling;
 
 pub use explore::{explore_bytes, explore_to};
 pub use searched::Searched;
 pub use standings::standings_text;
+pub use telling::{tell_undecided, tell_wrong};
