@@ -20,6 +20,9 @@ use path_system::{Controller, TakeFault};
 use std::alloc::Allocator;
 use std::io::{Read, Write};
 
+/// More bytes than the first line of a journal has, its line feed included.
+const MOST_HEAD: usize = 64;
+
 /// When the lines of a follow are written to the disk.
 #[derive(Clone, Copy, Debug, PartialEq, Eq)]
 pub enum Syncing {
@@ -158,8 +161,8 @@ fn own_room<D: Device, A: Allocator + Copy>(
 ) -> Result<u32, StoreFault>
     ensures { (b : List ℕ) → D.holds device.old b → D.holds device.new b }
 {
-    let text = device.read(alloc)?;
-    Ok(version_in(&text).room().unwrap_or(room))
+    let front = device.front(alloc, MOST_HEAD)?;
+    Ok(version_in(&front).room().unwrap_or(room))
 }
 
 /// Opens the store of a file. Its room is the one that the file names, or else this one.

@@ -1,17 +1,22 @@
 //! Places of faults.
 
+ghost use Rattle.std.specs.Prelude.{◌≡◌, ◌≤◌, IfSome};
+ghost use Rattle.cmd_refusals.specs.Places.{IsAttemptsPlace, IsDeclarationPlace, IsJournalPlace, IsScriptPlace, IsWrongNumber};
+ghost use Rattle.cmd_refusals.specs.Places.{lines_before};
+
 use crate::source::{Source, Subject};
 use cmd_audit::verdict_on;
 use cmd_base::Status;
 use path_audit::Verdict;
 use path_decl::Decl;
 use path_journal::read_journal;
-use path_lines::read_attempts;
+use path_lex::DeclFault;
+use path_lines::{TextFault, read_attempts};
 use path_locate::{
     Finding, TextKind, declaration_finding, push_finding, script_finding, text_finding,
 };
 use path_read::read;
-use path_script::read_script;
+use path_script::{ScriptFault, read_script};
 use std::alloc::Allocator;
 use std::io::Write;
 
@@ -29,43 +34,81 @@ fn lines_of<A: Allocator + Copy>(
 }
 
 /// Where a declaration is at fault; `None` if it isn't, or if there is no memory to say it.
-fn in_declaration<A: Allocator + Copy>(alloc: A, source: Source<'_>) -> Option<String<A>> {
-    let fault = read(alloc, source.text).err()?;
-    let finding = declaration_finding(alloc, source.text, fault).ok()??;
-    lines_of(alloc, source, finding)
+fn in_declaration<A: Allocator + Copy>(alloc: A, text: &[u8]) -> Option<Finding<'_, A>>
+    ensures { IfSome result (λ finding. IsDeclarationPlace text.now finding.spot) }
+{
+    match read(alloc, text) {
+        Ok(_) | Err(DeclFault::OutOfMemory) => None,
+        Err(fault) => declaration_finding(alloc, text, fault).ok()?,
+    }
 }
 
 /// Where attempts are at fault; `None` as above.
-fn in_attempts<A: Allocator + Copy>(
+fn in_attempts<'a, A: Allocator + Copy>(
     alloc: A,
     decl: &Decl<A>,
-    source: Source<'_>,
-) -> Option<String<A>> {
-    let fault = read_attempts(alloc, decl, source.text).err()?;
-    let finding = text_finding(alloc, decl, TextKind::Attempts, source.text, fault).ok()??;
-    lines_of(alloc, source, finding)
+    text: &'a [u8],
+) -> Option<Finding<'a, A>>
+    ensures { IfSome result (λ finding. IsAttemptsPlace decl.now.declaration text.now finding.spot) }
+{
+    match read_attempts(alloc, decl, text) {
+        Ok(_) | Err(TextFault::OutOfMemory) => None,
+        Err(fault) => text_finding(alloc, decl, TextKind::Attempts, text, fault).ok()?,
+    }
 }
 
 /// Where a journal is at fault; `None` as above.
-fn in_journal<A: Allocator + Copy>(
+fn in_journal<'a, A: Allocator + Copy>(
     alloc: A,
     decl: &Decl<A>,
-    source: Source<'_>,
-) -> Option<String<A>> {
-    let fault = read_journal(alloc, decl, source.text).err()?;
-    let finding = text_finding(alloc, decl, TextKind::Journal, source.text, fault).ok()??;
-    lines_of(alloc, source, finding)
+    text: &'a [u8],
+) -> Option<Finding<'a, A>>
+    ensures { IfSome result (λ finding. IsJournalPlace decl.now.declaration text.now finding.spot) }
+{
+    match read_journal(alloc, decl, text) {
+        Ok(_) | Err(TextFault::OutOfMemory) => None,
+        Err(fault) => text_finding(alloc, decl, TextKind::Journal, text, fault).ok()?,
+    }
 }
 
 /// Where a script is at fault; `None` as above.
-fn in_script<A: Allocator + Copy>(
+fn in_script<'a, A: Allocator + Copy>(
     alloc: A,
     decl: &Decl<A>,
-    source: Source<'_>,
-) -> Option<String<A>> {
-    let fault = read_script(alloc, decl, source.text).err()?;
-    let finding = script_finding(alloc, decl, source.text, fault).ok()??;
-    lines_of(alloc, source, finding)
+    text: &'a [u8],
+) -> Option<Finding<'a, A>>
+    ensures { IfSome result (λ finding. IsScriptPlace decl.now.declaration text.now finding.spot) }
+{
+    match read_script(alloc, decl, text) {
+        Ok(_) | Err(ScriptFault::OutOfMemory) => None,
+        Err(fault) => script_finding(alloc, decl, text, fault).ok()?,
+    }
+}
+
+/// How many lines of a text precede those of its journal.
+fn head_of(text: &[u8]) -> usize
+    ensures lines { result ≡ lines_before text.now }
+    ensures few { result ≤ 1 }
+{
+    match text {
+        [b'j', ..] => 1,
+        _ => 0,
+    }
+}
+
+/// The number of a journal's first wrong line in its text, from 1; `None` if none is wrong, or if there is no memory to say it.
+fn wrong_number<A: Allocator + Copy>(
+    alloc: A,
+    decl: &Decl<A>,
+    room: u32,
+    text: &[u8],
+) -> Option<usize>
+    ensures { IfSome result (IsWrongNumber decl.now.declaration room text.now) }
+{
+    match verdict_on(alloc, decl, room, text) {
+        Ok(Verdict::WrongLine(number)) => Some(number as usize + head_of(text) + 1),
+        _ => None,
+    }
 }
 
 /// The file and the number of a journal's first wrong line; `None` if none is wrong, or if there is no memory to say it.
@@ -75,15 +118,8 @@ fn wrong_line<A: Allocator + Copy>(
     source: Source<'_>,
     room: u32,
 ) -> Option<String<A>> {
-    let Ok(Verdict::WrongLine(number)) = verdict_on(alloc, decl, room, source.text) else {
-        return None;
-    };
-    let head = usize::from(source.text.starts_with(b"j"));
-    let line = (number as usize)
-        .saturating_add(source.lines_before)
-        .saturating_add(head)
-        .saturating_add(1);
-    let name = source.name;
+    let number = wrong_number(alloc, decl, room, source.text)?;
+    let (name, line) = (source.name, number.saturating_add(source.lines_before));
     format!(in alloc;
         "{name}:{line}: this reply isn't the one that the lines before it give\n"
     ).ok()
@@ -97,9 +133,15 @@ fn in_subject<A: Allocator + Copy>(
     status: Status,
 ) -> Option<String<A>> {
     match (status, subject) {
-        (Status::TextRefused, Subject::Attempts(source)) => in_attempts(alloc, decl, source),
-        (Status::TextRefused, Subject::Journal(source, _)) => in_journal(alloc, decl, source),
-        (Status::TextRefused, Subject::Script(source)) => in_script(alloc, decl, source),
+        (Status::TextRefused, Subject::Attempts(source)) => {
+            lines_of(alloc, source, in_attempts(alloc, decl, source.text)?)
+        }
+        (Status::TextRefused, Subject::Journal(source, _)) => {
+            lines_of(alloc, source, in_journal(alloc, decl, source.text)?)
+        }
+        (Status::TextRefused, Subject::Script(source)) => {
+            lines_of(alloc, source, in_script(alloc, decl, source.text)?)
+        }
         (Status::Unsound, Subject::Journal(source, room)) => {
             wrong_line(alloc, decl, source, room)
         }
@@ -115,7 +157,9 @@ fn place<A: Allocator + Copy>(
     status: Status,
 ) -> Option<String<A>> {
     match status {
-        Status::DeclarationRefused => in_declaration(alloc, declaration),
+        Status::DeclarationRefused => {
+            lines_of(alloc, declaration, in_declaration(alloc, declaration.text)?)
+        }
         Status::TextRefused | Status::Unsound => {
             let decl = read(alloc, declaration.text).ok()?;
             in_subject(alloc, &decl, subject, status)

@@ -115,6 +115,16 @@ impl Device for MemoryFile {
         Ok(bytes)
     }
 
+    fn front<B: Allocator + Copy>(
+        &mut self,
+        alloc: B,
+        size: usize,
+    ) -> Result<Vec<u8, B>, DeviceFault> {
+        let mut bytes = self.read(alloc)?;
+        bytes.truncate(size);
+        Ok(bytes)
+    }
+
     fn append(&mut self, bytes: &[u8]) -> Result<(), DeviceFault> {
         let kept = self.state.kept.to_vec(self.alloc)?;
         let mut fresh = self.state.fresh.to_vec(self.alloc)?;

@@ -242,6 +242,14 @@ impl Device for Failing {
         Ok(Vec::new(alloc))
     }
 
+    fn front<B: Allocator + Copy>(
+        &mut self,
+        alloc: B,
+        _size: usize,
+    ) -> Result<Vec<u8, B>, DeviceFault> {
+        self.read(alloc)
+    }
+
     fn append(&mut self, _bytes: &[u8]) -> Result<(), DeviceFault> {
         self.called()
     }
