@@ -192,7 +192,7 @@ fn run<'a>(alloc: Global) -> Result<Command<'a>, AllocError> {
         ))
 }
 
-/// The command that looks at every schedule of a script.
+/// The command that looks at every schedule of a script, or at every history of a declaration.
 fn explore<'a>(alloc: Global) -> Result<Command<'a>, AllocError> {
     let most = Arg::new(alloc, "most")
         .long("most")
@@ -200,13 +200,25 @@ fn explore<'a>(alloc: Global) -> Result<Command<'a>, AllocError> {
         .value_parser(value_parser!(u32).range(1..=i64::from(u32::MAX)))
         .default_value("1000000")
         .help("how many states are looked at before it gives up, 1 to 4294967295");
+    let script = Arg::new(alloc, "SCRIPT").help(
+        "the file of the script; without it, every order in which operations may begin and end is looked at",
+    );
+    let workers = Arg::new(alloc, "workers")
+        .long("workers")
+        .value_name("N")
+        .value_parser(value_parser!(u32).range(1..=i64::from(u32::MAX)))
+        .help(
+            "how many operations may be in progress at once, 1 to 4294967295, if there is no script; 2 if it isn't given",
+        )
+        .conflicts_with("SCRIPT")?;
     Command::new(alloc, "explore")
         .about(
-            "Says whether every schedule of a script ends done, or writes a shortest that doesn't",
+            "Says whether every schedule of a script ends done, or without a script whether the paths can freeze",
         )
         .after_help(EXPLORE_HELP)
         .arg(file(alloc, "DECL", "the file of the declaration"))?
-        .arg(file(alloc, "SCRIPT", "the file of the script"))?
+        .arg(script)?
+        .arg(workers)?
         .arg(most)
 }
 

@@ -165,8 +165,9 @@ See docs/language.md for declarations, docs/scripts.md for scripts and how proce
 
 /// What help says of `explore` below its options.
 pub const EXPLORE_HELP: &str = "\
-Example:
+Examples:
   pathsys explore examples/crosswise/declaration examples/crosswise/script
+  pathsys explore examples/slot/declaration --workers 3
 
 Exit statuses:
   0  done
@@ -174,7 +175,8 @@ Exit statuses:
   2  the command line is refused
   3  a file or stream failed
   4  the script is refused
-  5  in some schedule not all processes end: the journal is that of a shortest
+  5  in some schedule not all processes end: the journal is that of a shortest;
+     without a script, the paths can freeze, or an operation never begins
   6  out of memory
   7  there are too many states to say
 

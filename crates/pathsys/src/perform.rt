@@ -4,11 +4,9 @@ ghost use Rattle.std.specs.Prelude.{◌≡◌, ◌≢◌};
 ghost use Rattle.clap.specs.Words.{kind_of};
 
 use crate::command::command;
-use crate::commands::{
-    check, compile, explain, explore, follow, invite, picture, room_in, run, trace,
-};
 use crate::files::{STDIN, read_stdin, tell_unread};
-use crate::journals::audit;
+use crate::request::Request;
+use crate::terminals::Terminals;
 use clap::error::ErrorKind;
 use clap::{ArgMatches, Command, Error};
 use cmd_base::{Fault, Status, tell, whole};
@@ -49,60 +47,78 @@ fn lines_of(text: &[u8]) -> usize {
     text.iter().filter(|byte| **byte == b'\n').count()
 }
 
-/// Traces standard input.
-fn without_words<'a, R: Input + AllocGlobal, O: Write, E: Write>(
-    rt: &R,
-    is_typed: bool,
-    words: &ArgMatches<'_>,
-    out: &mut O,
-    err: &mut E,
-) -> Result<Status, Fault<'a>> {
-    invite(is_typed, INVITATION, err);
-    let input = read_stdin(rt)?;
-    let (declaration, attempts) = whole(&input);
-    let (alloc, room, report) = (rt.alloc(), room_in(words), words.get_flag("report"));
-    let status = trace_bytes(alloc, declaration, room, report, attempts, out, err);
-    let subject = Subject::Attempts(Source {
-        name: STDIN,
-        text: attempts,
-        lines_before: lines_of(declaration).saturating_add(1),
-    });
-    let _said = tell_place(
-        alloc,
-        Source::whole(STDIN, declaration),
-        subject,
-        status,
-        err,
-    );
-    Ok(status)
+impl<'a, R: Files + Input + AllocGlobal, O: Write, E: Write> Request<'_, 'a, R, O, E> {
+    /// Traces standard input.
+    fn without_words(&mut self) -> Result<Status, Fault<'a>> {
+        self.invite(INVITATION);
+        let input = read_stdin(self.rt)?;
+        let (declaration, attempts) = whole(&input);
+        let (alloc, room, report) = (self.alloc(), self.room(), self.words.get_flag("report"));
+        let (out, err) = (&mut *self.out, &mut *self.err);
+        let status = trace_bytes(alloc, declaration, room, report, attempts, out, err);
+        let subject = Subject::Attempts(Source {
+            name: STDIN,
+            text: attempts,
+            lines_before: lines_of(declaration).saturating_add(1),
+        });
+        let declaration = Source::whole(STDIN, declaration);
+        let _said = tell_place(alloc, declaration, subject, status, self.err);
+        Ok(status)
+    }
+}
+
+impl<
+    'a,
+    R: Files<File = File> + Input + AllocGlobal + Threads + Wait + Sync,
+    O: Write,
+    E: Write,
+> Request<'_, 'a, R, O, E> {
+    /// Runs the command of this name. Returns the exit status.
+    fn perform(&mut self, command: &str) -> Result<u8, Fault<'a>> {
+        let status = match command {
+            "explore" => return self.explore(),
+            "check" => self.check(),
+            "compile" => self.compile(),
+            "explain" => self.explain(),
+            "follow" => self.follow(),
+            "picture" => self.picture(),
+            "audit" => self.audit(),
+            "run" => self.run(),
+            _ => self.trace(),
+        }?;
+        Ok(u8::from(status))
+    }
 }
 
 /// Runs the command that clap matched. Returns the exit status.
 fn matched<
+    'r,
     'a,
     R: Files<File = File> + Input + AllocGlobal + Threads + Wait + Sync,
     O: Write,
     E: Write,
 >(
-    rt: &R,
-    is_typed: bool,
-    matches: &ArgMatches<'a>,
-    out: &mut O,
-    err: &mut E,
+    rt: &'r R,
+    terminals: Terminals,
+    matches: &'r ArgMatches<'a>,
+    out: &'r mut O,
+    err: &'r mut E,
 ) -> Result<u8, Fault<'a>> {
-    let status = match matches.subcommand() {
-        Some(("explore", words)) => return explore(rt, words, out, err),
-        Some(("check", words)) => check(rt, words, out, err),
-        Some(("compile", words)) => compile(rt, words, out, err),
-        Some(("explain", words)) => explain(rt, words, out, err),
-        Some(("follow", words)) => follow(rt, is_typed, words, out, err),
-        Some(("picture", words)) => picture(rt, words, out, err),
-        Some(("audit", words)) => audit(rt, words, out, err),
-        Some(("run", words)) => run(rt, words, out, err),
-        Some((_, words)) => trace(rt, words, out, err),
-        None => without_words(rt, is_typed, matches, out, err),
-    }?;
-    Ok(u8::from(status))
+    let (command, words) = match matches.subcommand() {
+        Some((command, words)) => (Some(command), words),
+        None => (None, matches),
+    };
+    let mut request = Request {
+        rt,
+        terminals,
+        words,
+        out,
+        err,
+    };
+    match command {
+        Some(command) => request.perform(command),
+        None => Ok(u8::from(request.without_words()?)),
+    }
 }
 
 /// How many files these words read from standard input: each that is named `-`, and the attempts of a follow.
@@ -135,7 +151,7 @@ fn words_for_clap(words: &[String]) -> &[String] {
 /// Runs the command that these words ask for. Returns the exit status.
 fn asked<R: Files<File = File> + Input + AllocGlobal + Threads + Wait + Sync, O: Write, E: Write>(
     rt: &R,
-    is_typed: bool,
+    terminals: Terminals,
     words: &[String],
     out: &mut O,
     err: &mut E,
@@ -147,7 +163,7 @@ fn asked<R: Files<File = File> + Input + AllocGlobal + Threads + Wait + Sync, O:
         return u8::from(refuse_twice(command, out, err));
     }
     match command.try_get_matches_from(words_for_clap(words)) {
-        Ok(matches) => match matched(rt, is_typed, &matches, out, err) {
+        Ok(matches) => match matched(rt, terminals, &matches, out, err) {
             Ok(status) => status,
             Err(fault) => u8::from(tell_unread(rt, fault, err)),
         },
@@ -161,13 +177,13 @@ pub fn perform<
     R: Env + Files<File = File> + Input + AllocGlobal + Threads + Wait + Sync,
     O: Write,
     E: Write,
->(rt: &R, is_typed: bool, out: &mut O, err: &mut E) -> u8 {
+>(rt: &R, terminals: Terminals, out: &mut O, err: &mut E) -> u8 {
     let words = match env::args(rt) {
         Ok(words) => words,
         Err(error) => return u8::from(tell(err, Fault::of_arguments(&error))),
     };
     match words.collect::<Vec<String>>(rt.alloc()) {
-        Ok(words) => asked(rt, is_typed, &words, out, err),
+        Ok(words) => asked(rt, terminals, &words, out, err),
         Err(_) => u8::from(tell(err, Fault::OutOfMemory)),
     }
 }
