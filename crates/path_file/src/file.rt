@@ -72,15 +72,17 @@ impl FileDevice {
     }
 
     // What a call answers whose result this is.
-    fn answer(&mut self, outcome: io::Result<()>) -> Result<(), DeviceFault>
+    fn given<T: Drop>(&mut self, outcome: io::Result<T>) -> Result<T, DeviceFault>
         ensures failed { IsErrOf result DeviceFault.Failed → self.new.failed ≡ true }
     {
-        let Err(error) = outcome else {
-            return Ok(());
-        };
-        self.failed = true;
-        self.error = Some(error);
-        Err(fault_of(error))
+        match outcome {
+            Ok(value) => Ok(value),
+            Err(error) => {
+                self.failed = true;
+                self.error = Some(error);
+                Err(fault_of(error))
+            }
+        }
     }
 }
 
@@ -103,12 +105,22 @@ fn fault_of(error: io::Error) -> DeviceFault {
     }
 }
 
-// All bytes of a file.
-fn read_all<B: Allocator + Copy>(file: &File, alloc: B) -> io::Result<Vec<u8, B>> {
-    let mut chunk = vec![in alloc; 0u8; CHUNK]?;
+// How many bytes a file has; 0 if that isn't known.
+fn length_of(file: &File) -> usize {
+    match file.metadata() {
+        Ok(about) => usize::try_from(about.len()).unwrap_or(0),
+        Err(_) => 0,
+    }
+}
+
+// The first bytes of a file, so many, or all if there are fewer.
+fn read_front<B: Allocator + Copy>(file: &File, alloc: B, size: usize) -> io::Result<Vec<u8, B>> {
+    let mut chunk = vec![in alloc; 0u8; CHUNK.min(size)]?;
     let mut bytes = Vec::new(alloc);
+    bytes.reserve(size.min(length_of(file)))?;
     for _ in 0..u64::MAX {
-        match file.read_at(&mut chunk, bytes.len() as u64) {
+        let wanted = chunk.len().min(size.saturating_sub(bytes.len()));
+        match file.read_at(&mut chunk[..wanted], bytes.len() as u64) {
             Ok(0) => break,
             Ok(count) => bytes.extend_from_slice(&chunk[..count])?,
             Err(error) if error.kind() == ErrorKind::Interrupted => {}
@@ -134,28 +146,31 @@ impl Device for FileDevice {
     ghost only_now = { λ f c left. tt };
 
     fn read<B: Allocator + Copy>(&mut self, alloc: B) -> Result<Vec<u8, B>, DeviceFault> {
-        match read_all(&self.file, alloc) {
-            Ok(bytes) => Ok(bytes),
-            Err(error) => {
-                self.failed = true;
-                self.error = Some(error);
-                Err(fault_of(error))
-            }
-        }
+        let outcome = read_front(&self.file, alloc, usize::MAX);
+        self.given(outcome)
+    }
+
+    fn front<B: Allocator + Copy>(
+        &mut self,
+        alloc: B,
+        size: usize,
+    ) -> Result<Vec<u8, B>, DeviceFault> {
+        let outcome = read_front(&self.file, alloc, size);
+        self.given(outcome)
     }
 
     fn append(&mut self, bytes: &[u8]) -> Result<(), DeviceFault> {
         let outcome = (&self.file).write_all(bytes);
-        self.answer(outcome)
+        self.given(outcome)
     }
 
     fn cut(&mut self, size: usize) -> Result<(), DeviceFault> {
         let outcome = self.file.set_len(size as u64);
-        self.answer(outcome)
+        self.given(outcome)
     }
 
     fn sync(&mut self) -> Result<(), DeviceFault> {
         let outcome = self.file.sync_data();
-        self.answer(outcome)
+        self.given(outcome)
     }
 }

@@ -4,7 +4,8 @@
 //! Those of all paths are in one table. A start does its prologue in each path that names its operation, and is refused if one of
 //! these can't pass; a finish does its epilogues. `specs/Standings.antt` says at which histories a gate is, and what it decides there.
 
-ghost use Rattle.std.specs.Prelude.{◌≡◌, ◌≢◌, ◌+◌, ◌<◌, ◌≤◌, ℕ, length, All, IfOk, OnOk, OnErr, MatchResult, slice_index, slice_index_or, []};
+ghost use Rattle.std.specs.Prelude.{◌≡◌, ◌≢◌, ◌+◌, ◌<◌, ◌≤◌, ℕ, [], length, All, slice_index, slice_index_or};
+ghost use Rattle.std.specs.Prelude.{IfOk, OnOk, OnErr, MatchResult};
 ghost use Rattle.path_model.specs.Trees.{Names};
 ghost use Rattle.path_model.specs.Legal as legal;
 ghost use Rattle.path_gate.specs.Standings.{IsNamed, IsAt, Judges, Tells, Admitted, BlocksStay, Released, SamePlaces};

@@ -64,6 +64,18 @@ pub trait Device {
         ensures time { Elapses (moment self.old) (moment self.new) (left_since self.old) (left_since self.new) (may_leave self.new) }
         ensures cause { IsErrOf result DeviceFault.Failed → has_failed self.new };
 
+    /// The first bytes, so many, or all if there are fewer.
+    fn front<B: Allocator + Copy>(
+        &mut self,
+        alloc: B,
+        size: usize,
+    ) -> Result<Vec<u8, B>, DeviceFault>
+        ensures bytes { (b : List ℕ) → holds self.old b → IfOk result (λ bytes. bytes.items ≡ take size b) }
+        ensures holds { (b : List ℕ) → holds self.old b → holds self.new b }
+        ensures crash { (c : List ℕ) → may_leave self.new c → may_leave self.old c }
+        ensures time { Elapses (moment self.old) (moment self.new) (left_since self.old) (left_since self.new) (may_leave self.new) }
+        ensures cause { IsErrOf result DeviceFault.Failed → has_failed self.new };
+
     /// Writes bytes behind the last one. After an error a part of them may stand there.
     fn append(&mut self, bytes: &[u8]) -> Result<(), DeviceFault>
         ensures written { (b : List ℕ) → holds self.old b → OnOk result (holds self.new (b ++ bytes.now)) }

@@ -8,7 +8,8 @@ ghost use Rattle.path_shelf.specs.States.{MayFail, laws_of};
 ghost use Rattle.path_shelf.specs.Shelves.{declared_laws};
 ghost use Rattle.path_step.specs.Steps.{Foretells};
 ghost use Rattle.path_step.specs.Steps as steps;
-ghost use Rattle.path_system.specs.Inner.Parts.{Answers, AreFresh, AreOpened, AreReady, FailsUse, HasAnswered, MayUse, TakesUse, contents, is_law_at};
+ghost use Rattle.path_system.specs.Inner.Parts.{Answers, AreFresh, AreOpened, AreReady, FailsUse, HasAnswered, MayUse, TakesUse};
+ghost use Rattle.path_system.specs.Inner.Parts.{contents, is_law_at};
 
 use crate::marked::MarkedShelf;
 use path_decl::{Decl, counts, resource_of};
