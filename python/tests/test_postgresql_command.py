@@ -82,6 +82,28 @@ class Commands(OnServer, unittest.TestCase):
             process.send_signal(signal.SIGINT)
             self.assertEqual(process.wait(60), 128 + signal.SIGINT)
 
+    def test_lines_that_are_moved(self):
+        """To the commands nothing changes."""
+        paths, told = self.open(BOOK), b""
+        with subprocess.Popen(self.words("watch"), stdout=subprocess.PIPE) as process:
+            for _ in range(3):
+                paths.enter("write").leave()
+                told += process.stdout.readline()
+                paths.enter("read").leave()
+                paths.rotate()
+                told += b"".join(process.stdout.readline() for _ in range(3))
+            process.send_signal(signal.SIGINT)
+            self.assertEqual(process.wait(60), 128 + signal.SIGINT)
+        self.assertEqual(told.decode(), paths.journal())
+        self.assertEqual(self.runs("log"), (paths.journal(), "", 0))
+        self.assertEqual(self.runs("audit"), ("sound\n", "", 0))
+        self.assertEqual(self.runs("exec", "write", "--", "true"), ("", "", 0))
+        told = "update wanzoche.segment set text = replace(text, 'started 2', 'started 3') where log = (select log from wanzoche.log where name = %s)"
+        self.server.run(told, self.name)
+        told, why, status = self.runs("audit")
+        self.assertEqual((told, status), ("", 5))
+        self.assertRegex(why, "at place 4: .1 start write: started 3., where .started 2. is owed")
+
     def test_faults(self):
         self.assertRegex(self.runs("status")[1], "^wanzoche: there is no log .*: `wanzoche exec` with --declaration makes one\n$")
         words = [sys.executable, "-m", "wanzoche", "status", "--store", self.server.url]

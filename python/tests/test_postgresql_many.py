@@ -36,8 +36,10 @@ BUFFER = LINE.replace("path put end\npath get end", "path put , get end")
 class Round:
     """So many processes with so many entries each, of which some are killed, and something that disturbs them."""
 
-    def __init__(self, text, processes, entries, *, server, kills=0.0, disturb=None, url=None, grace=1.0, patience=PATIENCE, sync=True):
-        self.text, self.processes, self.entries = text, processes, entries if THOROUGH else entries // 2
+    def __init__(
+        self, text, processes, entries, *, server, kills=0.0, disturb=None, url=None, grace=1.0, patience=PATIENCE, sync=True, room=None
+    ):
+        self.text, self.processes, self.entries, self.room = text, processes, entries if THOROUGH else entries // 2, room
         self.server, self.kills, self.disturb, self.grace, self.patience = server, kills, disturb, grace, patience
         self.url, self.sync = url or server.url, sync
         self.name = new_name()
@@ -46,7 +48,7 @@ class Round:
         self.alive, self.killed, self.begun, self.lost, self.wrong = {}, 0, 0, 0, []
 
     def open(self, url=None):
-        return Paths(self.text, store=url or self.url, name=self.name, grace=self.grace, patience=60, sync=self.sync)
+        return Paths(self.text, store=url or self.url, name=self.name, grace=self.grace, patience=60, sync=self.sync, room=self.room)
 
     def run(self):
         """What was wrong."""
@@ -55,7 +57,7 @@ class Round:
             for _ in range(self.processes):
                 self.begin(self.entries)
             over = threading.Event()
-            beside = threading.Thread(target=self.disturb, args=(over, self.chance, self.noted)) if self.disturb else None
+            beside = threading.Thread(target=self.disturb, args=(over, self.chance, self.noted, self)) if self.disturb else None
             if beside:
                 beside.start()
             try:
@@ -136,6 +138,8 @@ class Round:
             live, journal, verdict = paths.report().live, paths.journal(), paths.audit()
         if live or not verdict:
             self.wrong.append("live: {}; {}".format(live, verdict))
+        if self.room:
+            self.judge_places(journal)
         starts = {number: name for name, number in re.findall(r"^\d+ start (\w+): started (\d+)$", journal, re.M)}
         finishes = re.findall(r"^\d+ finish (\d+): finished$", journal, re.M)
         if len(set(finishes)) != len(finishes) or set(finishes) != set(starts):
@@ -153,6 +157,18 @@ class Round:
                 total = int(file.read() or 0)
         if not alone <= total <= alone + self.killed:
             self.wrong.append("{} bodies were alone, and the number is {}".format(alone, total))
+
+    def judge_places(self, journal):
+        """Each line of the journal stands in one place, of a segment or of the table, and most were moved."""
+        told = "select place, {} from wanzoche.{} join wanzoche.log using (log) where name = %s"
+        found = self.server.run(told.format("text", "segment"), self.name)
+        moved = sum(text.count("\n") + 1 for _, text in found)
+        found += self.server.run(told.format("line", "line"), self.name)
+        lines = [(place + n, line) for place, text in found for n, line in enumerate(text.split("\n"))]
+        if sorted(lines) != list(enumerate(journal.splitlines())):
+            self.wrong.append("lines are missing, or stand twice")
+        if moved < len(lines) // 2:
+            self.wrong.append("only {} of {} lines were moved".format(moved, len(lines)))
 
     def compare(self, notes, starts, finishes):
         alone = 0
@@ -253,7 +269,7 @@ class Worker:
 def restarts(server, count):
     """Kills the server and starts it again, so often."""
 
-    def disturb(over, chance, noted):
+    def disturb(over, chance, noted, round):
         for _ in range(count):
             if over.wait(0.5 + chance.random()):
                 return
@@ -279,7 +295,7 @@ def ends_sessions(server, pause):
         "order by random() limit 1) x"
     )
 
-    def disturb(over, chance, noted):
+    def disturb(over, chance, noted, round):
         while not over.wait(pause * chance.random()):
             server.run(told)
             waits_for_progress(over, noted)
@@ -287,10 +303,32 @@ def ends_sessions(server, pause):
     return disturb
 
 
+def moves_lines(server, pause, beside=None):
+    """Another process moves all lines but the last now and then, beside something else."""
+
+    def disturb(over, chance, noted, round):
+        if beside:
+            other = threading.Thread(target=beside, args=(over, chance, noted, round))
+            other.start()
+        with round.open(server.url) as paths:
+            while not over.wait(pause * chance.random()):
+                try:
+                    paths.rotate()
+                except wanzoche.CorruptStore as error:
+                    round.wrong.append(str(error))
+                    break
+                except wanzoche.StoreError:
+                    pass  # the server is away
+        if beside:
+            other.join()
+
+    return disturb
+
+
 def cuts(proxy, pause):
     """The network cuts all connections now and then, or loses an answer."""
 
-    def disturb(over, chance, noted):
+    def disturb(over, chance, noted, round):
         while not over.wait(pause * chance.random()):
             waits_for_progress(over, noted)
             if chance.random() < 0.2:
@@ -347,6 +385,31 @@ class Many(unittest.TestCase):
         self.addCleanup(server.end)
         self.rounds(BOOK, 6, 100, server=server, disturb=restarts(server, 3), grace=10.0)
 
+    def moving(self, *given, **named):
+        """While lines are moved, by who appends and by another, too."""
+        with mock.patch.object(_log, "KEPT", 3):
+            self.rounds(*given, **{"room": 20, "disturb": moves_lines(the_server(), 0.05), **named})
+
+    def test_lines_that_are_moved(self):
+        for text in (BOOK, BUFFER):
+            self.moving(text, 6, 60)
+        self.moving(BOOK, 6, 60, disturb=None)
+
+    def test_lines_that_are_moved_with_deaths(self):
+        self.moving(BOOK, 6, 60, kills=0.01)
+        self.moving(SLOT, 6, 60, kills=0.01, disturb=None)
+
+    def test_lines_that_are_moved_and_connections_that_are_cut(self):
+        proxy = Cutting(the_server().port)
+        self.addCleanup(proxy.close)
+        url = the_server().tcp_url(port=proxy.port)
+        self.moving(BOOK, 4, 60, disturb=moves_lines(the_server(), 0.05, cuts(proxy, 0.3)), url=url, grace=5.0)
+
+    def test_lines_that_are_moved_at_a_server_that_dies(self):
+        server = Server(wal_writer_delay="10s")
+        self.addCleanup(server.end)
+        self.moving(BOOK, 6, 100, server=server, disturb=moves_lines(server, 0.05, restarts(server, 3)), grace=10.0)
+
 
 @needs_server
 @unittest.skipUnless(os.environ.get("WANZOCHE_WRONG"), "WANZOCHE_WRONG=yes tries wrong stores, by hand")
@@ -381,9 +444,14 @@ class WrongStores(unittest.TestCase):
             with self.assertRaisesRegex(AssertionError, "nothing was noticed"):
                 self.found(**named)
 
+    def test_a_right_one_that_looks_often_passes(self):
+        with self.assertRaisesRegex(AssertionError, "nothing was noticed"):
+            self.found(mock.patch.object(_clerk, "CHECK", 0.02), kills=0.05)
+
     def test_it_takes_the_living_for_dead(self):
         dead = "create or replace function wanzoche.dead(l int, workers int[], grace interval) returns setof int language sql as "
-        self.found(sql=dead + "$$ select unnest(workers) $$")
+        # Who waits looks for the dead each second; here it does so before the round is over.
+        self.found(mock.patch.object(_clerk, "CHECK", 0.02), sql=dead + "$$ select unnest(workers) $$")
 
     def test_it_appends_without_the_place(self):
         put = _log.PUT.replace("$3::bigint, $5", "coalesce((select max(place) + 1 from wanzoche.line where log = $1::int), 0), $5")
@@ -408,7 +476,8 @@ class WrongStores(unittest.TestCase):
     def test_it_answers_before_the_line_lasts(self):
         self.server = Server(wal_writer_delay="10s")
         self.addCleanup(self.server.end)
-        patched = {b"lasts": "select set_config('synchronous_commit', $1, true), pg_current_xact_id()"}
+        message, statements = "pg_logical_emit_message(true, 'wanzoche', '')", _log.STATEMENTS
+        patched = {name: statements[name].replace(message, "pg_current_xact_id()") for name in (b"lasts", b"line_lasts")}
         self.found(mock.patch.dict(_log.STATEMENTS, patched), disturb=restarts(self.server, 3), grace=10.0)
 
     def test_it_wakes_nobody(self):

@@ -211,11 +211,11 @@ def _watch_served(paths: ServedPaths) -> int:
     """The same, where a server has the log."""
     written = 0
     while True:
-        lines = paths._served.lines_from(written)
-        sys.stdout.write("".join(lines))
+        text = "".join(paths._served.texts_from(written))
+        sys.stdout.write(text)
         sys.stdout.flush()
-        written += len(lines)
-        time.sleep(0 if lines else 0.2)
+        written += text.count("\n")
+        time.sleep(0 if text else 0.2)
 
 
 def _do(paths: StoredPaths, given: Any) -> int:

@@ -83,6 +83,10 @@ class Replica:
         self.lines += answer.code == native.USED
         return answer
 
+    def has_live(self, worker: int, activation: int) -> bool:
+        """Whether an activation of the worker is in progress."""
+        return self.owed_use(worker, activation, native.LOOK, 0).code not in (native.STALE, native.NOT_YOURS)
+
     def owed_start(self, worker: int, op: int) -> native.Answer:
         """What a start would be answered. Nothing changes."""
         answer: native.Answer = native.owed_start(self.at, worker, op)

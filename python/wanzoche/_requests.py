@@ -2,6 +2,7 @@
 
 from __future__ import annotations
 
+import select
 import socket
 import time
 from typing import Any, Callable, Dict, NamedTuple, Optional, Protocol, Tuple
@@ -49,7 +50,9 @@ class Start(Request):
     def __init__(self, wake: Callable[[], None], held: Held, caller: int, waits: bool, loop: Any = None) -> None:
         super().__init__(wake)
         self.held, self.caller, self.waits = held, caller, waits
-        self._loop = loop
+        self._loop, self.release = loop, wake
+        self.bell: Optional[Bell] = None
+        """Rung when a thread that waits for the session itself is to look whether it still does."""
         self.has_looked = False
         self.is_late = False
         """Its time is over: it is blocked if it isn't started by now."""
@@ -119,6 +122,15 @@ class Bell:
             self._ringing.send(b"\0")
         except OSError:
             pass  # it has been rung often enough
+
+    def wait(self, fd: int, seconds: Optional[float]) -> None:
+        """Until it is rung or something comes at a socket, or so many seconds."""
+        poll = select.poll()
+        poll.register(self.rung, select.POLLIN)
+        poll.register(fd, select.POLLIN)
+        for each, _ in poll.poll(None if seconds is None else max(seconds, 0) * 1000):
+            if each != fd:
+                self.silence()
 
     def silence(self) -> None:
         """Until it is rung again."""

@@ -14,7 +14,7 @@ from ._attempts import InUse, admitted, in_use
 from ._clerk import Clerk
 from ._entries import AsyncEntry, Entry
 from ._errors import Blocked, Closed, Lost, StoreError, Timeout
-from ._log import Log
+from ._log import MOST_IN_SEGMENT, SEGMENT, Log
 from ._postgresql import Cut
 from ._requests import Finish, Question, Request, Start, Use, wake_nobody
 from ._store import Store
@@ -40,9 +40,19 @@ class ServedStore:
     """Nobody has to wait for the disk behind an answer: the clerk gives it when the line is there, if it is to be."""
 
     def __init__(
-        self, url: str, source: bytes, handle: native.Handle, *, name: str, sync: bool, finishes_lost: bool, grace: float, patience: float
+        self,
+        url: str,
+        source: bytes,
+        handle: native.Handle,
+        *,
+        name: str,
+        room: int,
+        sync: bool,
+        finishes_lost: bool,
+        grace: float,
+        patience: float,
     ) -> None:
-        self._log = Log(url, name, source, handle, sync=sync, grace=grace)
+        self._log = Log(url, name, source, handle, room=room, sync=sync, grace=grace)
         self._replica = self._log.replica
         self._finishes_lost, self._patience = finishes_lost, patience
         self._is_closed = False
@@ -92,7 +102,10 @@ class ServedStore:
         start = begun._attempt = Start(asleep.release, begun, worker, until is None or until > time.monotonic())
         try:
             self.clerk.do(start)
-            if until is None or not start.waits:
+            self.clerk.wait_here(start, until)
+            if start.is_over():
+                pass
+            elif until is None or not start.waits:
                 asleep.acquire()
             elif not asleep.acquire(True, min(max(until - time.monotonic(), 0.0), threading.TIMEOUT_MAX)):
                 self.late(start)
@@ -193,16 +206,16 @@ class ServedStore:
         return self.clerk.lost()
 
     def texts(self) -> List[str]:
-        """All lines of the log so far."""
-        lines = self.ask(lambda: self._log.lines(0))
-        return ["".join(line.decode("ascii", "backslashreplace") + "\n" for line in lines)]
+        """All lines of the log so far, in parts."""
+        return self.texts_from(0)
 
-    def lines_from(self, place: int) -> List[str]:
-        """The lines from there on."""
-        return [line.decode("ascii", "backslashreplace") + "\n" for line in self.ask(lambda: self._log.lines(place))]
+    def texts_from(self, place: int) -> List[str]:
+        """The lines from there on, in parts."""
+        return self.ask(lambda: [part.decode("ascii", "backslashreplace") for part in self._log.texts(place)])
 
     def rotate(self) -> None:
-        """Does nothing: all lines stay in the table."""
+        """Moves all lines but the last into segments. Raises `StoreError` if that can't be done now."""
+        self.ask(self._log.rotate_all)
 
     def presence(self) -> List[int]:
         """The file descriptors that tell others that this worker is alive, as long as a process has them."""
@@ -430,13 +443,14 @@ class ServedPaths(StoredPaths):
     """Paths over a log in PostgreSQL: what `Paths(text, store="postgresql://..", name=..)` makes. See `Paths`."""
 
     _served: ServedStore
+    _usual_room = SEGMENT
 
     def _new_store(self, store: Any, source: bytes, handle: native.Handle, other: Dict[str, Any], **options: Any) -> Store:
         name, grace, patience = other.pop("name", None), other.pop("grace", None), other.pop("patience", None)
         if not isinstance(name, str) or not name:
             raise ValueError('a store in PostgreSQL needs the log\'s name: `name="pool"`')
-        if options.pop("room", native.MOST_LINES) != native.MOST_LINES:
-            raise ValueError("a log in PostgreSQL has no room: all lines stay in its table")
+        if options["room"] > MOST_IN_SEGMENT:
+            raise ValueError("the room of a log in PostgreSQL is 1 to {:,} lines, not {:,}".format(MOST_IN_SEGMENT, options["room"]))
         self._grace = GRACE if grace is None else float(grace)
         self._patience = PATIENCE if patience is None else float(patience)
         if not (self._grace >= 0 and self._patience >= 0):
@@ -460,7 +474,3 @@ class ServedPaths(StoredPaths):
 
     def _replica_can_start(self, operation: str) -> bool:
         return self._served._replica.can_start(self._number(operation))
-
-    def rotate(self) -> None:
-        """Does nothing: all lines stay in the table. Raises `Closed` likewise."""
-        self._asked(lambda: None)
