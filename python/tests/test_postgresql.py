@@ -1,6 +1,7 @@
 """One log in PostgreSQL and few processes: what is shared, what death leaves, what is refused, and what an outage does."""
 
 import asyncio
+import copy
 import gc
 import os
 import random
@@ -245,6 +246,25 @@ class Sharing(OnServer, unittest.TestCase):
                 pass
         self.assertEqual(len(calls), 10)
 
+    def test_a_start_that_came_too_late_waits_for_no_disk(self):
+        a, b = self.open(BOOK), self.open(BOOK)
+        a.enter("write").leave()
+        self.until(lambda: a._served.clerk._is_asleep)
+        session, waited = a._served._log.session, []
+        call = session.call
+
+        def calls(given, until):
+            found = call(given, until)
+            waited.extend(len(rows) for each, rows in zip(given, found) if each.name.endswith(b"lasts"))
+            return found
+
+        session.call = calls
+        with b("write"):
+            self.assertIsNone(a.try_enter("write"))
+            self.assertEqual(waited, [0])
+        a.enter("write").leave()
+        self.assertEqual(waited, [0, 1, 1])
+
     def test_what_is_refused_is_not_written(self):
         a, b = self.open(BOOK), self.open(BOOK)
         with a("write"):
@@ -308,7 +328,7 @@ class Sharing(OnServer, unittest.TestCase):
 
     def test_options_are_checked(self):
         url = self.server.url
-        for options in ({"log": []}, {"journal": False}, {"room": 9}, {"lost": "maybe"}, {"grace": -1}, {"name": ""}, {"name": None}):
+        for options in ({"log": []}, {"journal": False}, {"room": 0}, {"lost": "maybe"}, {"grace": -1}, {"name": ""}, {"name": None}):
             with self.assertRaises(ValueError, msg=options):
                 Paths(SLOT, store=url, **{"name": "none", **options})
         with self.assertRaises(TypeError):
@@ -446,6 +466,134 @@ class AtTheDesk(OnServer, unittest.TestCase):
         b.enter("write", timeout=0).leave()
         self.assertTrue(a.audit())
 
+    def waits_itself(self, paths, work):
+        """A thread that does this, and waits at its own process for the session."""
+        waits = threading.Thread(target=work)
+        waits.start()
+        self.until(lambda: paths._served.clerk._waits_here is not None)
+        return waits
+
+    def test_who_waits_makes_its_calls(self):
+        """From the first to the last. Another thread that wants something gets it by the clerk, which makes the others, too, then."""
+        a, b = self.open(BOOK), self.open(BOOK)
+        threads = self.around_calls(a)
+        for wants in (False, True):
+            self.sleeps(a)
+            entry = b.enter("write")
+            threads.clear()
+            waits = self.waits_itself(a, lambda: a.enter("write", timeout=20).leave())
+            if wants:
+                self.assertEqual(a.report().live[0].operation, "write")
+            entry.leave()
+            waits.join(20)
+            self.assertEqual(set(threads), {waits, a._served.clerk.thread} if wants else {waits})
+        self.assertTrue(a.audit())
+
+    def test_who_waits_looks_for_the_dead(self):
+        a = self.open(BOOK)
+        self.sleeps(a)
+        threads = self.around_calls(a)
+        held = []
+        self.dies(lambda: held.append(self.made(BOOK).enter("write")))
+        threads.clear()
+        self.waits_itself(a, lambda: a.enter("write", timeout=20).leave()).join(20)
+        self.assertEqual(len(set(threads)), 1)
+        self.assertEqual(a.report().live, ())
+        self.assertTrue(a.audit())
+
+    def test_who_waits_has_a_time_limit(self):
+        a, b = self.open(BOOK), self.open(BOOK)
+        with b("write"):
+            for seconds in (0.05, 0.4, 1.3):
+                self.sleeps(a)
+                began = time.monotonic()
+                self.assertRaises(Timeout, a.enter, "read", timeout=seconds)
+                self.assertLess(abs(time.monotonic() - began - seconds), 0.5)
+        self.until(lambda: a.waiting() == {} and a._served.clerk._waits_here is None)
+        a.enter("read").leave()
+        self.assertTrue(a.audit())
+
+    def test_a_session_that_is_cut_while_a_thread_waits(self):
+        """The clerk begins another, and does the rest."""
+        for cut in (lambda paths: self.ends_session_of(paths), lambda paths: paths._served.clerk.ring()):
+            self.name += "'"
+            a, b = self.open(BOOK), self.open(BOOK)
+            self.sleeps(a)
+            entry, got = b.enter("write"), []
+            waits = self.waits_itself(a, lambda: got.append(a.enter("read", timeout=20)))
+            cut(a)
+            self.until(lambda: a._served.clerk._waits_here is None)
+            entry.leave()
+            waits.join(20)
+            self.assertEqual((len(got), a.worker), (1, "process 1"))
+            got[0].leave()
+            self.assertTrue(a.audit())
+
+    def ends_session_of(self, paths):
+        told = "select wanzoche.key(log, %s) from wanzoche.log where name = %s"
+        key = self.server.run(told, paths._served.worker, self.name)[0][0]
+        told = "select pg_terminate_backend(pid) from pg_locks where locktype = 'advisory' and objid = (%s::bigint & 4294967295) and granted"
+        self.server.run(told, key)
+
+    def test_a_close_while_a_thread_waits(self):
+        with mock.patch.object(_clerk, "CHECK", 1000.0):
+            a, b, told = self.open(BOOK), self.open(BOOK), []
+
+            def enters():
+                with self.assertRaises(Closed) as raised:
+                    a.enter("read")
+                told.append(raised.exception)
+
+            with b("write"):
+                self.sleeps(a)
+                waits = self.waits_itself(a, enters)
+                a.close()
+                waits.join(10)
+                self.assertEqual(len(told), 1)
+        self.assertTrue(b.audit())
+
+    def test_an_interrupt_while_a_thread_waits(self):
+        """It costs no session and no reading of the log."""
+        a, b = self.open(BOOK), self.open(BOOK)
+        before = signal.signal(signal.SIGALRM, lambda *_: interrupt())
+        self.addCleanup(signal.signal, signal.SIGALRM, before)
+        session = a._served._log.session
+        for _ in range(20):
+            self.sleeps(a)
+            with b("write"):
+                number = session.fileno()
+                signal.setitimer(signal.ITIMER_REAL, random.uniform(0.05, 0.07))
+                self.assertRaises(Interrupt, a.enter, "read", timeout=20)
+                self.until(lambda: a.waiting() == {} and a._served.clerk._waits_here is None)
+            a.enter("read", timeout=20).leave()
+            self.assertEqual((session.fileno(), a.report().live), (number, ()))
+        self.assertTrue(a.audit())
+
+    def test_one_turn_is_taken_for_many_defeats(self):
+        """One that was blocked in it tries without one again, since a turn keeps all others waiting."""
+        a, b = self.open(BOOK), self.open(BOOK)
+        a.enter("read").leave()
+        self.sleeps(a)
+        a._served.clerk._beaten = _clerk.BEATEN
+        entries, names, session = [b.enter("write")], [], a._served._log.session
+        call = session.call
+
+        def calls(*given):
+            names.extend(each.name for each in given[0])
+            if names.count(b"turn") == 1 == len(entries):
+                entries.append(b.enter("write", timeout=20))  # which comes between
+            return call(*given)
+
+        session.call = calls
+        self.addCleanup(setattr, session, "call", call)
+        waits = self.waits_itself(a, lambda: a.enter("write", timeout=20).leave())
+        entries[0].leave()
+        self.until(lambda: b"rollback" in names)
+        entries[1].leave()
+        waits.join(20)
+        self.assertEqual(names.count(b"turn"), 1)
+        self.assertTrue(a.audit())
+
     def test_a_session_that_is_cut_under_a_thread(self):
         a, b = self.open(BOOK), self.open(BOOK)
         for _ in range(5):
@@ -455,6 +603,74 @@ class AtTheDesk(OnServer, unittest.TestCase):
                 self.assertEqual(entry.worker, "process 1")
                 self.assertIsNone(b.try_enter("read"))
         self.assertEqual(a.journal().count("started"), 5)
+
+
+@needs_server
+class Libpq(OnServer, unittest.TestCase):
+    """The calls of libpq by their addresses, and psycopg's own."""
+
+    def each(self, test):
+        for calls in (_postgresql.direct, lambda pq, connection: connection):
+            self.name += "'"
+            with self.subTest(calls.__name__), mock.patch.object(_postgresql, "direct", calls):
+                test()
+
+    def test_both_do_the_same(self):
+        self.each(self.same)
+
+    def same(self):
+        a, b = self.open(SLOT), self.open(SLOT)
+        thread = threading.Thread(target=lambda: [b.enter("remove", timeout=20).leave() for _ in range(20)])
+        thread.start()
+        for _ in range(20):
+            a.enter("deposit", timeout=20).leave()
+        thread.join(20)
+        self.assertIsNone(a.try_enter("remove"))
+        self.assertEqual(a.journal().count("finished"), 40)
+        self.assertTrue(b.audit())
+
+    def test_what_the_server_says(self):
+        self.open(SLOT)
+        self.each(self.says)
+
+    def says(self):
+        session, until = _postgresql.Session(self.server.url), time.monotonic() + 20
+        self.addCleanup(session.close)
+        session.connect(until)
+        session.prepare(_log.STATEMENTS, until)
+        with self.assertRaisesRegex(_postgresql.Complaint, '^invalid input syntax for type integer: "x"') as told:
+            session.call([_postgresql.Call(b"process", (b"x", b"1"))], until)
+        self.assertEqual(told.exception.code, "22P02")
+        lines = [_postgresql.Call(b"lines", (b"0", b"%d" % place, b"3" if place else None)) for place in (0, 7)]
+        self.assertEqual(session.call(lines[:1] * 2, until), [[[None, b"-1", None]]] * 2)
+        with self.assertRaisesRegex(_postgresql.Complaint, "^line 6 isn't the one") as told:
+            session.call(lines, until)
+        self.assertEqual((told.exception.code, told.exception.detail), ("WZ001", ""))
+        self.assertEqual(session.call([_postgresql.Call(b"begin"), _postgresql.Call(b"rollback")], until), [[], []])
+        session._connection.finish()
+        self.assertRaises(_postgresql.Cut, session.call, lines, until)
+
+    def test_no_memory_is_lost(self):
+        """psycopg 3.1 in Python doesn't give a notification's memory back."""
+        from wanzoche import _libpq
+
+        a, b = self.open(SLOT), self.open(SLOT)
+        calls = b._served._log.session._calls
+        if not isinstance(calls, _libpq.Direct):
+            self.skipTest("psycopg is in C here")
+        library, taken, given_back = calls._library, [], []
+        calls._library = copy.copy(library)
+        calls._library.notice = lambda at: (taken.append(library.notice(at)), taken[-1])[1]
+        calls._library.free = lambda at: given_back.append(library.free(at))
+        for _ in range(5):
+            entry = a.enter("deposit", timeout=20)
+            thread = threading.Thread(target=lambda: b.enter("remove", timeout=20).leave())
+            thread.start()
+            self.until(lambda: b.waiting() == {"remove": 1} and b._served.clerk._waits_here is not None)
+            entry.leave()
+            thread.join(20)
+        self.assertGreaterEqual(len(given_back), 5)
+        self.assertEqual(len(given_back), sum(map(bool, taken)))
 
 
 @needs_server
@@ -845,6 +1061,24 @@ class Crashes(OnServer, unittest.TestCase):
         self.assertEqual(a.report().live, ())
         self.assertTrue(a.audit() and b.audit())
 
+    def test_lines_that_are_gone_in_a_turn(self):
+        """The turn is ended, and the log read anew in the same session."""
+        a = self.open(BOOK)
+        a.enter("read").leave()
+        self.server.run("update wanzoche.line set stamp = stamp + 1")
+        entries = []
+        threads = [threading.Thread(target=lambda: entries.append(a.enter("read", timeout=20))) for _ in range(3)]
+        with a._served.clerk._desk:  # so that all go in one turn
+            for thread in threads:
+                thread.start()
+            self.until(lambda: len(a._served.clerk._inbox) == 3)
+        for thread in threads:
+            thread.join(20)
+        self.assertEqual(len(entries), 3)
+        for entry in entries:
+            entry.leave()
+        self.assertTrue(a.audit())
+
     def test_what_was_answered_is_there(self):
         a = self.open(BOOK)
         entries = [a.enter("read") for _ in range(20)]
@@ -934,8 +1168,8 @@ class Refusals(OnServer, unittest.TestCase):
     def test_another_schema(self):
         self.open(BOOK).close()
         self.server.run("update wanzoche.schema set number = 7")
-        self.addCleanup(self.server.run, "update wanzoche.schema set number = 1")
-        self.refused(StoreError, "^the schema wanzoche is number 7, and this package has 1$")
+        self.addCleanup(self.server.run, "update wanzoche.schema set number = 2")
+        self.refused(StoreError, "^the schema wanzoche is number 7, and this package has 2$")
 
     def test_a_server_that_is_not_there(self):
         with mock.patch.object(_served, "OPENING", 0.3):
@@ -966,13 +1200,14 @@ class Refusals(OnServer, unittest.TestCase):
 class Interrupts(OnServer, unittest.TestCase):
     """An exception before each instruction of the package, one after another."""
 
-    def each(self, call, stride=1):
+    def each(self, call, stride=1, before=lambda: None):
         guard = no_longer_than(300)
         guard.__enter__()
         self.addCleanup(guard.__exit__, None, None, None)
         paths, other = self.open(BOOK, sync=False), self.open(BOOK, sync=False)
         number, goes_on = 0, True
         while goes_on:
+            before()
             goes_on = at_instruction(number, interrupt, lambda: call(paths))
             gc.collect()
             self.assertEqual((paths.report().live, paths.waiting()), ((), {}), number)
@@ -1004,6 +1239,21 @@ class Interrupts(OnServer, unittest.TestCase):
             entry.leave()
 
         self.each(call, 17)
+
+    def test_lines_that_are_moved(self):
+        """By itself, and before by another, whose segments it reads."""
+        mover = self.open(BOOK, sync=False)
+
+        def moves():
+            mover.enter("read").leave()
+            mover.rotate()
+
+        def call(paths):
+            paths.enter("read").leave()
+            paths.rotate()
+
+        self.each(call, 61, moves)
+        self.assertEqual(mover.journal(), self.open(BOOK).journal())
 
     def test_signals_at_random_moments(self):
         """Also in psycopg, while another thread and another process want something, too."""

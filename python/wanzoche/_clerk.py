@@ -13,7 +13,7 @@ import select
 import threading
 import time
 from collections import deque
-from typing import Any, Callable, Deque, Dict, List, Optional, Sequence, Set, Tuple
+from typing import Any, Callable, Deque, Dict, List, Optional, Sequence, Set, Tuple, TypeVar
 
 from . import _native as native
 from ._errors import Closed, CorruptStore, StoreError
@@ -32,6 +32,8 @@ CONNECTING = 10.0
 """So many seconds one attempt to connect may take."""
 LATE = 1.0
 """So many seconds a close tries to reach a server that is away."""
+
+T = TypeVar("T")
 
 _VERBS = {native.PUT: b"put %d", native.TAKE: b"take", native.LOOK: b"look", native.ADD: b"add %d"}
 
@@ -57,6 +59,8 @@ class Clerk:
         self._is_cut = False  # whether it was
         self._poller, self._watched = select.epoll(), -1
         self._is_asleep = False  # whether the clerk has left the desk, until something happens
+        self._waits_here: Optional[Start] = None  # of a thread that waits for the session itself while the clerk sleeps
+        self._bells: List[Bell] = []
         self._ends = False
         self._starts: Dict[int, Deque[Start]] = {}
         self._uses: List[Use] = []
@@ -70,6 +74,7 @@ class Clerk:
         self._beaten = 0
         self._alone: Set[int] = set()  # the operations of which two were never admitted at once
         self._is_stale = False
+        self._has_moved = False  # whether the last step moved lines: then the next one does something else first
         self._is_unsure = False  # whether something was given up that may have been done
         self._check_at = float("inf")
         self.thread = threading.Thread(target=self._run, name="wanzoche clerk", daemon=True)
@@ -90,20 +95,41 @@ class Clerk:
         is_taken = False
         if not self.is_over:
             self.has_to_be_away()
-            try:
-                try:
-                    is_taken = self._desk.acquire(False) and self._do_here(request)
-                    self._leave_desk()
-                except BaseException:
-                    self._leave_desk()
-                    raise
-            except BaseException:
-                self._leave_desk()  # again, for an interrupt may have cut it off
-                raise
+            is_taken = self._at_desk(self._do_here, request)
         if not is_taken:
             self.submit(request)
         elif self.is_over:
             self._refuse_all()
+
+    def _at_desk(self, work: Callable[[T], bool], request: T) -> bool:
+        """What the work says, of a thread at the desk; False if somebody else is there."""
+        try:
+            try:
+                is_done = self._desk.acquire(False) and work(request)
+                self._leave_desk()
+            except BaseException:
+                self._leave_desk()
+                raise
+        except BaseException:
+            self._leave_desk()  # again, for an interrupt may have cut it off
+            raise
+        return is_done
+
+    def wait_here(self, start: Start, until: Optional[float]) -> None:
+        """Of a thread whose start was blocked: waits for the session itself, until it has its reply, or the clerk does the rest, or it is
+        late. So nobody hands over to it what it waits for."""
+        bell = start.bell
+        if bell is None:
+            return
+        while self._waits_here is start and not start.is_over():
+            now, ends = time.monotonic(), min(self._check_at, float("inf") if until is None else until)
+            if until is not None and now >= until:
+                break
+            bell.wait(self._watched, None if ends == float("inf") else ends - now)
+            if self._waits_here is start and not start.is_over() and not self._at_desk(self._go_on_here, start):
+                self.ring()
+                break
+        self._bells.append(bell)
 
     def has_to_be_away(self) -> None:
         """Raises RuntimeError if this thread is at the desk: a signal handler that came between can't wait for it."""
@@ -138,27 +164,71 @@ class Clerk:
         watched = self._watched
         if not self._is_idle() or self.log.session.fileno() != watched:
             return False
-        self._here = request
         self._check_at = float("inf")
+        self._poller.modify(watched, 0)  # or each answer would wake the clerk
+        only = self._only(request)
+        if only is None:
+            self._put_in(request)
+        self._do_as(request, only)
+        return True
+
+    def _go_on_here(self, start: Start) -> bool:
+        """The same when something has come for a start that waits."""
+        if self._waits_here is not start or self._inbox or self._ends or self._is_cut:
+            return False
+        self._do_as(start, None)
+        return True
+
+    def _do_as(self, request: Request, only: Optional[Batch]) -> None:
+        """What is to be done for a request, and nobody else's. Then its thread waits for the session itself, or the clerk does."""
+        self._here, watched = request, self._watched
         try:
-            self._poller.modify(watched, 0)  # or each answer would wake the clerk
-            only = self._only(request)
-            if only is None:
-                self._put_in(request)
-            else:
+            if only is not None:
                 self._send(only)
+            elif self._waits_here is request:
+                self.log.session.look()
             while not (request.is_over() or self._inbox) and self._do_next():
                 pass
-            self._poller.modify(watched, select.EPOLLIN)
         except Cut:
             pass  # the clerk begins another session, and sends again what was on its way
         except Gone:
             self._is_unsure = True
         except CorruptStore as error:
             self.fault = error  # which ends the clerk
-        if self._inbox or self._flight or self._is_unsure or self.fault or not self._is_idle() or self.log.session.fileno() != watched:
-            self.ring()
+        self._passes = {op for op in self._passes if self.log.replica.can_start(op)}
+        is_usual = not (self._inbox or self._flight or self._is_unsure or self.fault) and self.log.session.fileno() == watched
+        if is_usual and isinstance(request, Start) and self._is_all(request):
+            self._keep_here(request)
+        else:
+            if not self._take_over() and self.log.session.fileno() == watched:
+                self._poller.modify(watched, select.EPOLLIN)
+            if not (is_usual and self._is_idle()):
+                self.ring()
         self._here = None
+
+    def _is_all(self, start: Start) -> bool:
+        """Whether this start is all that is to be done, and has to wait."""
+        has_work = self._finishes or self._uses or self._questions or self._unknown or self._passes or self._is_stale
+        if has_work or self.log.session.notices or not start.waits or not start.is_wanted():
+            return False
+        return sum(map(len, self._starts.values())) == 1
+
+    def _keep_here(self, start: Start) -> None:
+        """Its thread waits for the session, and not the clerk."""
+        if start.bell is None:
+            start.bell = self._bells.pop() if self._bells else Bell()
+            start.wake = start.bell.ring
+        self._waits_here = start
+
+    def _take_over(self) -> bool:
+        """From now on the clerk waits for the session. Whether a thread has done so."""
+        start, self._waits_here = self._waits_here, None
+        if start is None or start.bell is None:
+            return False
+        start.wake = start.release
+        start.bell.ring()
+        if self.log.session.fileno() == self._watched:
+            self._poller.modify(self._watched, select.EPOLLIN)
         return True
 
     def _only(self, request: Request) -> Optional[Batch]:
@@ -256,11 +326,14 @@ class Clerk:
         ready = [] if self._inbox else self._poller.poll(seconds)
         self._is_asleep = False
         self._desk.acquire()
+        has_come = self._take_over()
         for each, _ in ready:
             if each == fd:
-                self.log.session.look()
+                has_come = True
             else:
                 self._bell.silence()
+        if has_come and not self._is_cut:
+            self.log.session.look()
 
     def _watch(self, fd: int) -> None:
         """For a new session. A command that was given the one before keeps its socket known to the old poller."""
@@ -319,6 +392,10 @@ class Clerk:
         if self._is_stale:
             self._follow()
             return True
+        self._has_moved = self.log.place.lines >= self.log.due and not self._has_moved
+        if self._has_moved:
+            self.log.rotate()
+            return True
         if self._questions and not (self._finishes or self._unknown):
             self._answer_questions()
             return True
@@ -327,12 +404,12 @@ class Clerk:
         if self._questions:
             self._answer_questions()
             return True
-        return False
+        return self.log.place.lines >= self.log.due
 
     def _is_idle(self) -> bool:
         """Whether there is nothing to do, and nobody waits."""
         has_work = self._finishes or self._uses or self._questions or self._unknown or self._passes or self._is_stale or self._registered
-        return not (has_work or self.log.session.notices or any(self._starts.values()))
+        return not (has_work or self.log.session.notices or any(self._starts.values()) or self.log.place.lines >= self.log.due)
 
     def _forget_unwanted(self) -> None:
         for op, queue in self._starts.items():
@@ -419,7 +496,7 @@ class Clerk:
 
     def _is_lost(self, number: int) -> bool:
         """Whether the log says that others have finished an activation of this worker."""
-        return bool(native.owed_use(self.log.replica.at, self.log.worker, number, native.LOOK, 0).code in (native.STALE, native.NOT_YOURS))
+        return not self.log.replica.has_live(self.log.worker, number)
 
     def _let_go(self, number: int) -> None:
         held = self.held.pop(number, None)
@@ -479,6 +556,7 @@ class Clerk:
         self._unknown.update(number for number, each in finishes.items() if each.wake is wake_nobody)
         log.turn()
         self._looked()
+        self._beaten = 0
         before = log.place
         finishes = self._taken_finishes()
         lines: List[Tuple[Request, bytes]] = []

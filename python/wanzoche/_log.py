@@ -5,16 +5,23 @@ from __future__ import annotations
 import os
 import socket
 import time
-from typing import List, NamedTuple, Optional, Sequence, Set, Tuple
+from functools import partial
+from typing import Any, Callable, Iterator, List, NamedTuple, Optional, Sequence, Set, Tuple
 
 from . import _native as native
 from ._errors import CorruptStore, OtherDeclaration, StoreError
 from ._postgresql import AGAIN, HEARTBEAT, Call, Complaint, Cut, Row, Session, array
-from ._replica import Replica
+from ._replica import ROOM, Replica
 from ._store import difference
 
-SCHEMA = 1
-"""The number of the schema that this package knows."""
+SCHEMA = 2
+"""The number of the schema that this package knows. It brings one of an earlier number there."""
+SEGMENT = 16384
+"""So many lines go into a segment, if nothing else is said."""
+MOST_IN_SEGMENT = native.MOST_LINES - ROOM
+"""So many may: what is in progress behind them has room in a journal, too."""
+KEPT = 1000
+"""So many lines stay in the table when others are moved by themselves, so that few processes find their next line moved."""
 ANSWER = 30.0
 """So many seconds a call waits for its answer. Then the session is given up, and another asks again."""
 MOST = 20000
@@ -28,11 +35,11 @@ HAS_SCHEMA = (
 """Asked in this way since `to_regclass` may not see yet what another session has made."""
 PUT = (
     "insert into wanzoche.line (log, place, line, by) select $1::int, $3::bigint, $5, $2::int "
-    "from (select pg_advisory_xact_lock(wanzoche.key($1::int, 0)) offset 0) turn where $3::bigint = 0 "
-    "or exists (select from wanzoche.line x where x.log = $1::int and x.place = $3::bigint - 1 and x.stamp = $4::bigint) "
-    "on conflict do nothing returning stamp"
+    "from (select pg_advisory_xact_lock(wanzoche.key($1::int, 0)) offset 0) turn "
+    "where (select x.place = $3::bigint - 1 and x.stamp = $4::bigint from wanzoche.line x where x.log = $1::int "
+    "order by x.place desc limit 1) on conflict do nothing returning stamp"
 )
-"""Appends one line, if its place is the next one: then there is a row."""
+"""Appends one line, if its place is the next one: then there is a row. Not for the first line of a log."""
 WAIT = (
     "insert into wanzoche.waiting (log, operation, worker, since) select $1::int, o, $2::int, clock_timestamp() "
     "from (select pg_advisory_xact_lock(wanzoche.key($1::int, 0)) offset 0) turn, unnest($3::int[]) o "
@@ -44,12 +51,31 @@ STOP = (
     "and exists (select from wanzoche.line x where x.log = $1::int and x.place = $4::bigint and x.line = $5)"
 )
 """Waits for operations no more, if a line was appended."""
+COPY = (
+    "select min(x.place), max(x.place), count(*), string_agg(x.line, E'\\n' order by x.place) || E'\\n' from "
+    "(select y.place, y.line from wanzoche.line y where y.log = $1 and y.place >= $2 order by y.place limit $3) x"
+)
+"""Lines of the table from a place on, whatever stands there."""
+SEGMENT_AT = (
+    "select place, lines, text, stamp from wanzoche.segment where log = $1 and place = "
+    "(select min(x.place) from wanzoche.segment x where x.log = $1 and x.place + x.lines > $2 and x.place >= "
+    "coalesce((select max(y.place) from wanzoche.segment y where y.log = $1 and y.place <= $2), 0))"
+)
+"""The segment in which a place is, or else the next one behind it. Of no other the text or the stamps are read."""
+OWN = (
+    "select finishes from wanzoche.line where log = $1::int and finishes = any ($2::bigint[]) and by = $3::int "
+    "union all select a from unnest($2::bigint[]) a where exists (select from wanzoche.segment x where x.log = $1::int "
+    "and a <> all (x.buried) and strpos(E'\\n' || x.text || E'\\n', format(E'\\n%s finish %s: finished\\n', $3::int, a)) > 0)"
+)
+"""Which of these activations a worker has finished itself. It looks through all segments for those whose finish was moved."""
+LASTS = "select set_config('synchronous_commit', $1, true), pg_logical_emit_message(true, 'wanzoche', '')"
+"""Waits for the disk, if anything is written."""
 STATEMENTS = {
     b"begin": "begin",
     b"commit": "commit",
     b"rollback": "rollback",
     b"open": "select * from wanzoche.open($1, $2)",
-    b"arrive": "select wanzoche.arrive($1, $2)",
+    b"arrive": "select wanzoche.arrive($1, $2, {})".format(SCHEMA),
     b"process": "select process from wanzoche.worker where log = $1 and worker = $2",
     b"hold": "select wanzoche.hold($1, $2)",
     b"leave": "select wanzoche.leave($1, $2)",
@@ -58,18 +84,25 @@ STATEMENTS = {
     b"put_and_wake": PUT + ", wanzoche.wake($1::int, $2::int, $6::int[])",
     b"wait": WAIT,
     b"stop": STOP,
-    b"lasts": "select set_config('synchronous_commit', $1, true), pg_logical_emit_message(true, 'wanzoche', '')",
+    b"lasts": LASTS,
+    b"line_lasts": LASTS + " from wanzoche.line where log = $2 and place = $3 and line = $4",
     b"append": "select * from wanzoche.append($1, $2, $3, $4, $5, $6, $7, $8, $9, $10)",
     b"turn": "select * from wanzoche.turn($1, $2, $3)",
-    b"copy": "select line from wanzoche.line where log = $1 and place >= $2 order by place limit $3",
-    b"own": "select finishes from wanzoche.line where log = $1 and finishes = any ($2) and by = $3",
+    b"copy": COPY,
+    b"segment": SEGMENT_AT,
+    b"own": OWN,
     b"dead": "select wanzoche.dead($1, $2, $3)",
-    b"bury": "select wanzoche.bury($1, $2, $3, $4, $5, $6, $7)",
+    b"bury": "select wanzoche.bury($1, $2, $3, $4, $5, $6, $7, $8)",
+    b"rotate": "select wanzoche.rotate($1, $2, $3, $4, $5, $6)",
 }
 
 
 class Gone(Exception):
     """Lines that were taken over aren't in the log any more: the server has lost its last second, or another took its place."""
+
+
+class Moved(Exception):
+    """The next line stands in a segment: nobody but `follow` reads it there."""
 
 
 class Wishes(NamedTuple):
@@ -92,12 +125,16 @@ class Place(NamedTuple):
 class Log:
     """What one opening has of it."""
 
-    def __init__(self, url: str, name: str, source: bytes, handle: native.Handle, *, sync: bool, grace: float) -> None:
+    def __init__(self, url: str, name: str, source: bytes, handle: native.Handle, *, room: int, sync: bool, grace: float) -> None:
         self.name = name
+        self.due = room + KEPT
+        """With so many lines in the log this process calls `rotate`."""
         self.replica = Replica(source, handle)
         self.session = Session(url)
         self.place = Place()
         self.worker = 0
+        self._room = room
+        self._moved = 0  # so many lines are in segments, as far as is known
         self._sync = sync
         self._grace = b"%f seconds" % grace
         self._log = b""
@@ -168,22 +205,54 @@ class Log:
         """Takes over what others have appended."""
         count = MOST
         while count >= MOST:
-            count = self._take(self._call(Call(b"lines", self._known()))[0][0])
+            try:
+                count = self._take(self._call(Call(b"lines", self._known()))[0][0])
+            except Moved:
+                self._read_segments()
+
+    def _read_segments(self) -> None:
+        """Takes over what isn't known yet of segments; meanwhile the server makes the next one ready. Raises `CorruptStore`."""
+        rows = self._call(self._segment_at(self.place.lines))[0]
+        while rows:
+            place, lines, text, mark = rows[0]
+            begin, end, known = int(place or 0), int(place or 0) + int(lines or 0), self.place.lines
+            if begin > known:
+                raise self.broken("there is no line", known)
+            news = _from(text or b"", known - begin), b"%d" % (end - 1), mark
+            takes = partial(self._take, news, "a segment has other lines than it says")
+            rows = self._call_beside(self._segment_at(end), takes)
+            self._know_moved(end)
+
+    def _segment_at(self, place: int) -> Call:
+        return Call(b"segment", (self._log, b"%d" % place))
+
+    def _know_moved(self, lines: int) -> None:
+        self._moved, self.due = lines, lines + self._room + KEPT
 
     def append(self, text: Optional[bytes], wishes: Wishes, *, before: Place, is_stepped: bool) -> Tuple[bool, Set[int]]:
         """Appends lines if their place is the next one, and finishes, and takes over what has come: whether the lines are in the log, and
         which of the finishes are others'. With `is_stepped` the replica has taken these lines already, in a turn, which ends."""
         over, wakes, waits, stops = wishes
-        if waits and self._listens and not (over or wakes or stops or is_stepped) and text is None:
-            self._wait(waits)
-            return False, set()
-        is_one = len(over) + (text is not None) == 1 and (text is None or b"\n" not in text)
-        if is_one and not (waits or is_stepped or stops and (over or wakes)):
+        is_one = len(over) + (text is not None) == 1 and (text is None or b"\n" not in text) and before.lines > 0
+        try:
+            if waits and self._listens and not (over or wakes or stops or is_stepped) and text is None:
+                self._wait(waits)
+                return False, set()
+            if not is_one or waits or is_stepped or stops and (over or wakes):
+                return self._append(text, wishes, before, is_stepped)
             line = b"%d finish %d: finished" % (self.worker, over[0]) if text is None else text
             is_put, is_there = self._put(line, wakes, stops, before)
             if text is not None or is_put:
                 return is_there and text is not None, set()
-            before = self.place  # somebody else may have finished it, with the same line
+        except Moved as error:
+            if is_stepped:
+                raise Gone(str(error)) from error  # of a turn that was cut off: all is read anew, since the replica is ahead
+            self.follow()
+        return self._append_rest(text, wishes, before)
+
+    def _append(self, text: Optional[bytes], wishes: Wishes, before: Place, is_stepped: bool) -> Tuple[bool, Set[int]]:
+        """The same in one call, whatever it is. Raises `Moved` if nothing was done since what follows `before` was moved."""
+        over, wakes, waits, stops = wishes
         listens = bool(waits) and not self._listens
         given = (self._log, b"%d" % self.worker, b"%d" % before.lines, before.stamp, text, array(over), array(wakes), array(waits))
         calls = [Call(b"append", given + (array(stops), b"t" if listens else b"f"))]
@@ -204,6 +273,24 @@ class Log:
                 self.follow()
         return is_in, {int(each) for each in (taken or b"{}")[1:-1].split(b",") if each}
 
+    def _append_rest(self, text: Optional[bytes], wishes: Wishes, before: Place) -> Tuple[bool, Set[int]]:
+        """The same when others were quicker, and all is taken over that they have appended: what isn't done yet is done behind it. What the
+        log doesn't know as live is over."""
+        is_in = text is not None and self.has(text, before.lines)
+        left = tuple(each for each in wishes.over if self.replica.has_live(self.worker, each))
+        ended = set(wishes.over).difference(left)
+        taken = ended - self.own_finishes(sorted(ended))
+        rest = wishes._replace(over=left, stops=wishes.stops if is_in or text is None else ())
+        if self._sync and (is_in or ended):
+            self._call(self._lasts())
+        try:
+            if any(rest):
+                taken |= self._append(None, rest, self.place, False)[1]
+        except Moved:
+            self.follow()
+            return self._append_rest(text, wishes, before)
+        return is_in, taken
+
     def _wait(self, operations: Sequence[int]) -> None:
         """Waits for operations from now on, and takes over what is new."""
         given: Row = (self._log, b"%d" % self.worker, array(operations))
@@ -218,7 +305,7 @@ class Log:
         if stops:
             calls.append(Call(b"stop", (self._log, given[1], array(stops), given[2], line)))
         if self._sync:
-            calls.append(self._lasts())
+            calls.append(Call(b"line_lasts", (self._commits, self._log, given[2], line)))
         if self._has_company:
             calls.append(Call(b"lines", self._known()))
         found = self._call(*calls)
@@ -237,7 +324,15 @@ class Log:
 
     def turn(self) -> None:
         """Takes over what is new. From now on nobody else appends, until `append` or `end_turn`."""
-        rows = self._call(Call(b"begin"), Call(b"turn", self._known()))
+        try:
+            rows = self._call(Call(b"begin"), Call(b"turn", self._known()))
+        except Gone:
+            self.end_turn()
+            raise
+        except Moved:
+            self.end_turn()
+            self.follow()
+            return self.turn()
         if self._take(rows[1][0]) >= MOST:
             self.follow()
 
@@ -245,20 +340,35 @@ class Log:
         """Ends a turn without a line."""
         self._call(Call(b"rollback"))
 
-    def lines(self, begin: int) -> List[bytes]:
-        """All lines from there on, as they stand."""
-        found: List[bytes] = []
-        count = MOST
-        while count >= MOST:
-            rows = self._call(Call(b"copy", (self._log, b"%d" % (begin + len(found)), b"%d" % MOST)))[0]
-            count = len(rows)
-            found += [row[0] or b"" for row in rows]
-        return found
+    def texts(self, begin: int, most: int = MOST) -> Iterator[bytes]:
+        """All lines from there on, as they stand, each with its line feed, in parts: a segment, or so many lines of the table. Raises
+        `CorruptStore`."""
+        text, end = self._part(begin, most, begin < self._moved)
+        while end > begin:
+            yield text
+            begin = end
+            text, end = self._part(begin, most, begin < self._moved)
+
+    def _part(self, begin: int, most: int, is_moved: bool) -> Tuple[bytes, int]:
+        """A part, and up to where it goes: of a segment, if it `is_moved` and is there, or else of the table."""
+        if is_moved:
+            rows = self._call(self._segment_at(begin))[0]
+            place, lines, text = (0, 0, b"") if not rows else (int(rows[0][0] or 0), int(rows[0][1] or 0), rows[0][2] or b"")
+            if place <= begin < place + lines:
+                return (_from(text, begin - place) or b"") + b"\n", place + lines
+        first, last, count, found = self._call(Call(b"copy", (self._log, b"%d" % begin, b"%d" % most)))[0][0]
+        if first is None or last is None or count is None or found is None:
+            return b"", begin
+        if int(first) == begin and int(count) == int(last) + 1 - begin:
+            return found, int(last) + 1
+        if is_moved:
+            raise self.broken("there is no line", begin)
+        return self._part(begin, most, True)
 
     def _known(self) -> Row:
         return self._log, b"%d" % self.place.lines, self.place.stamp
 
-    def _take(self, row: Row) -> int:
+    def _take(self, row: Row, if_others: str = "a line isn't one line") -> int:
         """Takes over lines, each exactly if it is owed: how many. Raises `CorruptStore`."""
         news, final, mark = row
         assert final is not None
@@ -266,13 +376,13 @@ class Log:
         if news is not None:
             self._take_over(news + b"\n")
         if self.replica.lines != int(final) + 1:
-            raise self.broken("a line isn't one line", self.replica.lines)
+            raise self.broken(if_others, self.replica.lines)
         self.place = Place(self.replica.lines, mark)
         self._has_company = self.replica.lines > before + 1
         return self.replica.lines - before
 
     def _take_over(self, text: bytes) -> None:
-        marked = 0 if text.startswith(b"+") else text.find(b"\n+") + 1
+        marked = text.find(b"\n+") + 1 if b"+" in text and not text.startswith(b"+") else 0
         refusal = self.replica.take_over(text)
         if refusal is None and (marked or text.startswith(b"+")):
             raise self.broken("a line has a mark", self.replica.lines - text.count(b"\n", marked))
@@ -288,9 +398,12 @@ class Log:
 
     def has(self, text: bytes, place: int) -> bool:
         """Whether these lines stand there."""
-        lines = text.split(b"\n")
-        rows = self._call(Call(b"copy", (self._log, b"%d" % place, b"%d" % len(lines))))[0]
-        return [row[0] for row in rows] == lines
+        found, wanted = b"", text + b"\n"
+        for part in self.texts(place, wanted.count(b"\n")):
+            found += part[: len(wanted)]
+            if len(found) >= len(wanted):
+                break
+        return found.startswith(wanted)
 
     def own_finishes(self, numbers: Sequence[int]) -> Set[int]:
         """Which of these activations this worker has finished itself, as far as the log says."""
@@ -310,9 +423,41 @@ class Log:
 
     def bury(self, whose: int, over: Sequence[int], wakes: Sequence[int], even_alive: bool) -> bool:
         """Finishes activations of another worker: False if it isn't dead. Follow the log then."""
-        given = (self._log, b"%d" % self.worker, b"%d" % whose, array(over), array(wakes), self._grace, b"t" if even_alive else b"f")
-        calls = [Call(b"bury", given)] + [self._lasts()] * self._sync
-        return self._call(*calls)[0][0][0] == b"t"
+        given: Row = (self._log, b"%d" % self.worker, b"%d" % whose, array(over), array(wakes), self._grace, b"t" if even_alive else b"f")
+        calls = [Call(b"bury", (*given, b"%d" % self.place.lines))] + [self._lasts()] * self._sync
+        try:
+            return self._call(*calls)[0][0][0] == b"t"
+        except Moved:
+            self.follow()
+        left = [each for each in over if self.replica.has_live(whose, each)]
+        return not left or self.bury(whose, left, wakes, even_alive)
+
+    # Moving lines
+
+    def rotate(self) -> None:
+        """Moves the lines of a segment, if nobody else has. If it can't be done now, it is tried again so many lines later."""
+        try:
+            self._move(self._room)
+        except CorruptStore:
+            raise
+        except StoreError:
+            self.due = self.place.lines + self._room
+
+    def rotate_all(self) -> None:
+        """Moves all lines that are known but the last. Raises `StoreError` if that can't be done now."""
+        while self._moved < self.place.lines - 1:
+            self._move(min(self._room, self.place.lines - 1 - self._moved))
+
+    def _move(self, lines: int) -> None:
+        """Moves so many lines to a segment, if they are the next to move; knows then what others have moved."""
+        given: Row = (*self._known(), b"%d" % self._moved, b"%d" % lines, self._grace)
+        ((found,),) = self._call(Call(b"rotate", given))[0]
+        if found is None:
+            raise StoreError("the log {}: somebody has been inserting lines for too long".format(self.name))
+        if int(found) < 0:
+            told = "the log {}: process {} is of a package that reads no segments, and may be alive"
+            raise StoreError(told.format(self.name, -int(found)))
+        self._know_moved(int(found))
 
     # Calling
 
@@ -325,31 +470,53 @@ class Log:
                     raise self._refused(error) from error
         raise AssertionError
 
+    def _call_beside(self, call: Call, meanwhile: Callable[[], Any]) -> List[Row]:
+        """The rows of a call that only reads, and something else until they are there."""
+        try:
+            return self.session.call_beside([call], time.monotonic() + ANSWER, meanwhile)[0]
+        except Complaint as error:
+            raise self._refused(error) from error
+
     def _refused(self, error: Complaint) -> Exception:
         """What a complaint of the server is for a caller."""
         if error.code == "WZ001":
             return Gone(error.told)
+        if error.code == "WZ003":
+            return Moved(error.told)
         if error.code == "WZ002":
             return self.broken("there is no line", int(error.detail))
         return StoreError("the log {}: {}".format(self.name, error.told))
 
 
 def make_schema(session: Session, until: float) -> None:
-    """Makes the schema where there is none. Raises `StoreError` for one of another number."""
+    """Makes the schema where there is none, and brings one of an earlier number to this. Raises `StoreError` for one of a later number."""
+    found = 0
     try:
-        rows = session.run(HAS_SCHEMA, until)
-        if rows[-1][0][0] != b"t":
+        found = _number_of_schema(session, until)
+        if found < SCHEMA:
             with open(os.path.join(os.path.dirname(os.path.abspath(__file__)), "schema.sql")) as file:
                 script = file.read()
-            session.run("begin; select pg_advisory_xact_lock({})".format(ALL_LOGS), until)
-            if session.run(HAS_SCHEMA, until)[-1][0][0] != b"t":
+            session.run("begin; set local client_min_messages = error; select pg_advisory_xact_lock({})".format(ALL_LOGS), until)
+            if _number_of_schema(session, until) < SCHEMA:
                 session.run(script, until)
             session.run("commit", until)
-        found = session.run("select number from wanzoche.schema", until)[-1][0][0]
+            found = _number_of_schema(session, until)
     except Complaint as error:
-        raise StoreError("the schema wanzoche can't be made or read: {}".format(error.told)) from error
-    if found != b"%d" % SCHEMA:
-        raise StoreError("the schema wanzoche is number {}, and this package has {}".format((found or b"?").decode(), SCHEMA))
+        told = "the schema wanzoche can't be made or read: {}"
+        if found:
+            told = "the schema wanzoche is number {}, and can't be brought to {}, so its owner has to run schema.sql: {{}}"
+            told = told.format(found, SCHEMA)
+        raise StoreError(told.format(error.told)) from error
+    if found != SCHEMA:
+        raise StoreError("the schema wanzoche is number {}, and this package has {}".format(found, SCHEMA))
+
+
+def _number_of_schema(session: Session, until: float) -> int:
+    """0 if there is none."""
+    if session.run(HAS_SCHEMA, until)[-1][0][0] != b"t":
+        return 0
+    rows = session.run("select number from wanzoche.schema", until)[-1]
+    return int(rows[0][0] or 0)
 
 
 def declaration_of(url: str, name: str, seconds: float) -> Optional[str]:
@@ -371,3 +538,9 @@ def declaration_of(url: str, name: str, seconds: float) -> Optional[str]:
 def _shown(text: bytes) -> str:
     """A line for a message."""
     return text[:200].decode("ascii", "backslashreplace")
+
+
+def _from(text: bytes, line: int) -> Optional[bytes]:
+    """The lines of a text from that one on; None if it hasn't so many."""
+    lines = text.split(b"\n", line) if line else [text]
+    return lines[line] if len(lines) > line else None

@@ -6,14 +6,15 @@ import importlib
 import os
 import select
 import time
-from typing import Any, List, NamedTuple, Optional, Sequence
+from typing import Any, Callable, List, NamedTuple, Optional, Sequence
 
 from ._errors import StoreError
+from ._libpq import Result, direct
 
 HEARTBEAT = (
     "set tcp_keepalives_idle = 5; set tcp_keepalives_interval = 2; set tcp_keepalives_count = 3; set tcp_user_timeout = 10000; "
     "set idle_in_transaction_session_timeout = 3000; set client_min_messages = error; set plan_cache_mode = force_generic_plan; "
-    "set jit = off"
+    "set jit = off; set default_transaction_isolation = 'read committed'"
 )
 """What the server is told of a session: it ends one whose machine is silent for some ten seconds, and one that keeps others waiting."""
 FOR_LIBPQ = {
@@ -77,6 +78,7 @@ class Session:
             raise StoreError("this isn't a URL of PostgreSQL: {}".format(str(error).strip())) from error
         self._info = made.encode()
         self._connection: Any = None
+        self._calls: Any = None  # the same connection, by quicker calls where there are any
         self._poller = select.poll()
         status = self._pq.ExecStatus
         self._synced, self._failed = int(status.PIPELINE_SYNC), int(status.FATAL_ERROR)
@@ -102,6 +104,7 @@ class Session:
         self._poller.register(connection.socket, select.POLLIN)
         if connection.server_version < 140000:
             raise StoreError("the server is PostgreSQL {}: 14 or later is needed".format(connection.server_version // 10000))
+        self._calls = direct(pq, connection)
 
     def _poll(self, events: int, until: float) -> None:
         poll = select.poll()
@@ -122,7 +125,7 @@ class Session:
 
     def close(self) -> None:
         """Ends the session."""
-        connection, self._connection, self._is_in_pipeline = self._connection, None, False
+        connection, self._calls, self._connection, self._is_in_pipeline = self._connection, None, None, False
         self.notices.clear()
         if connection is not None:
             connection.finish()
@@ -152,9 +155,24 @@ class Session:
 
     def call(self, calls: Sequence[Call], until: float) -> List[List[Row]]:
         """The rows of each call, in one round trip. Raises Cut, and Complaint when the answers of all are read."""
-        connection, syncs = self._connection, 0
-        if connection is None:
-            raise Cut("the connection was closed")
+        return self._answers(self._send(calls), until)
+
+    def call_beside(self, calls: Sequence[Call], until: float, meanwhile: Callable[[], Any]) -> List[List[Row]]:
+        """The same, and something else between question and answer. If that raises, the session is over."""
+        syncs = self._send(calls)
+        try:
+            self._calls.flush()
+            meanwhile()
+        except BaseException:
+            self.close()
+            raise
+        return self._answers(syncs, until)
+
+    def _send(self, calls: Sequence[Call]) -> int:
+        """Sends calls: how many synchronizations will be answered."""
+        connection, syncs = self._calls, 0
+        if connection is None or self._connection.pgconn_ptr is None:
+            raise self._cut("the connection was closed")
         try:
             for each in calls:
                 connection.send_query_prepared(each.name, each.given)
@@ -163,7 +181,7 @@ class Session:
                     syncs += 1
         except Exception as error:
             raise self._cut(str(error)) from error
-        return self._answers(syncs, until)
+        return syncs
 
     def _answers(self, syncs: int, until: float) -> List[List[Row]]:
         """What comes until so many synchronizations, or until the end of a script."""
@@ -177,7 +195,7 @@ class Session:
     def _read(self, syncs: int, until: float) -> List[List[Row]]:
         found: List[List[Row]] = []
         complaint: Optional[Complaint] = None
-        self._connection.flush()
+        self._calls.flush()
         while True:
             result = self._next(until)
             if result is None:
@@ -200,7 +218,7 @@ class Session:
 
     def _next(self, until: float) -> Any:
         """The next result, when it is there."""
-        connection = self._connection
+        connection = self._calls
         while connection.is_busy():
             if not self._poller.poll(max(until - time.monotonic(), 0) * 1000):
                 raise self._cut("it doesn't answer")
@@ -218,13 +236,15 @@ class Session:
 
     def look(self) -> None:
         """Reads what has come without a call: notifications, or the session's end. Raises Cut."""
-        connection = self._connection
+        connection = self._calls
         if connection is None:
             return
+        if self._connection.pgconn_ptr is None:
+            raise self._cut("the connection was closed")
         try:
             connection.consume_input()
-            if connection.status == self._pq.ConnStatus.BAD:
-                raise self._cut(_message(connection))
+            if self._connection.status == self._pq.ConnStatus.BAD:
+                raise self._cut(_message(self._connection))
             while not connection.is_busy():
                 result = connection.get_result()
                 if result is None:
@@ -238,10 +258,10 @@ class Session:
         self._take_notices()
 
     def _take_notices(self) -> None:
-        notice = self._connection.notifies()
+        notice = self._calls.notifies()
         while notice is not None:
             self.notices.append(bytes(notice.extra))
-            notice = self._connection.notifies()
+            notice = self._calls.notifies()
 
 
 def _message(connection: Any) -> str:
@@ -249,5 +269,7 @@ def _message(connection: Any) -> str:
 
 
 def _rows(result: Any) -> List[Row]:
+    if isinstance(result, Result):
+        return result.rows()
     columns = range(result.nfields)
     return [[result.get_value(row, column) for column in columns] for row in range(result.ntuples)]

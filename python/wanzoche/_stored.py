@@ -391,6 +391,8 @@ class Follower(threading.Thread):
 class StoredPaths(Paths):
     """Paths over a store: what `Paths(text, store=..)` makes. See `Paths`."""
 
+    _usual_room = native.MOST_LINES
+
     def __init__(
         self,
         text: Union[str, bytes],
@@ -398,9 +400,10 @@ class StoredPaths(Paths):
         store: Any,
         sync: bool = True,
         lost: str = "finish",
-        room: int = native.MOST_LINES,
+        room: Optional[int] = None,
         **other: Any,
     ) -> None:
+        room = self._usual_room if room is None else room
         if other.pop("log", None) is not None or not other.pop("journal", True) or other.pop("resume", None) is not None:
             raise ValueError("a store is the journal itself: it takes no `log`, no `journal` and no `resume`")
         if lost not in ("finish", "keep"):
@@ -488,7 +491,8 @@ class StoredPaths(Paths):
 
     def rotate(self) -> None:
         """Moves the journal's file away, to `FILE.1`, `FILE.2` and so on, and begins another. The paths do so by themselves when it has no
-        room left. All of them are read when the store is opened."""
+        room left. All of them are read when the store is opened. In PostgreSQL it moves all lines but the last into segments: see
+        docs/machines.md. Raises `StoreError`."""
         try:
             self._store.rotate()
         except Closed:
