@@ -1,6 +1,7 @@
 /* Appends the lines of a file to another one by one, each with a write, and nothing else: what a follow whose journal stands in a file is
  * compared with. Prints how many nanoseconds a line took on the average. The words are the file of the lines, the file to make, and `each`
- * if each line is synced by fdatasync, or `never`. */
+ * if each line is synced by fdatasync, or `never`. With a fourth word, `asked`, each line waits for one on standard input, and is answered
+ * by one on standard output. */
 #define _POSIX_C_SOURCE 200809L
 #include <fcntl.h>
 #include <stdio.h>
@@ -30,15 +31,35 @@ static char *read_file(const char *name, size_t *length)
     return text;
 }
 
-/* Writes each line, and syncs it if that is asked for. Returns how many there were, or -1 if one wasn't written. */
-static long append_lines(int file, const char *text, size_t length, int syncs)
+/* What is done for each line beside its write. */
+struct way {
+    int syncs;
+    int is_asked;
+};
+
+/* Waits for a line on standard input. Returns whether there was one. */
+static int asked(void)
+{
+    char line[256];
+    return read(0, line, sizeof line) > 0;
+}
+
+/* Writes a line, and syncs and answers it if that is the way. Returns whether all went well. */
+static int append(int file, const char *line, size_t length, struct way way)
+{
+    if (write(file, line, length) != (ssize_t)length) return 0;
+    if (way.syncs && fdatasync(file) != 0) return 0;
+    return !way.is_asked || write(1, "written\n", 8) == 8;
+}
+
+/* Writes each line, as long as one is asked for if that is the way. Returns how many there were, or -1 if one wasn't written. */
+static long append_lines(int file, const char *text, size_t length, struct way way)
 {
     long count = 0;
-    for (size_t at = 0; at < length; count++) {
+    for (size_t at = 0; at < length && (!way.is_asked || asked()); count++) {
         const char *end = memchr(text + at, '\n', length - at);
         size_t line = (end ? (size_t)(end - text) + 1 : length) - at;
-        if (write(file, text + at, line) != (ssize_t)line) return -1;
-        if (syncs && fdatasync(file) != 0) return -1;
+        if (!append(file, text + at, line, way)) return -1;
         at += line;
     }
     return count;
@@ -47,10 +68,11 @@ static long append_lines(int file, const char *text, size_t length, int syncs)
 int main(int count, char **words)
 {
     size_t length;
-    char *text = count == 4 ? read_file(words[1], &length) : NULL;
+    char *text = count == 4 || count == 5 ? read_file(words[1], &length) : NULL;
     int file = text ? open(words[2], O_WRONLY | O_CREAT | O_EXCL | O_APPEND, 0666) : -1;
+    struct way way = {.syncs = text && strcmp(words[3], "each") == 0, .is_asked = count == 5};
     double begun = now();
-    long lines = file < 0 ? -1 : append_lines(file, text, length, strcmp(words[3], "each") == 0);
+    long lines = file < 0 ? -1 : append_lines(file, text, length, way);
     double ended = now();
     if (lines <= 0) {
         perror("bare_write");

@@ -2,9 +2,10 @@
 """What paths over a log in PostgreSQL take: enter and leave beside two bare transactions, waking beside a bare NOTIFY, and many processes
 beside PostgreSQL's own advisory locks.
 
-    WANZOCHE_CORE=out/python/_core.abi3.so WANZOCHE_LIBRARY=out/lib/libwanzoche.so PYTHONPATH=python python3 bench/postgresql.py URL [ROUNDS]
+    WANZOCHE_CORE=out/python/_core.abi3.so WANZOCHE_LIBRARY=out/lib/libwanzoche.so PYTHONPATH=python \\
+        python3 bench/postgresql.py URL [ROUNDS [opening]]
 
-All is measured in turn, at a server that has what it came with.
+All is measured in turn, at a server that has what it came with. With `opening` only that is, which is best done in a database without logs.
 """
 
 import os
@@ -15,7 +16,7 @@ import time
 
 import psycopg
 
-from wanzoche import Paths
+from wanzoche import Paths, audit
 
 BOOK = "resource book cell operation read, write path { read } , write end end"
 SLOT = "resource slot cell operation deposit, remove path deposit ; remove end end"
@@ -204,8 +205,8 @@ def notified(url, rounds, with_insert):
     return took
 
 
-def opening(url, lines):
-    """Seconds that an opening takes of a log with so many lines."""
+def filled(url, lines):
+    """The name of a log with so many lines, all in the table."""
     log = name()
     with Paths(BOOK, store=url, name=log) as paths:
         with paths("read"):
@@ -215,12 +216,74 @@ def opening(url, lines):
         "|| (x / 2 + 1) else 'finish ' || (x / 2 + 1) || ': finished' end, 9 from wanzoche.log, generate_series(0, %s) x where name = %s"
     )
     connected(url).execute(told, (lines - 3, log))
+    connected(url).execute("vacuum analyze wanzoche.line")
+    return log
+
+
+def opened(url, log):
+    """Seconds that an opening takes."""
     began = time.perf_counter()
     with Paths(BOOK, store=url, name=log):
         return time.perf_counter() - began
 
 
-def main(url, rounds):
+def sizes(url):
+    """Megabytes of the two tables, with their indexes."""
+    told = "select pg_total_relation_size('wanzoche.line') / 1e6, pg_total_relation_size('wanzoche.segment') / 1e6"
+    return "{:.1f} and {:.1f} MB".format(*connected(url).execute(told).fetchone())
+
+
+def moved(url, log):
+    """Moves its lines: seconds of each segment."""
+    took, began = [], time.perf_counter()
+    with Paths(BOOK, store=url, name=log) as paths:
+        log = paths._served._log
+        move = log._move
+
+        def moves(lines):
+            began = time.perf_counter()
+            move(lines)
+            took.append(time.perf_counter() - began)
+
+        log._move = moves
+        paths.rotate()
+    print("all moved in {:.2f} s; a segment in {:.3f} s by the median, {:.3f} at most".format(
+        time.perf_counter() - began, statistics.median(took), max(took)))  # fmt: skip
+    for table in ("line", "segment"):
+        connected(url).execute("vacuum full wanzoche." + table)
+
+
+def opening(url, lines, rounds):
+    """Openings of a log in the table and of one in segments, and an audit of the same lines, in turn."""
+    table, segments = filled(url, lines), ""
+    before = sizes(url)
+    moved(url, table)
+    print("{:,} lines: {} of table and segments; {} when they were moved".format(lines, before, sizes(url)), flush=True)
+    table, segments = filled(url, lines), table
+    with Paths(BOOK, store=url, name=segments) as paths:
+        text = "journal 2 room 1048576\n" + paths.journal()
+    found = {"in the table": [], "in segments": [], "audited": []}
+    for _ in range(rounds):
+        found["in the table"].append(opened(url, table))
+        found["in segments"].append(opened(url, segments))
+        began = time.perf_counter()
+        assert audit(BOOK, text)
+        found["audited"].append(time.perf_counter() - began)
+    for what, took in found.items():
+        print("{:,} lines {}: {:.3f} s the least, {:.3f} the median".format(lines, what, min(took), statistics.median(took)), flush=True)
+    for log in (table, segments):
+        connected(url).execute("select wanzoche.remove(%s)", (log,))
+
+
+def main(url, rounds, only):
+    if only != "opening":
+        calls(url, rounds)
+    for lines in (100000, 1000000):
+        opening(url, lines, rounds)
+
+
+def calls(url, rounds):
+    """All but the openings."""
     for sync in (True, False):
         alone(url, 10 * rounds, sync, 5)
     for _ in range(2):
@@ -236,9 +299,6 @@ def main(url, rounds):
         for processes in (2, 8, 32):
             found = statistics.median(many(url, processes, 2, SLOT, sync) for _ in range(3))
             print("{} processes at a slot, {}: {:.0f} entries a second".format(processes, "sync" if sync else "no sync", found), flush=True)
-    for lines in (10000, 100000, 1000000):
-        print("opening {} lines: {:.2f} s".format(lines, opening(url, lines)), flush=True)
-
 
 if __name__ == "__main__":
-    main(sys.argv[1], int(sys.argv[2]) if len(sys.argv) > 2 else 7)
+    main(sys.argv[1], int(sys.argv[2]) if len(sys.argv) > 2 else 7, sys.argv[3] if len(sys.argv) > 3 else "")
