@@ -158,11 +158,12 @@ async function shoot(name) {
 }
 
 // The numbers that the browser has for keys.
-const KEYS = { Enter: 13, End: 35, Home: 36, ArrowLeft: 37, ArrowUp: 38, ArrowRight: 39, ArrowDown: 40 };
+const KEYS = { Tab: 9, Enter: 13, Escape: 27, " ": 32, PageUp: 33, PageDown: 34, End: 35, Home: 36, ArrowLeft: 37, ArrowUp: 38, ArrowRight: 39, ArrowDown: 40 };
 
 async function press(key) {
-  const its = { key, code: key, windowsVirtualKeyCode: KEYS[key] };
-  await send("Input.dispatchKeyEvent", { type: "keyDown", ...its, text: key === "Enter" ? "\r" : undefined });
+  const text = key === "Enter" ? "\r" : key.length === 1 ? key : undefined;
+  const its = { key, code: key.trim() || "Space", windowsVirtualKeyCode: KEYS[key] ?? key.toUpperCase().charCodeAt(0) };
+  await send("Input.dispatchKeyEvent", { type: "keyDown", ...its, text });
   await send("Input.dispatchKeyEvent", { type: "keyUp", ...its });
 }
 
@@ -354,11 +355,111 @@ async function testManual() {
   await shows("Ctrl+Z takes an attempt back", lastReply, "finished");
 }
 
+// What is seen of the list of examples: nothing while it is closed, else the option that Enter picks, and those that are picked.
+const listSeen = () => value(`(pick => {
+  const list = document.getElementById("example-list");
+  if (pick.getAttribute("aria-expanded") !== "true") return list.offsetHeight === 0 && !pick.hasAttribute("aria-activedescendant") ? "closed" : "half closed";
+  const { top, bottom } = document.getElementById(pick.getAttribute("aria-activedescendant")).getBoundingClientRect();
+  const box = list.getBoundingClientRect();
+  if (box.height === 0 || top < box.top || bottom > box.bottom || top < 0 || bottom > innerHeight) return "out of view";
+  return [[...list.querySelectorAll(".active")], [...list.querySelectorAll("[aria-selected=true]")]].map(its => its.map(it => it.textContent).join());
+})(document.getElementById("example"))`);
+const focused = () => value("document.activeElement.id");
+const focusOn = id => value(`document.getElementById("${id}").focus()`);
+
+// The list of examples by the keyboard.
+async function testList() {
+  await openPage();
+  const names = await listedCases();
+  const keyed = async (key, what, wanted) => { await press(key); await shows(`${what}: ${key}`, listSeen, wanted); };
+  same("what makes insertions slower in Chromium isn't there", await value(`[document.querySelectorAll("select").length,
+    ...new Set([...document.querySelectorAll("textarea")].map(it => getComputedStyle(it).overflowAnchor))]`), [0, "none"]);
+  await focusOn("example");
+  for (const key of ["Enter", " ", "ArrowDown", "ArrowUp"]) {
+    await keyed(key, "a key opens the list at what is picked", ["slot", "slot"]);
+    await keyed("Escape", "it closes", "closed");
+    same("and the focus is at the button", await focused(), "example");
+  }
+  await keyed("End", "it opens at its end", [names.at(-1), "slot"]);
+  await keyed("ArrowDown", "and there is its end", [names.at(-1), "slot"]);
+  await keyed("ArrowUp", "one up", [names.at(-2), "slot"]);
+  await keyed("PageUp", "ten up", [names.at(-12), "slot"]);
+  await keyed("PageDown", "ten down", [names.at(-2), "slot"]);
+  await keyed("Home", "the first", [names[0], "slot"]);
+  await keyed("ArrowUp", "and none above it", [names[0], "slot"]);
+  await keyed("ArrowDown", "one down", [names[1], "slot"]);
+  await keyed("Tab", "Tab leaves it", "closed");
+  same("for what is next", await value(`document.activeElement.id !== "example" && document.activeElement !== document.body`), true);
+  await shows("and nothing was picked", () => Promise.all([field("example"), chosenCase(), field("attempts")]), ["slot", "slot", read("slot/attempts")]);
+  await focusOn("example");
+  await keyed("ArrowDown", "it opens", ["slot", "slot"]);
+  await value(`addEventListener("keydown", event => { window.isTaken = event.defaultPrevented; }, { once: true })`);
+  await press("ArrowDown");
+  same("such a key doesn't scroll the page", await value("isTaken"), true);
+  await keyed("Enter", "Enter picks", "closed");
+  await shows("the option", async () => [await chosenCase(), await focused(), await value("location.hash")], [names[1], "example", "#example=" + names[1].replaceAll(" ", "_")]);
+  await press("Home");
+  await keyed(" ", "so does the space bar", "closed");
+  await shows("another one", async () => [await chosenCase(), await focused()], [names[0], "example"]);
+  await testLetters(names);
+}
+
+// The list goes to what is typed.
+async function testLetters(names) {
+  const pause = () => value("word.time = -Infinity");
+  const beginning = letters => names.filter(it => it.startsWith(letters));
+  const [first, second, third] = beginning("r");
+  await pause();
+  await press("r");
+  await shows("a letter opens the list at what begins with it", listSeen, [first, "slot"]);
+  await press("r");
+  await shows("the same again at the next", listSeen, [second, "slot"]);
+  await pause();
+  await press("r");
+  await shows("and so it does later", listSeen, [third, "slot"]);
+  await pause();
+  await value(`for (const key of "READER") document.activeElement.dispatchEvent(new KeyboardEvent("keydown", { key, bubbles: true, cancelable: true }))`);
+  await shows("several letters at the word", listSeen, [beginning("reader")[0], "slot"]);
+  await pause();
+  await press("q");
+  await press("%");
+  await shows("what nothing begins with changes nothing", listSeen, [beginning("reader")[0], "slot"]);
+  await press("Escape");
+  await pause();
+}
+
+// The list of examples by the mouse, and what screen readers have of it.
+async function testListClicked() {
+  await openPage();
+  await shows("the button has a name and a value", () => spokenWith("#example", ["expanded", "hasPopup"]), ["combobox", "All examples", "slot", false, "listbox"]);
+  await click("#example");
+  await shows("a click opens the list", listSeen, ["slot", "slot"]);
+  await shows("which is said", () => spokenWith("#example", ["expanded", "activedescendant"]), ["combobox", "All examples", "slot", true, await on("#example-list .active", "it.id")]);
+  await shows("the list has a name", () => spokenAs("#example-list"), ["listbox", "All examples"]);
+  await shows("and its options", () => spokenWith("#example-list .active", ["selected"]), ["option", "slot", null, true]);
+  await click("#example");
+  await shows("another click closes it", listSeen, "closed");
+  await click("#example");
+  await click("h1");
+  await shows("so does a click elsewhere", listSeen, "closed");
+  await click("#example");
+  await click(`#example-list [data-value="pool"]`);
+  await shows("a click picks", async () => [await listSeen(), await chosenCase(), await field("attempts"), await focused()], ["closed", "pool", read("pool/attempts"), "example"]);
+  await caretInto(4);
+  await shows("another moment is shown", momentSaid, "after line 4 of 12");
+  await click("#example");
+  await click(`#example-list [data-value="pool"]`);
+  await shows("what is picked already stays as it is", async () => [await listSeen(), await momentSaid()], ["closed", "after line 4 of 12"]);
+  await click(`.all label`);
+  await shows("a click at its name opens it", listSeen, ["pool", "pool"]);
+  await press("Escape");
+}
+
 // Takes back what was written last, and gives the text that is left.
 const undone = id => value(`(it => { it.focus(); document.execCommand("undo"); return it.value; })(document.getElementById("${id}"))`);
 
-const listedCases = () => value(`[...document.getElementById("example").options].filter(it => !it.hidden).map(it => it.textContent)`);
-const chosenCase = () => value(`document.getElementById("example").selectedOptions[0].textContent`);
+const listedCases = () => value(`[...document.querySelectorAll("#example-list [role=option]")].map(it => it.textContent)`);
+const chosenCase = () => text("example");
 
 async function testDrafts() {
   await openPage();
@@ -392,6 +493,25 @@ async function testDrafts() {
     document.querySelector("#live button").click(); return Math.abs(top() - before); })()`);
   same("the buttons stay where one is pressed", moved < 2, true);
   await size(1280, 1100);
+  await openPage();
+}
+
+// A line goes in byte for byte wherever the caret is, and is taken back in one step.
+async function testLines() {
+  await openPage();
+  same("a line is put in as if it were typed", await value(`(area => {
+    const texts = ["", "\\n", "\\n\\n", "1 start remove", "1 start remove\\n", " a \\n\\t b\\n", "<b>&amp;\\u00a0\\n\\n"];
+    const places = texts.flatMap(text => Array.from({ length: text.length + 1 }, (_, at) => [text, at]));
+    return places.flatMap(([text, at]) => ["1 start deposit\\n", "\\n1 use 0 put 42", "1 <b>&amp;  x\\n"].flatMap(line => {
+      area.value = text;
+      write(area, at, at, line);
+      const written = area.value;
+      area.focus();
+      document.execCommand("undo");
+      const isRight = written === text.slice(0, at) + line + text.slice(at) && area.value === text;
+      return isRight ? [] : [[text, at, line, written, area.value]];
+    }));
+  })(document.getElementById("attempts"))`), []);
   await openPage();
 }
 
@@ -569,6 +689,16 @@ const keystroke = (id, what) => value(`(began => {
   return performance.now() - began;
 })(performance.now())`);
 
+// The time in which a line goes in as HTML before the last line feed of a text area, as a click writes it, with the layout.
+const insertion = (id, line) => value(`(began => {
+  const area = document.getElementById("${id}");
+  area.focus();
+  area.setSelectionRange(area.value.length - 1, area.value.length - 1);
+  document.execCommand("insertHTML", false, ${JSON.stringify(line)});
+  document.body.getBoundingClientRect();
+  return performance.now() - began;
+})(performance.now())`);
+
 // Times keystrokes at the end of a text area, of three kinds.
 async function keystrokes(id) {
   const times = { "a letter": [], "an attempt in an empty line": [], "a line feed": [] };
@@ -582,18 +712,19 @@ async function keystrokes(id) {
 }
 
 // Prints what keystrokes and clicks in the page take, and what they take in a text area alone, where nothing listens: of a click that is
-// its attempt with the line feed.
+// its attempt with the line feed, as it goes in, and as a text.
 async function measureKeystrokes(inPage, clicks) {
   await visit("about:blank");
   await value(`document.body.innerHTML = '<textarea id="alone" wrap="off" spellcheck="false" style="width: 18rem; height: 19rem"></textarea>'`);
   await value(`(it => { it.value = ${MANY}; it.setSelectionRange(it.value.length, it.value.length); it.scrollTop = it.scrollHeight; })(document.getElementById("alone"))`);
   const alone = await keystrokes("alone");
   await keystroke("alone", "\n");
-  const written = [];
+  const [written, asHtml] = [[], []];
   for (let i = 0; i < 20; i++) written.push(await keystroke("alone", "1 start deposit\n"));
+  for (let i = 0; i < 20; i++) asHtml.push(await insertion("alone", "\n1 start deposit"));
   console.log("in a text of 10,000 attempts");
   for (const kind in alone) console.log(`${kind}: ${inShort(inPage[kind])}; in a text area alone ${inShort(alone[kind])}`);
-  console.log(`a click: ${inShort(clicks)}; in a text area alone ${inShort(written)}`);
+  console.log(`a click: ${inShort(clicks)}; in a text area alone ${inShort(asHtml)}, and as text ${inShort(written)}`);
 }
 
 // The time of a click on a button, with all that follows from it at once, and the layout.
@@ -706,8 +837,10 @@ async function testWorkers() {
   await choose("philosophers");
   await shows("another example has a worker of its own", () => on("#workers input:checked", "it.value"), "0");
   await write("attempts", Array.from({ length: 30 }, (_, i) => `${i} start eat0\n`).join(""));
-  await shows("many workers are a list", () => value(`["input", "option"].map(it => document.querySelectorAll("#workers " + it).length)`), [0, 31]);
-  await on("#workers select", `(it.value = "17", it.dispatchEvent(new Event("change", { bubbles: true })))`);
+  await shows("many workers are a list", () => value(`["input", "[role=option]"].map(it => document.querySelectorAll("#workers " + it).length)`), [0, 31]);
+  await click("#workers button");
+  await click("#worker-list-17");
+  await shows("an option is picked", () => on("#workers button", "[it.value, it.textContent, it === document.activeElement]"), ["17", "17", true]);
   await click(`#starts [data-key="start eat2"]`);
   await shows("of which one is chosen", async () => (await field("attempts")).trim().split("\n").at(-1), "17 start eat2");
 }
@@ -949,6 +1082,16 @@ async function spokenAs(selector) {
   return [nodes[0].role.value, nodes[0].name.value];
 }
 
+// The role, the name and the value of an element, and these of its properties.
+async function spokenWith(selector, properties) {
+  const { root } = await send("DOM.getDocument");
+  const { nodeId } = await send("DOM.querySelector", { nodeId: root.nodeId, selector });
+  const { nodes: [node] } = await send("Accessibility.getPartialAXTree", { nodeId, fetchRelatives: false });
+  const of = name => node.properties.find(it => it.name === name)?.value;
+  const said = name => of(name)?.relatedNodes?.[0].idref ?? of(name)?.value;
+  return [node.role.value, node.name.value, node.value?.value ?? null, ...properties.map(said)];
+}
+
 async function testSpoken() {
   await choose("slot");
   await shows("a button's name has its activation", () => spokenAs(`#live [data-key="finish 1"]`), ["button", "finish activation 1, remove"]);
@@ -1003,6 +1146,9 @@ async function testWithout() {
   same("and shows all", (await shown()).length, 3);
 }
 
+// Whether an element is what is seen in its middle.
+const isOnTop = selector => on(selector, `(({ x, y, width, height }) => it.contains(document.elementFromPoint(x + width / 2, y + height / 2)))(it.getBoundingClientRect())`);
+
 // What pictures are of: three widths, dark, and 200 %, where a window has half as many pixels of the page.
 const LOOKS = [
   { name: "wide", width: 1500, height: 900, example: "philosophers" },
@@ -1020,6 +1166,14 @@ async function testSizes() {
     same(`${name}: nothing is wider than the window`, await value("document.documentElement.scrollWidth <= innerWidth"), true);
     same(`${name}: no reply is cut off`, await on("#attempts-sheet .replies", "it.scrollWidth <= it.clientWidth"), true);
     same(`${name}: no button is cut off`, await value(`[...document.querySelectorAll("button")].filter(it => it.scrollWidth > it.clientWidth + 1).map(it => it.textContent)`), []);
+    const before = await value("document.documentElement.scrollHeight");
+    await focusOn("example");
+    await press("End");
+    same(`${name}: a list that opens moves nothing`, await value("document.documentElement.scrollHeight"), before);
+    await shows(`${name}: the list of examples is in view`, async () => typeof await listSeen(), "object");
+    await shoot(name + "_list");
+    same(`${name}: it isn't wider than the window`, await value(`document.documentElement.scrollWidth <= innerWidth && document.getElementById("example-list").getBoundingClientRect().left >= 0`), true);
+    same(`${name}: and covers what is below it`, await isOnTop("#example-list .active"), true);
   }
   await size(1280, 1100);
 }
@@ -1035,6 +1189,13 @@ async function testForced() {
   same("a link has the colour of links, which stands out", await value(`((one, other) => getComputedStyle(one).color === getComputedStyle(other).color)(
     document.getElementById("project"), document.querySelector("#next .no"))`), true);
   same("a live bar has an edge", await on("#picture .bar.live", "getComputedStyle(it).stroke !== getComputedStyle(it).fill"), true);
+  await focusOn("example");
+  await press("ArrowDown");
+  await shoot("forced_list");
+  const colours = ["color", "backgroundColor"].map(it => `getComputedStyle(it).${it}`);
+  const system = await value(`(it => { it.style = "color: HighlightText; background: Highlight; forced-color-adjust: none"; document.body.append(it); return [${colours}]; })(document.createElement("p"))`);
+  await shows("the option that Enter picks has the system's colours for that", () => on("#example-list .active", `[${colours}]`), system);
+  await press("Escape");
   await choose("till");
   await shows("a wrong line has another outline", () => outline("#journal-sheet .fault"), "dashed");
   await choose("refused");
@@ -1076,7 +1237,7 @@ try {
   await size(1280, 1100);
   await openPage();
   console.log((await text("about")).split(". ")[0]);
-  for (const test of [testExamples, testTyping, testHalfTyped, testManual, testClicking, testDrafts, testSlips, testAudit, testSchedules, testManySchedules, testScriptsElsewhere, testAddress, testPicture,
+  for (const test of [testExamples, testTyping, testHalfTyped, testManual, testClicking, testList, testListClicked, testDrafts, testLines, testSlips, testAudit, testSchedules, testManySchedules, testScriptsElsewhere, testAddress, testPicture,
     testNumbers, testScrolling, testWorkers, testFirstScreen, testMoment, testTables, testWhy, testFiles, testContrast, testSpoken, testWithout, testSizes, testForced, testMany]) await test();
   same("requests", requests.filter(it => !it.startsWith("file:") && !it.startsWith("about:")), []);
   same("complaints", complaints, []);

@@ -41,15 +41,13 @@ let listed = "";
 // Shows in the list of cases which one this is.
 function showCase() {
   const known = knownAs(caseNow());
-  const { label } = labelOfOwn();
-  const option = (value, words, more = "") => `<option value="${value}"${more}>${escaped(words)}</option>`;
-  const list = [
-    option("", label, " hidden"),
-    ...drafts.map((it, i) => option(i, it.label)),
-    ...examples.map(it => option(it.name, nameOf(it))),
-  ].join("");
-  if (list !== listed) $("example").innerHTML = listed = list;
+  const list = pickItems("example-list", [
+    ...drafts.map((it, i) => ({ value: i, label: it.label })),
+    ...examples.map(it => ({ value: it.name, label: nameOf(it) })),
+  ]);
+  if (list !== listed) $("example-list").innerHTML = listed = list;
   $("example").value = known?.name ?? (known ? drafts.indexOf(known) : "");
+  $("example").textContent = known?.name ? nameOf(known) : (known ?? labelOfOwn()).label;
   for (const it of $("problems").children) it.setAttribute("aria-pressed", it.dataset.example === known?.name);
   const own = source?.name ? `The example ${nameOf(source)}, changed.` : "A case of your own.";
   $("shows").textContent = known?.shows ?? `${own} It stays in this list when you choose another.`;

@@ -16,8 +16,8 @@ import sys
 HERE = os.path.dirname(os.path.realpath(__file__))
 TOP = os.path.dirname(HERE)
 PAGE = os.path.join(HERE, "wanzoche.html")
-CODE = ["calls.js", "texts.js", "lanes.js", "tables.js", "sheet.js", "state.js", "steps.js", "picture.js",
-        "schedules.js", "cases.js", "page.js"]
+CODE = ["calls.js", "texts.js", "lanes.js", "tables.js", "sheet.js", "pick.js", "state.js", "steps.js",
+        "picture.js", "schedules.js", "cases.js", "page.js"]
 STYLE = "page.css"
 MODULE = re.compile(r'<script id="module" type="text/plain" data-sources="(\w+)">([^<]*)</script>')
 

@@ -102,6 +102,7 @@ function showWhole() {
 
 function listen() {
   showCase();
+  listenToPicks();
   $("example").addEventListener("change", ({ target: { value } }) => open(examples.find(it => it.name === value) ?? drafts[value]));
   for (const id of ["declaration", "attempts"]) {
     $(id).addEventListener("input", () => isWriting || typed());

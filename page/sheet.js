@@ -16,6 +16,18 @@ let isWriting = false;
 
 const isLong = text => new Lines(text).length > MOST_TYPED;
 
+// A line of words, which is itself in HTML.
+const PLAIN_LINE = /^\n?\w+(?: \w+)*\n?$/;
+
+// Types a text at the caret, or in the place of what is selected. At the caret a line goes in as HTML where a text area takes that, as in
+// Chromium, which then lays its text out once; else it does so for the letters and for the line feed. Replaced so, a text would need
+// two steps to be taken back.
+function typeIn(text, isAtCaret) {
+  if (text === "") return document.execCommand("delete");
+  if (isAtCaret && PLAIN_LINE.test(text) && document.execCommand("insertHTML", false, text)) return true;
+  return document.execCommand("insertText", false, text);
+}
+
 // Puts a text in the place of [from, to) of a text area, as if it were typed, so that it can be undone, unless either is long. The page
 // stays where it is, and the focus too. No `input` is heard of it.
 function write(area, from, to, text) {
@@ -25,7 +37,7 @@ function write(area, from, to, text) {
   isWriting = true;
   area.focus({ preventScroll: true });
   area.setSelectionRange(from, to);
-  const isTyped = document.activeElement === area && document.execCommand(text === "" ? "delete" : "insertText", false, text);
+  const isTyped = document.activeElement === area && typeIn(text, from === to);
   if (!isTyped) area.setRangeText(text, from, to, "end");
   isWriting = false;
   if (focused === document.body) area.blur();

@@ -24,7 +24,7 @@ function refill(element, html) {
   element.innerHTML = html;
   if (key === undefined) return;
   const again = [...element.querySelectorAll("[data-key]")].find(it => it.dataset.key === key);
-  (again ?? element.querySelector("input, select") ?? element).focus();
+  (again ?? element.querySelector("input, [role=combobox]") ?? element).focus();
 }
 
 // A text, or its first lines.

@@ -33,8 +33,10 @@ function liveItem({ activation, worker, operation }) {
 // The choice of a worker, of these.
 function workerChoice(workers, worker) {
   if (workers.length > MOST_WORKERS) {
-    const options = workers.map(it => `<option${it === worker ? " selected" : ""}>${it}</option>`);
-    return `<select data-key="worker" aria-label="Worker">${options.join("")}</select>`;
+    const its = `type="button" data-key="worker" value="${worker}" aria-label="Worker" ${pickParts("worker-list")}`;
+    const items = pickItems("worker-list", workers.map(it => ({ value: it, label: it })));
+    const list = `<ul id="worker-list" role="listbox" tabindex="-1" aria-label="Worker" hidden>${items}</ul>`;
+    return `<span class="pick"><button ${its}>${worker}</button>${list}</span>`;
   }
   const radio = it => `<input type="radio" name="worker" data-key="worker ${it}" value="${it}"${it === worker ? " checked" : ""}>`;
   return workers.map(it => `<label>${radio(it)} ${it}</label>`).join("");
@@ -42,7 +44,7 @@ function workerChoice(workers, worker) {
 
 function showSteps() {
   const workers = workersNow();
-  const chosen = document.querySelector("#workers input:checked, #workers select")?.value;
+  const chosen = document.querySelector("#workers input:checked, #workers button")?.value;
   const worker = workers.includes(chosen) ? chosen : workers[0];
   const can = declared.isRead && (!answered.fault || isHalfTyped());
   refill($("workers"), workerChoice(workers, worker));
