@@ -14,7 +14,7 @@ _pathsys() {
     picture) files=2 options=' --journal --room --help ' ;;
     audit) files=999 options=' --room --help ' ;;
     run) files=2 options=' --room --help ' ;;
-    explore) files=2 options=' --most --help ' ;;
+    explore) files=2 options=' --workers --most --help ' ;;
     -*) first=1 options=' --room --report --help --version ' ;;
     esac
     if [[ $COMP_CWORD -eq 1 && $word != -* || $COMP_CWORD -eq 2 && ${COMP_WORDS[1]} == help ]]; then
@@ -33,7 +33,7 @@ _pathsys() {
         esac
         options=${options/ ${it%%=*} / }
         case $it in
-        --after | --journal | --most | --room | --sync) wants=$it ;;
+        --after | --journal | --most | --room | --sync | --workers) wants=$it ;;
         esac
         case $it in
         --journal | --journal=*) files=$((files - 1)) ;;

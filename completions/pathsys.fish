@@ -4,7 +4,7 @@
 
 function __pathsys_words --description 'the words before the cursor, without an option whose value is being typed'
     set -l words (commandline -opc)
-    if contains -- $words[-1] --after --journal --most --room --sync
+    if contains -- $words[-1] --after --journal --most --room --sync --workers
         set -e words[-1]
     end
     string join \n -- $words
@@ -54,7 +54,7 @@ function __pathsys_wants --argument-names command files --description 'whether t
             continue
         end
         switch $word
-            case --journal --most --room --sync
+            case --journal --most --room --sync --workers
                 set is_value 1
         end
         switch $word
@@ -86,7 +86,7 @@ complete -c pathsys -n __pathsys_wants_command -a follow -d 'Answers each attemp
 complete -c pathsys -n __pathsys_wants_command -a picture -d 'Draws attempts with their replies, or a journal, as an SVG: who ran when'
 complete -c pathsys -n __pathsys_wants_command -a audit -d 'Says whether a journal is sound, or names its first wrong line'
 complete -c pathsys -n __pathsys_wants_command -a run -d 'Runs the processes of a script, writes the journal and says how each process ended'
-complete -c pathsys -n __pathsys_wants_command -a explore -d 'Says whether every schedule of a script ends done, or writes a shortest that doesn\'t'
+complete -c pathsys -n __pathsys_wants_command -a explore -d 'Says whether every schedule of a script ends done, or without a script whether the paths can freeze'
 complete -c pathsys -n __pathsys_wants_command -a help -d 'Print this message or the help of the given subcommand(s)'
 complete -c pathsys -n '__pathsys_is; and __pathsys_lacks --room' -l room -x -d 'how many lines the journal has room for, 1 to 1048576; 4096 if it isn\'t given'
 complete -c pathsys -n '__pathsys_is; and __pathsys_lacks --report' -l report -d 'then writes what can start, what is blocked and what is live, and whether all is stuck'
@@ -124,5 +124,6 @@ complete -c pathsys -n '__pathsys_wants run 2' -F
 complete -c pathsys -n '__pathsys_is run; and __pathsys_lacks --room' -l room -x -d 'how many lines the journal has room for, 1 to 1048576; 4096 if it isn\'t given'
 complete -c pathsys -n '__pathsys_is run; and __pathsys_lacks --help' -s h -l help -d 'Print help'
 complete -c pathsys -n '__pathsys_wants explore 2' -F
+complete -c pathsys -n '__pathsys_is explore; and __pathsys_lacks --workers' -l workers -x -d 'how many operations may be in progress at once, 1 to 4294967295, if there is no script; 2 if it isn\'t given'
 complete -c pathsys -n '__pathsys_is explore; and __pathsys_lacks --most' -l most -x -d 'how many states are looked at before it gives up, 1 to 4294967295; 1000000 if it isn\'t given'
 complete -c pathsys -n '__pathsys_is explore; and __pathsys_lacks --help' -s h -l help -d 'Print help'
