@@ -1,7 +1,7 @@
 # Builds the program and the C library from the generated assembly in dist/: a C compiler with its binutils and make are all it takes.
 #
 #   make              the program, the C library (static and shared) and wanzoche.pc, in out/
-#   make example      the same, and then runs a stored example
+#   make example      the program alone, and then runs a stored example
 #   make test         the examples and the tests of the program, the C library, the Python package and the web page
 #   make test_rust    the tests of the Rust crate, which want cargo
 #   make install      to PREFIX (/usr/local), below DESTDIR if that is set; make uninstall takes the same files away
@@ -148,7 +148,7 @@ test_program: $(program) library
 test_library: library
 	c/tests/run $(OUT)
 
-test_package: library
+test_package: $(program) library
 	PYTHONS="$(PYTHONS)" python/tests/run $(OUT)
 
 test_page:
