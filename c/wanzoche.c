@@ -14,8 +14,7 @@ _Static_assert(sizeof(wanzoche_answer) == 16, "a code and a number");
 _Static_assert(sizeof(wanzoche_taken) == 32, "two numbers and an answer");
 #endif
 
-wanzoche_answer path_c_open(wanzoche *, const uint8_t *, size_t, uint32_t, uint8_t *, size_t);
-wanzoche_answer path_c_open_without_journal(wanzoche *, const uint8_t *, size_t, uint32_t, uint8_t *, size_t);
+wanzoche_answer path_c_open(wanzoche *, const uint8_t *, size_t, uint32_t, bool, uint8_t *, size_t);
 void path_c_close(wanzoche *);
 int64_t path_c_operation(wanzoche *, const uint8_t *, size_t);
 wanzoche_answer path_c_start(wanzoche *, uint32_t, uint32_t);
@@ -35,8 +34,7 @@ wanzoche_answer path_c_owed_start(wanzoche *, uint32_t, uint32_t);
 wanzoche_answer path_c_owed_use(wanzoche *, uint32_t, uint64_t, uint32_t, uint64_t);
 wanzoche_answer path_c_owed_finish(wanzoche *, uint32_t, uint64_t);
 wanzoche_answer path_c_take_over(wanzoche *, const uint8_t *, size_t, wanzoche_taken *);
-wanzoche_answer path_c_resume(wanzoche *, const uint8_t *, size_t, uint32_t, const uint8_t *, size_t, uint8_t *, size_t);
-wanzoche_answer path_c_resume_without_journal(wanzoche *, const uint8_t *, size_t, uint32_t, const uint8_t *, size_t, uint8_t *, size_t);
+wanzoche_answer path_c_resume(wanzoche *, const uint8_t *, size_t, uint32_t, bool, const uint8_t *, size_t, uint8_t *, size_t);
 wanzoche_answer path_c_audit(const uint8_t *, size_t, uint32_t, const uint8_t *, size_t, uint8_t *, size_t);
 wanzoche_answer path_c_explore(const uint8_t *, size_t, const uint8_t *, size_t, uint32_t, uint8_t *, size_t, uint8_t *, size_t);
 wanzoche_answer path_c_finding(const uint8_t *, size_t, uint8_t *, size_t);
@@ -70,7 +68,7 @@ wanzoche_answer wanzoche_open(wanzoche *handle, const char *text, size_t length,
                               uint32_t room, char *message, size_t size) {
     if (handle == NULL) return no_handle(message, size);
     return path_c_open(handle, text_at(text), length_of(text, length), room,
-                       buffer_at(message), length_of(message, size));
+                       true, buffer_at(message), length_of(message, size));
 }
 
 wanzoche_answer wanzoche_open_without_journal(wanzoche *handle,
@@ -78,10 +76,8 @@ wanzoche_answer wanzoche_open_without_journal(wanzoche *handle,
                                               uint32_t room, char *message,
                                               size_t size) {
     if (handle == NULL) return no_handle(message, size);
-    return path_c_open_without_journal(handle, text_at(text),
-                                       length_of(text, length), room,
-                                       buffer_at(message),
-                                       length_of(message, size));
+    return path_c_open(handle, text_at(text), length_of(text, length), room,
+                       false, buffer_at(message), length_of(message, size));
 }
 
 void wanzoche_close(wanzoche *handle) {
@@ -233,7 +229,8 @@ wanzoche_answer wanzoche_resume(wanzoche *handle, const char *text,
                                 char *message, size_t size) {
     if (handle == NULL) return no_handle(message, size);
     return path_c_resume(handle, text_at(text), length_of(text, length), room,
-                         text_at(journal), length_of(journal, journal_length),
+                         true, text_at(journal),
+                         length_of(journal, journal_length),
                          buffer_at(message), length_of(message, size));
 }
 
@@ -244,12 +241,10 @@ wanzoche_answer wanzoche_resume_without_journal(wanzoche *handle,
                                                 size_t journal_length,
                                                 char *message, size_t size) {
     if (handle == NULL) return no_handle(message, size);
-    return path_c_resume_without_journal(handle, text_at(text),
-                                         length_of(text, length), room,
-                                         text_at(journal),
-                                         length_of(journal, journal_length),
-                                         buffer_at(message),
-                                         length_of(message, size));
+    return path_c_resume(handle, text_at(text), length_of(text, length), room,
+                         false, text_at(journal),
+                         length_of(journal, journal_length),
+                         buffer_at(message), length_of(message, size));
 }
 
 wanzoche_answer wanzoche_audit(const char *declaration, size_t length,

@@ -44,9 +44,10 @@ fn boxed(
     }
 }
 
-/// Opens a closed handle: a service of the declaration in this text, with this room, which keeps its lines or not. The message says in
-/// words why nothing was opened, as far as it fits, and ends with a zero byte.
-fn open(
+/// Opens a closed handle: a service of the declaration in this text, with this room, which keeps its lines or not. Without them the room
+/// is that of what is live. The message says in words why nothing was opened, as far as it fits, and ends with a zero byte.
+#[unsafe(no_mangle)]
+pub extern "C" fn path_c_open(
     alloc: Global,
     handle: &mut Handle,
     text: &[u8],
@@ -76,44 +77,6 @@ fn open(
             unopened(fault)
         }
     }
-}
-
-/// Opens a closed handle: a service of the declaration in this text, with room for so many lines, which it keeps.
-#[unsafe(no_mangle)]
-pub extern "C" fn path_c_open(
-    alloc: Global,
-    handle: &mut Handle,
-    text: &[u8],
-    room: u32,
-    message: &mut [u8],
-) -> CodedAnswer
-    ensures opened { result ≡ opened → (handle.old.live ≡ false) × (handle.new.live ≡ true)
-        × (handle.new.held.service.keeps ≡ true) × IsOpened text.now room handle.new.held.service.account }
-    ensures already { handle.old.live ≡ true → result ≡ already_open }
-    ensures unopened { handle.old.live ≡ false → result ≢ opened → IsUnopened text.now room result }
-    ensures kept { result ≢ opened → handle.new ≡ handle.old }
-    ensures message { 0 < length message.old → Contains message.new 0 }
-{
-    open(alloc, handle, text, room, true, message)
-}
-
-/// The same of a service that keeps no lines. Its room is that of what is live.
-#[unsafe(no_mangle)]
-pub extern "C" fn path_c_open_without_journal(
-    alloc: Global,
-    handle: &mut Handle,
-    text: &[u8],
-    room: u32,
-    message: &mut [u8],
-) -> CodedAnswer
-    ensures opened { result ≡ opened → (handle.old.live ≡ false) × (handle.new.live ≡ true)
-        × (handle.new.held.service.keeps ≡ false) × IsOpened text.now room handle.new.held.service.account }
-    ensures already { handle.old.live ≡ true → result ≡ already_open }
-    ensures unopened { handle.old.live ≡ false → result ≢ opened → IsUnopened text.now room result }
-    ensures kept { result ≢ opened → handle.new ≡ handle.old }
-    ensures message { 0 < length message.old → Contains message.new 0 }
-{
-    open(alloc, handle, text, room, false, message)
 }
 
 /// A number, or -1.

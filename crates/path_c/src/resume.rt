@@ -173,8 +173,10 @@ fn boxed(
     }
 }
 
-/// Opens a closed handle behind a journal. The message says in words why nothing was opened, as far as it fits, and ends with a zero byte.
-fn resume(
+/// Opens a closed handle behind the journal in a text, which keeps its lines or not. The message says in words why nothing was opened, as
+/// far as it fits, and ends with a zero byte.
+#[unsafe(no_mangle)]
+pub extern "C" fn path_c_resume(
     alloc: Global,
     handle: &mut Handle,
     text: &[u8],
@@ -205,44 +207,4 @@ fn resume(
             unresumed(refusal)
         }
     }
-}
-
-/// Opens a closed handle behind the journal in a text: it keeps the lines.
-#[unsafe(no_mangle)]
-pub extern "C" fn path_c_resume(
-    alloc: Global,
-    handle: &mut Handle,
-    text: &[u8],
-    room: u32,
-    journal: &[u8],
-    message: &mut [u8],
-) -> CodedAnswer
-    ensures opened { result.code ≡ 19 → (handle.old.live ≡ false) × (handle.new.live ≡ true)
-        × IsResumed text.now room true journal.now result.number handle.new.held.service }
-    ensures already { handle.old.live ≡ true → result ≡ already_open }
-    ensures unresumed { handle.old.live ≡ false → result.code ≢ 19 → IsUnresumed text.now room true journal.now result }
-    ensures kept { result.code ≢ 19 → handle.new ≡ handle.old }
-    ensures message { 0 < length message.old → Contains message.new 0 }
-{
-    resume(alloc, handle, text, room, true, journal, message)
-}
-
-/// The same of a handle that keeps no lines.
-#[unsafe(no_mangle)]
-pub extern "C" fn path_c_resume_without_journal(
-    alloc: Global,
-    handle: &mut Handle,
-    text: &[u8],
-    room: u32,
-    journal: &[u8],
-    message: &mut [u8],
-) -> CodedAnswer
-    ensures opened { result.code ≡ 19 → (handle.old.live ≡ false) × (handle.new.live ≡ true)
-        × IsResumed text.now room false journal.now result.number handle.new.held.service }
-    ensures already { handle.old.live ≡ true → result ≡ already_open }
-    ensures unresumed { handle.old.live ≡ false → result.code ≢ 19 → IsUnresumed text.now room false journal.now result }
-    ensures kept { result.code ≢ 19 → handle.new ≡ handle.old }
-    ensures message { 0 < length message.old → Contains message.new 0 }
-{
-    resume(alloc, handle, text, room, false, journal, message)
 }
