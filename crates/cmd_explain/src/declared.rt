@@ -3,33 +3,46 @@
 use crate::words::push_paths;
 use path_decl::{Decl, counts, path_resource, paths_of, resource_name, resource_of};
 use path_lines::push_operation;
-use path_model::{OpId, OutOfMemory, PathId, ResId};
+use path_model::{OpId, OutOfMemory, PathId};
 use path_print::push_path;
 use std::alloc::Allocator;
 
-/// Appends the line of a path: its number, its resource and its text.
+/// The name of the resource of a path; `None` if the path isn't declared.
+fn name_of_path<A: Allocator + Copy>(decl: &Decl<A>, path: PathId) -> Option<&str> {
+    resource_name(decl, path_resource(decl, path)?)
+}
+
+/// The name of the resource of an operation; `None` if the operation isn't declared.
+fn name_of_operation<A: Allocator + Copy>(decl: &Decl<A>, op: OpId) -> Option<&str> {
+    resource_name(decl, resource_of(decl, op)?)
+}
+
+/// Appends the line of a declared path: its number, its resource and its text.
 fn push_path_line<A: Allocator + Copy>(
     text: &mut String<A>,
     decl: &Decl<A>,
     path: PathId,
 ) -> Result<(), OutOfMemory> {
-    let resource = path_resource(decl, path).unwrap_or(ResId(0));
-    let (number, name) = (path.0, resource_name(decl, resource).unwrap_or(""));
+    let Some(name) = name_of_path(decl, path) else {
+        return Ok(());
+    };
+    let number = path.0;
     write!(text, "path {number} of {name}:")?;
     push_path(text, decl, path)?;
     text.push_str("\n")?;
     Ok(())
 }
 
-/// Appends the line of an operation: its name, its resource, and the paths that it obeys.
+/// Appends the line of a declared operation: its name, its resource, and the paths that it obeys.
 fn push_operation_line<A: Allocator + Copy>(
     text: &mut String<A>,
     decl: &Decl<A>,
     op: OpId,
 ) -> Result<(), OutOfMemory> {
-    let resource = resource_of(decl, op).unwrap_or(ResId(0));
+    let Some(name) = name_of_operation(decl, op) else {
+        return Ok(());
+    };
     push_operation(text, decl, op)?;
-    let name = resource_name(decl, resource).unwrap_or("");
     write!(text, " of {name} obeys ")?;
     if let Some(paths) = paths_of(decl, op) {
         push_paths(text, paths)?;

@@ -84,7 +84,7 @@ fn live_of<A: Allocator + Copy>(
     Ok(found)
 }
 
-/// Appends how a resource stands: a blank line, its name, and four lines.
+/// Appends how a declared resource stands: a blank line, its name, and four lines.
 fn push_resource<A: Allocator + Copy>(
     alloc: A,
     text: &mut String<A>,
@@ -94,10 +94,12 @@ fn push_resource<A: Allocator + Copy>(
     requires { moment.now.gate.now.paths ≡ paths_of moment.now.decl.now.declaration }
 {
     let (decl, gate, live) = (moment.decl, moment.gate, moment.live);
+    let Some(name) = resource_name(decl, resource) else {
+        return Ok(());
+    };
     let startable = startable_of(alloc, decl, gate, resource)?;
     let blocked = blocked_of(alloc, decl, gate, resource)?;
     let own = live_of(alloc, decl, live, resource)?;
-    let name = resource_name(decl, resource).unwrap_or("");
     write!(text, "\n{name}\n   can start: ")?;
     push_operations(text, decl, &startable)?;
     text.push_str("\n   blocked: ")?;

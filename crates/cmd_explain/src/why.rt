@@ -9,7 +9,7 @@ use crate::words::{push_activations, push_operations, push_paths};
 use path_decl::{Decl, counts, law_of, resource_name, resource_of};
 use path_lines::push_operation;
 use path_model::{
-    ActId, Activation, Attempt, Law, Line, MOST_LINES, OpId, OutOfMemory, PathId, Reply, ResId,
+    ActId, Activation, Attempt, Law, Line, MOST_LINES, OpId, OutOfMemory, PathId, Reply,
 };
 use path_print::push_path;
 use std::alloc::Allocator;
@@ -131,6 +131,12 @@ fn push_device<A: Allocator + Copy>(
     Ok(())
 }
 
+/// The name and the law of an operation's resource; `None` if the operation isn't declared.
+fn device_of<A: Allocator + Copy>(decl: &Decl<A>, op: OpId) -> Option<(&str, Law)> {
+    let resource = resource_of(decl, op)?;
+    Some((resource_name(decl, resource)?, law_of(decl, resource)?))
+}
+
 /// Appends why a use or a finish of a live activation was refused.
 fn push_refused_use<A: Allocator + Copy>(
     text: &mut String<A>,
@@ -141,10 +147,10 @@ fn push_refused_use<A: Allocator + Copy>(
     if let Reply::NotYours = reply {
         return push_owner(text, decl, activation);
     }
-    let resource = resource_of(decl, activation.op).unwrap_or(ResId(0));
-    let name = resource_name(decl, resource).unwrap_or("");
-    let law = law_of(decl, resource).unwrap_or(Law::Cell);
-    push_device(text, name, law, reply)
+    match device_of(decl, activation.op) {
+        Some((name, law)) => push_device(text, name, law, reply),
+        None => Ok(()),
+    }
 }
 
 /// Appends why a use or a finish was refused.
