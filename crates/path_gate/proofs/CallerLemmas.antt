@@ -6,5 +6,7 @@ pub use Rattle.path_gate.proofs.Placed.{roomy, not_roomy, roomy_or, not_roomy_or
 pub use Rattle.path_gate.proofs.Numbered.{both_left, left_fails, right_fails, same_room, owed_without_number, owed_with_number}
 -- a start that no path forbids, and the operation of what is live
 pub use Rattle.path_gate.proofs.Placed.{none_forbids, found_declared}
+-- what a path names is declared
+pub use Rattle.path_gate.proofs.Counted.{named_declared}
 -- what may go to another thread
 pub use Rattle.path_gate.proofs.Threads.{gate_send}

@@ -1,10 +1,10 @@
 -- Whether one path forbids a start: the numbers of the paths rise, so that a path's own term alone counts.
-use Rattle.std.proofs.Common.{◌≡◌, ◌==◌, ◌&&◌, ◌||◌, not, ◌+◌, ◌<◌, ◌≤◌, ℕ, cond, Bool, true, false, List, [], ◌∷◌, ◌++◌, length, arith, refl, sym, ap, ◌∙◌, subst, get_or, inl, inr}
+use Rattle.std.proofs.Common.{◌≡◌, ◌==◌, ◌&&◌, ◌||◌, not, ◌+◌, ◌<◌, ◌≤◌, ℕ, cond, Bool, true, false, List, [], ◌∷◌, length, arith, refl, sym, ap, ◌∙◌, subst, get_or, inl, inr}
 use Rattle.std.specs.Prelude.{◌↔◌, IsTrue}
 use Rattle.std.proofs.lemmas.Bool.{cases_eq, eq-eqb, ne_eqb}
 use Rattle.path_model.specs.declared.ids.OpId.{OpId}
 use Rattle.path_model.specs.declared.history.Event.{Event}
-use Rattle.path_model.specs.Trees.{Tree, Names, WellFormed, has}
+use Rattle.path_model.specs.Trees.{Tree, WellFormed, has}
 use Rattle.path_model.specs.Legal as legal
 use Rattle.path_model.specs.Machine.{braces, Values}
 use Rattle.path_model.specs.Flat.{semaphores_in, Sited, sited}

@@ -12,6 +12,7 @@ pub mod Opened
 pub mod Adding
 pub mod Appended
 pub mod Placed
+pub mod Counted
 pub mod Numbered
 pub mod Threads
 pub mod CallerLemmas

@@ -1,5 +1,5 @@
 -- What contracts see of a gate, and at which history a gate is.
-use Rattle.std.specs.Prelude.{◌≡◌, ◌+◌, ◌<◌, ◌≤◌, ◌^◌, ◌↔◌, ℕ, Bool, IsTrue, List, [], ◌∷◌, ◌++◌, length, All, slice_index}
+use Rattle.std.specs.Prelude.{◌≡◌, ◌+◌, ◌<◌, ◌^◌, ◌↔◌, ℕ, Bool, IsTrue, List, [], ◌∷◌, ◌++◌, length, All, slice_index}
 use Rattle.std.specs.Prelude.{MatchResult, Result, refl}
 use Rattle.std.specs.Coded.{Coded, code_by, coded×, coded_ℕ, coded_list}
 use Rattle.path_model.specs.declared.ids.OpId.{OpId}
@@ -86,6 +86,13 @@ pub record SamePlaces (old new : Standing) : Type 0 where
 abbrev pub having : Standing → List ℕ → List ℕ → List ℕ → ℕ → Standing
 having g semaphores counters counts admitted =
     record { paths = g.paths; levels = levels semaphores counters; in_progress = counts; admitted = admitted }
+
+-- how often each of the first n operations is in progress: 0 for those that no path names
+pub record AreCounts (g : Standing) (n : ℕ) (counts : List ℕ) : Type 0 where
+  pub long : length counts ≡ n
+  pub small : All (λ k. k < 2 ^ 32) counts
+  pub same : (i : ℕ) → i < n → slice_index counts i ≡ slice_index g.in_progress i
+  pub idle : (a : OpId) → legal.NoneOf (λ s. Names s a) g.paths → slice_index counts a.0 ≡ 0
 
 -- with these values ss and cs and counts ns the gate is at a legal history of n starts: there are as many values as it has, a count for
 -- each operation that a path names, and 0 for the others

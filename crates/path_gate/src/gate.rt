@@ -4,12 +4,12 @@
 //! Those of all paths are in one table. A start does its prologue in each path that names its operation, and is refused if one of
 //! these can't pass; a finish does its epilogues. `specs/Standings.antt` says at which histories a gate is, and what it decides there.
 
-ghost use Rattle.std.specs.Prelude.{◌≡◌, ◌≢◌, ◌+◌, ◌<◌, ◌≤◌, ℕ, [], length, All, slice_index, slice_index_or};
+ghost use Rattle.std.specs.Prelude.{◌≡◌, ◌≢◌, ◌+◌, ◌++◌, ◌<◌, ◌≤◌, ℕ, List, [], length, All, slice_index, slice_index_or};
 ghost use Rattle.std.specs.Prelude.{IfOk, OnOk, OnErr, MatchResult};
 ghost use Rattle.path_model.specs.Trees.{Names};
 ghost use Rattle.path_model.specs.Legal as legal;
 ghost use Rattle.path_gate.specs.Standings.{IsNamed, IsAt, Judges, Tells, Admitted, BlocksStay, Released, SamePlaces};
-ghost use Rattle.path_gate.specs.Standings.{CanHave, Restored};
+ghost use Rattle.path_gate.specs.Standings.{AreCounts, CanHave, Restored};
 ghost use Rattle.path_gate.specs.Levels.{levels_in};
 ghost use Rattle.path_gate.specs.Inner.Terms.{IsWithin, blocking, is_blocked_at, all_started, all_finished};
 ghost use Rattle.path_gate.specs.Inner.Terms.{CanStartAll, CanFinishAll, one_more, one_less};
@@ -276,6 +276,18 @@ impl<A: Allocator + Copy> Gate<A> {
             Some(count) => *count,
             None => 0,
         }
+    }
+
+    /// Appends how often each of the first operations is in progress, as [`restore`](Gate::restore) takes it. Fails only if allocation
+    /// fails.
+    pub fn push_counts(&self, operations: u32, row: &mut Vec<u64, A>) -> Result<(), OutOfMemory>
+        ensures { OnOk result ((counts : List ℕ) × (row.new.items ≡ row.old.items ++ counts) × AreCounts self.now operations counts) }
+    {
+        row.reserve(operations as usize)?;
+        for number in 0..operations {
+            row.push_reserved(u64::from(self.in_progress(OpId(number))));
+        }
+        Ok(())
     }
 
     /// The values of the semaphores, by their numbers in the file. Takes constant time.
