@@ -55,31 +55,19 @@ fn line_finding<'a, A: Allocator + Copy>(
 ) -> Result<Finding<'a, A>, OutOfMemory>
     ensures { IfOk result (λ finding. IsSpotBehind text.now number finding.spot) }
 {
-    let wrong = Wrong::Script(fault);
-    if ends_before(text, number) {
-        let stop = stop_at(b"", Wanted::ProcessEnd);
-        let mut finding = found(
-            alloc,
-            decl,
-            text,
-            number,
-            stop,
-            wrong,
-            wanted_words(stop.wanted),
-        )?;
-        finding.likely = None;
+    let ends = ends_before(text, number);
+    let stop = if ends {
+        stop_at(b"", Wanted::ProcessEnd)
+    } else {
+        stop_of(line_of(text, number), fault)
+    };
+    let (wrong, words) = (Wrong::Script(fault), wanted_words(stop.wanted));
+    let mut finding = found(alloc, decl, text, number, stop, wrong, words)?;
+    if !ends {
         return Ok(finding);
     }
-    let stop = stop_of(line_of(text, number), fault);
-    found(
-        alloc,
-        decl,
-        text,
-        number,
-        stop,
-        wrong,
-        wanted_words(stop.wanted),
-    )
+    finding.likely = None;
+    Ok(finding)
 }
 
 /// Where the text of a script has this fault, which [`read_script`](path_script::read_script) found in it; `None` if memory was wanting
