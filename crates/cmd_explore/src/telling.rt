@@ -9,8 +9,8 @@ use std::io::Write;
 
 /// Writes on `out` what a search has found wrong, and then on `err` the words that go with it.
 ///
-/// `Unsound`: both were written. `StreamFailed`: a writer failed, and what it took is unknown. `NoMemory`: memory ran out, and a front of the
-/// text was written.
+/// `Unsound`: both were written. `StreamFailed`: a writer failed, and what it took is unknown. `NoMemory`: memory ran out, and a front of
+/// the text was written.
 pub fn tell_wrong<O: Write, E: Write>(text: &[u8], words: &[u8], out: &mut O, err: &mut E) -> Status
     ensures { Ends (WritesBytes Status.Unsound text.now) (O.contents out.old) (O.contents out.new) result }
 {
