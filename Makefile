@@ -2,14 +2,15 @@
 #
 #   make              the program, the C library (static and shared) and wanzoche.pc, in out/
 #   make example      the program alone, and then runs a stored example
-#   make test         the examples and the tests of the program, the C library, the Python package and the web page
+#   make test         the examples and the tests of the program, the C library, the Python package and the web page; with WANZOCHE_TESTS=all
+#                     in each Python that is here, under sanitizers and over PostgreSQL, too
 #   make test_rust    the tests of the Rust crate, which want cargo
 #   make install      to PREFIX (/usr/local), below DESTDIR if that is set; make uninstall takes the same files away
 #   make core         what is quick of the Python package, in C: out/python/_core.abi3.so, by the headers of PYTHON, for each later one
 #   make wheel        the Python package with its library, for pip, and with the core where PYTHON has its headers here
 #   make deb          a package for Debian and its like
 #   make release      all that is published, with checksums; packaging/release says what it needs
-#   make prove        the merge gate: proves every function again; needs the toolchain that docs/proofs.md speaks of
+#   make prove        proves every function again, and tries every wrong body; needs the toolchain that docs/proofs.md speaks of
 #   make clean        removes out/
 #
 # Variables: CC (cc), CFLAGS (-O2), LDFLAGS, OUT (out), STATIC=1 (a static program), PREFIX, DESTDIR, LIBDIR (lib, below PREFIX),
@@ -156,7 +157,7 @@ test_page:
 
 prove:
 	mkdir -p $(OUT)
-	rt ci > $(OUT)/gate.log 2>&1 || { tail -n 40 $(OUT)/gate.log; false; }
+	.ci/edits prove --all $(OUT)/gate.log > /dev/null || { tail -n 40 $(OUT)/gate.log; false; }
 	@tail -n 1 $(OUT)/gate.log
 
 to := $(DESTDIR)$(PREFIX)
