@@ -50,6 +50,13 @@ class Commands(InFolder, unittest.TestCase):
             self.assertEqual(self.runs("status")[0], told)
         self.assertEqual(self.runs("exec", "read", "--", "echo", "hello"), ("hello\n", "", 0))
 
+    def test_a_conflict_says_what_may_begin_next(self):
+        with open(self.declaration, "w") as file:
+            file.write(SLOT)
+        told, why, status = self.runs("exec", "--declaration", self.declaration, "--nonblock", "remove", "--", "echo", "hello")
+        self.assertEqual((told, status), ("", 1))
+        self.assertRegex(why, "^wanzoche: remove is blocked: .* in progress: nothing of it; may begin next: deposit\n$")
+
     def test_who_waits_is_told_so_on_a_terminal(self):
         paths = self.open(BOOK)
         words = self.words("exec", "--timeout", "20", "read", "--", "echo", "hello")

@@ -79,6 +79,23 @@ class Sharing(InFolder, unittest.TestCase):
         self.assertEqual(a.journal().count("\n"), 6)
         self.assertTrue(a.audit() and wanzoche.audit(BOOK, self.text().decode()) and a.audit(self.text().decode()))
 
+    def test_why_says_what_may_begin_next(self):
+        a, b = self.open(SLOT), self.open(SLOT)
+        told = "path 0 of slot: deposit ; remove; in progress: nothing of it; may begin next: "
+        for paths, operation, next_one in ((a, "remove", "deposit"), (b, "deposit", "remove")):
+            why = paths.why(operation)
+            self.assertEqual((why.may_begin, str(why)), ((next_one,), "{} is blocked: {}{}".format(operation, told, next_one)))
+            with self.assertRaisesRegex(Timeout, "; may begin next: {}$".format(next_one)) as caught:
+                paths.enter(operation, timeout=0.01)
+            self.assertEqual(caught.exception.may_begin, (next_one,))
+            paths.enter(next_one).leave()
+        self.assertIsNone(a.why("deposit"))
+
+    def test_why_says_that_nothing_may_begin(self):
+        paths = self.open("resource r cell operation a, b path a ; b end path b ; a end end")
+        self.assertEqual((paths.why("a").may_begin, paths.why("b").may_begin), ((), ()))
+        self.assertRegex(str(paths.why("b")), "; may begin next: nothing$")
+
     def test_devices_are_shared(self):
         a, b = self.open(LINE), self.open(LINE)
         for number in (7, 8):

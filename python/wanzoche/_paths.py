@@ -219,9 +219,10 @@ class Paths(System):
 
     def why(self, operation: str) -> Optional[Blocked]:
         """What forbids the operation now, as an exception that isn't raised; None if nothing does."""
-        if self.can_start(operation):
-            return None
-        report = self.report()
+        return None if self.can_start(operation) else self._why_of(operation, self.report())
+
+    def _why_of(self, operation: str, report: Report) -> Optional[Blocked]:
+        """What a report says that forbids the operation."""
         number = report.blocked.get(operation)
         if number is None:
             return None

@@ -449,15 +449,6 @@ class StoredPaths(Paths):
         told = self._asked(lambda: None if self._store._replica.can_start(op) else self._read_report())
         return None if told is None else self._why_of(operation, told)
 
-    def _why_of(self, operation: str, told: Report) -> Optional[Blocked]:
-        """What a report says that forbids the operation."""
-        number = told.blocked.get(operation)
-        if number is None:
-            return None
-        path = self._paths_of_text[number]
-        running = [(each.operation, each.worker) for each in told.live if each.operation in path.operations]
-        return Blocked(operation, number, path.resource, path.text, running)
-
     def report(self) -> Report:
         return self._asked(self._read_report)
 
