@@ -58,6 +58,7 @@ _wanzoche() {{
     # `default` lets bash complete a file.
     case $wants in
     {of_files}) compopt -o default && return ;;
+{choices}
     ?*) return ;;
     esac
     if [[ $behind -gt 0 ]]; then
@@ -230,6 +231,12 @@ def with_value(program: Program) -> List[Option]:
     return [found[name] for name in sorted(found)]
 
 
+def choices_for_bash(options: List[Option]) -> str:
+    """The lines that offer the values of options of which all values are known."""
+    line = "    {}) COMPREPLY=($(compgen -W '{}' -- \"$word\")) && return ;;"
+    return "\n".join(line.format(it.names[-1], " ".join(it.choices)) for it in options if it.choices)
+
+
 def for_bash(program: Program) -> str:
     """The completion for bash."""
     valued = with_value(program)
@@ -240,6 +247,7 @@ def for_bash(program: Program) -> str:
         options=" ".join(long_names(program.itself.options)),
         valued=or_none(long_names(valued)),
         of_files=or_none(long_names([it for it in valued if is_file(it.help)])),
+        choices=choices_for_bash(valued),
     )
 
 

@@ -42,7 +42,8 @@ def zsh_option(option: Option, excluded: str) -> str:
     """An option of _arguments. `excluded` is what isn't asked for any more behind it."""
     shown = said_of(option).replace("\\", r"\\").replace("[", r"\[").replace("]", r"\]")
     names = "{" + ",".join(option.names) + "}" if len(option.names) > 1 else option.names[0]
-    value = ":{}:{}".format(option.value, "_files" if is_file(option.help) else " ") if option.value else ""
+    offered = "({})".format(" ".join(option.choices)) if option.choices else "_files" if is_file(option.help) else " "
+    value = ":{}:{}".format(option.value, offered) if option.value else ""
     if option.several:
         value = ":*-*" + value
     said = zsh_quoted("{}[{}]{}".format("=" if option.value else "", shown, value))
@@ -61,6 +62,8 @@ def fish_option(program: str, condition: str, option: Option) -> str:
     long = option.names[-1][2:]
     short = " -s " + option.names[0][1:] if len(option.names) > 1 else ""
     value = (" -r -F" if is_file(option.help) else " -x") if option.value else ""
+    if option.choices:
+        value += " -a " + fish_quoted(" ".join(option.choices))
     where = "{}; and __{}_lacks {}".format(condition, program, option.names[-1])
     said = fish_quoted(said_of(option))
     return "complete -c {} -n {}{} -l {}{} -d {}".format(program, fish_quoted(where), short, long, value, said)

@@ -14,7 +14,7 @@ _wanzoche() {
     local word=${COMP_WORDS[COMP_CWORD]} commands='exec status log audit watch recover operations' options='' wants='' store='' declaration='' behind=0 n it
     COMPREPLY=()
     case ${COMP_WORDS[1]} in
-    exec) options=' --help --store --name --declaration --timeout --nonblock --conflict-status --token-env --no-sync ' ;;
+    exec) options=' --help --store --name --declaration --timeout --nonblock --conflict-status --token-env --lost --no-sync ' ;;
     status) options=' --help --store --name --declaration ' ;;
     log) options=' --help --store --name --declaration ' ;;
     audit) options=' --help --store --name --declaration ' ;;
@@ -43,7 +43,7 @@ _wanzoche() {
         fi
         options=${options/ $it / }
         case $it in
-        --conflict-status | --declaration | --name | --store | --timeout | --token-env) wants=$it ;;
+        --conflict-status | --declaration | --lost | --name | --store | --timeout | --token-env) wants=$it ;;
         -*) ;;
         *) behind=$((n + 1)) ;;
         esac
@@ -52,6 +52,7 @@ _wanzoche() {
     # `default` lets bash complete a file.
     case $wants in
     --declaration | --store) compopt -o default && return ;;
+    --lost) COMPREPLY=($(compgen -W 'finish keep' -- "$word")) && return ;;
     ?*) return ;;
     esac
     if [[ $behind -gt 0 ]]; then

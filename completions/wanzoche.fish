@@ -13,7 +13,7 @@ end
 
 function __wanzoche_lacks --argument-names option --description 'whether this option is still to come'
     set -l words (commandline -opc)
-    if contains -- $words[-1] --conflict-status --declaration --name --store --timeout --token-env
+    if contains -- $words[-1] --conflict-status --declaration --lost --name --store --timeout --token-env
         set -e words[-1]
     end
     not contains -- $option $words; and not string match -q -- "$option=*" $words
@@ -41,7 +41,7 @@ function __wanzoche_behind --description 'the words behind the operation of exec
         set -e words[1]
         if test $is_value -eq 1
             set is_value 0
-        else if contains -- $word --conflict-status --declaration --name --store --timeout --token-env
+        else if contains -- $word --conflict-status --declaration --lost --name --store --timeout --token-env
             set is_value 1
         else if not string match -q -- '-*' $word
             string join \n -- $words
@@ -103,6 +103,7 @@ complete -c wanzoche -n '__wanzoche_wants operation; and __wanzoche_lacks --time
 complete -c wanzoche -n '__wanzoche_wants operation; and __wanzoche_lacks --nonblock' -l nonblock -d 'don\'t wait for the operation\'s turn'
 complete -c wanzoche -n '__wanzoche_wants operation; and __wanzoche_lacks --conflict-status' -l conflict-status -x -d 'the status where the operation isn\'t admitted in time (1)'
 complete -c wanzoche -n '__wanzoche_wants operation; and __wanzoche_lacks --token-env' -l token-env -x -d 'the variable in which the command gets the operation\'s token'
+complete -c wanzoche -n '__wanzoche_wants operation; and __wanzoche_lacks --lost' -l lost -x -a 'finish keep' -d 'what happens to an operation in the way whose process is dead: it is finished, or kept until `recover` (finish)'
 complete -c wanzoche -n '__wanzoche_wants operation; and __wanzoche_lacks --no-sync' -l no-sync -d 'don\'t wait for the disk'
 complete -c wanzoche -n '__wanzoche_is status; and __wanzoche_lacks --help' -s h -l help -d 'show this help message and exit'
 complete -c wanzoche -n '__wanzoche_is status; and __wanzoche_lacks --store' -l store -r -F -d 'the file of the journal that the processes share, or the URL of a PostgreSQL database'

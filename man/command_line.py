@@ -35,13 +35,15 @@ class Argument(NamedTuple):
 
 
 class Option(NamedTuple):
-    """An option: `names` are its spellings, the long one last; `value` is None if it takes none, and `several` says whether it takes more."""
+    """An option: `names` are its spellings, the long one last; `value` is None if it takes none, `several` says whether it takes more, and
+    `choices` are all its values, where they are known."""
 
     names: List[str]
     value: Optional[str]
     help: str
     default: Optional[str]
     several: bool
+    choices: Tuple[str, ...] = ()
 
 
 class Command(NamedTuple):
@@ -149,7 +151,7 @@ def _table_of(name: str, about: str, parser: argparse.ArgumentParser) -> Command
         shown = each.metavar if isinstance(each.metavar, str) else ""
         said = (each.help or "").replace("%(default)s", str(each.default))
         if each.option_strings:
-            options.append(Option(list(each.option_strings), shown or None, said, None, False))
+            options.append(Option(list(each.option_strings), shown or None, said, None, False, tuple(each.choices or ())))
         elif not isinstance(each, argparse._SubParsersAction):
             arguments.append(Argument(shown, said, True, each.nargs is not None))
     return Command(name, about, arguments, options, [])

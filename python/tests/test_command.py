@@ -115,6 +115,19 @@ class Commands(InFolder, unittest.TestCase):
             worker = paths.worker.split()[-1]
             self.assertEqual(self.runs("recover", worker), ("", "wanzoche: process {} is alive\n".format(worker), 1))
 
+    def test_what_the_dead_had_is_kept_where_that_is_asked(self):
+        def holds():
+            self.kept = Paths(BOOK, store=self.file, lost="keep").enter("write")
+
+        self.dies(holds)
+        told, why, status = self.runs("exec", "--lost", "keep", "--timeout", "0.3", "read", "--", "echo", "hello")
+        self.assertEqual((told, status), ("", 1))
+        self.assertRegex(why, "^wanzoche: read is blocked for 0.3 seconds: .* in progress: write by process 1\n$")
+        self.assertIn("lost 0 1 write\n", self.runs("status")[0])
+        self.assertEqual(self.runs("exec", "--lost", "finish", "read", "--", "echo", "hello"), ("hello\n", "", 0))
+        self.assertIn("1 finish 0: finished\n", self.runs("log")[0])
+        self.assertEqual(self.runs("exec", "--lost", "never", "read", "--", "true")[::2], ("", 125))
+
     def test_watching(self):
         paths = self.open(BOOK)
         with subprocess.Popen(self.words("watch"), stdout=subprocess.PIPE) as process:

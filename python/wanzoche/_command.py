@@ -66,7 +66,7 @@ def _stored_declaration(given: Any) -> bytes:
 
 
 def _opened(given: Any) -> StoredPaths:
-    """The store that the words name. What the dead have in progress stays, but for `exec`."""
+    """The store that the words name. What the dead have in progress stays, but for an `exec` that wasn't told to keep it."""
     is_served = given.store.startswith(SCHEMES)
     if is_served != (given.name is not None):
         raise StoreError("--name is wanted for a store in PostgreSQL, and for no other")
@@ -76,7 +76,7 @@ def _opened(given: Any) -> StoredPaths:
         _check_exec(given, text)
     sync = not (is_run and given.no_sync)
     named = {"name": given.name} if is_served else {}
-    paths: Any = Paths(text, store=given.store, sync=sync, lost="finish" if is_run else "keep", **named)
+    paths: Any = Paths(text, store=given.store, sync=sync, lost=given.lost if is_run else "keep", **named)
     return paths  # type: ignore[no-any-return]
 
 

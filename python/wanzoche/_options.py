@@ -40,6 +40,8 @@ def _add_exec(run: argparse.ArgumentParser) -> None:
     told = "the status where the operation isn't admitted in time (%(default)s)"
     run.add_argument("--conflict-status", type=int, default=1, metavar="N", help=told)
     run.add_argument("--token-env", metavar="NAME", help="the variable in which the command gets the operation's token")
+    told = "what happens to an operation in the way whose process is dead: it is finished, or kept until `recover` (%(default)s)"
+    run.add_argument("--lost", choices=["finish", "keep"], default="finish", metavar="finish|keep", help=told)
     run.add_argument("--no-sync", action="store_true", help="don't wait for the disk")
     run.add_argument("operation", metavar="OPERATION", help="the operation; options stand before it")
     run.add_argument("run", nargs=argparse.REMAINDER, metavar="-- COMMAND ..", help="the command with its words")
