@@ -9,6 +9,7 @@
 #include <inttypes.h>
 #include <libgen.h>
 #include <signal.h>
+#include <stdbool.h>
 #include <stdio.h>
 #include <stdlib.h>
 #include <string.h>
@@ -48,7 +49,8 @@ static char *text_of(int file, size_t *length) {
     return text;
 }
 
-/* Opens the slot behind the lines of the log. A line that a crash has cut is cut off, and nobody was told of it. */
+/* Opens the slot behind the lines of the log. What stands behind the last whole line is cut off: a crash has cut that, and nobody was told
+** of it. */
 static void go_on(wanzoche *slot, int file) {
     char why[WANZOCHE_MESSAGE];
     size_t length;
@@ -59,7 +61,9 @@ static void go_on(wanzoche *slot, int file) {
         fprintf(stderr, "lasting: the log: %s\n", why);
         exit(5);
     }
-    if (opened.number < length && ftruncate(file, (off_t)opened.number)) fail("the log can't be cut");
+    if (opened.number == length) return;
+    fprintf(stderr, "lasting: cut off what a crash has left: %zu bytes\n", length - (size_t)opened.number);
+    if (ftruncate(file, (off_t)opened.number)) fail("the log can't be cut");
 }
 
 /* Puts a line on the disk, whole or not at all. */
@@ -78,47 +82,71 @@ static void keep(int file, const char *line) {
     fail("the log can't be written");
 }
 
+typedef struct Attempt {
+    bool is_start;
+    uint32_t worker;
+    uint32_t operation;  /* of a start */
+    uint64_t activation; /* of a finish */
+} Attempt;
+
+/* Reads an attempt. False unless the text is spelled as a line of the log spells it: that line begins with the text as it came. */
+static bool read_attempt(wanzoche *slot, const char *text, Attempt *attempt) {
+    uint64_t worker, activation;
+    char name[33], spelled[LINE];
+    if (sscanf(text, "%19" SCNu64 " start %32s", &worker, name) == 2) {
+        int64_t operation = wanzoche_operation(slot, name, strlen(name));
+        if (operation < 0) return false;
+        *attempt = (Attempt){.is_start = true, .worker = (uint32_t)worker, .operation = (uint32_t)operation};
+        snprintf(spelled, sizeof spelled, "%" PRIu32 " start %s", attempt->worker, name);
+    } else if (sscanf(text, "%19" SCNu64 " finish %19" SCNu64, &worker, &activation) == 2) {
+        *attempt = (Attempt){.worker = (uint32_t)worker, .activation = activation};
+        snprintf(spelled, sizeof spelled, "%" PRIu32 " finish %" PRIu64, attempt->worker, activation);
+    } else {
+        return false;
+    }
+    return strcmp(text, spelled) == 0;
+}
+
 /* The line of a reply. False if there is no such line: the room is used up. */
-static int write_line(char *line, const char *attempt, wanzoche_answer owed) {
-    int has_number = owed.code == WANZOCHE_STARTED || owed.code == WANZOCHE_BLOCKED;
+static bool write_line(char *line, const char *attempt, wanzoche_answer owed) {
+    bool has_number = owed.code == WANZOCHE_STARTED || owed.code == WANZOCHE_BLOCKED;
     const char *words = wanzoche_words(owed.code);
-    if (owed.code == WANZOCHE_NO_ROOM) return 0;
+    if (owed.code == WANZOCHE_NO_ROOM) return false;
     if (has_number)
         snprintf(line, LINE, "%s: %s %" PRIu64 "\n", attempt, words, owed.number);
     else
         snprintf(line, LINE, "%s: %s\n", attempt, words);
-    return 1;
+    return true;
 }
 
 /* First the line of the reply that is owed, then the attempt, which gets that reply, and then the answer. */
-static void answer(wanzoche *slot, int file, const char *attempt) {
-    unsigned worker;
-    uint64_t activation;
-    char name[33] = "", line[LINE];
-    int is_start = sscanf(attempt, "%u start %32s", &worker, name) == 2;
-    int64_t operation = wanzoche_operation(slot, name, strlen(name));
-    if (is_start ? operation < 0 : sscanf(attempt, "%u finish %" SCNu64, &worker, &activation) != 2) {
-        fprintf(stderr, "lasting: not an attempt: %s\n", attempt);
+static void answer(wanzoche *slot, int file, const char *text) {
+    Attempt it;
+    char line[LINE];
+    if (!read_attempt(slot, text, &it)) {
+        fprintf(stderr, "lasting: not an attempt: %s\n", text);
         return;
     }
     wanzoche_answer owed =
-        is_start ? wanzoche_owed_start(slot, worker, (uint32_t)operation) : wanzoche_owed_finish(slot, worker, activation);
-    if (!write_line(line, attempt, owed)) {
-        fprintf(stderr, "lasting: no room for %s\n", attempt);
+        it.is_start ? wanzoche_owed_start(slot, it.worker, it.operation) : wanzoche_owed_finish(slot, it.worker, it.activation);
+    if (!write_line(line, text, owed)) {
+        fprintf(stderr, "lasting: no room for %s\n", text);
         return;
     }
     keep(file, line);
-    if (is_start)
-        wanzoche_start(slot, worker, (uint32_t)operation);
+    if (it.is_start)
+        wanzoche_start(slot, it.worker, it.operation);
     else
-        wanzoche_finish(slot, worker, activation);
+        wanzoche_finish(slot, it.worker, it.activation);
     fputs(line, stdout);
     fflush(stdout);
 }
 
 int main(int count, char **words) {
     wanzoche slot = WANZOCHE_CLOSED_HANDLE;
-    char attempt[64];
+    char *text = NULL;
+    size_t room = 0;
+    ssize_t length;
     if (count != 2) {
         fputs("usage: lasting FILE\n", stderr);
         return 2;
@@ -127,10 +155,14 @@ int main(int count, char **words) {
     int file = open_log(words[1]);
     go_on(&slot, file);
     fprintf(stderr, "lasting: %" PRIu32 " in progress\n", wanzoche_live(&slot));
-    while (fgets(attempt, sizeof attempt, stdin)) {
-        attempt[strcspn(attempt, "\n")] = 0;
-        answer(&slot, file, attempt);
+    while ((length = getline(&text, &room, stdin)) > 0) {
+        if (text[length - 1] == '\n') text[--length] = 0;
+        if (strlen(text) == (size_t)length)
+            answer(&slot, file, text);
+        else
+            fputs("lasting: not an attempt: it has a zero byte\n", stderr);
     }
+    free(text);
     wanzoche_close(&slot);
     return 0;
 }
