@@ -624,9 +624,19 @@ class Ends(unittest.TestCase):
     def forked(call):
         try:
             call()
-        except Forked:
-            return True
+        except Forked as error:
+            return "`store=`" in str(error)
         return False
+
+    def test_what_belongs_to_a_process_is_not_copied(self):
+        """For another process there is a store, and the refusal says so."""
+        paths = Paths(SLOT)
+        with paths("deposit") as entry:
+            for one in (paths, entry, paths("remove"), paths.aio("remove")):
+                for copies in (pickle.dumps, copy.copy, copy.deepcopy):
+                    with self.assertRaisesRegex(TypeError, "^(paths belong|an entry belongs) to one process, .* Paths[(]TEXT, store=FILE[)]"):
+                        copies(one)
+        self.assertTrue(paths.audit())
 
 
 if __name__ == "__main__":

@@ -2,6 +2,7 @@
 
 import asyncio
 import contextlib
+import copy
 import fcntl
 import gc
 import multiprocessing
@@ -218,6 +219,13 @@ class Sharing(InFolder, unittest.TestCase):
                 entry.put(3)
                 self.assertIn(b"put 3: used 0\n", durable[0])
             self.assertIn(b"finished\n", durable[0])
+
+    def test_what_belongs_to_a_process_is_not_copied(self):
+        paths = self.open(SLOT)
+        for one in (paths, paths("deposit"), paths.aio("deposit")):
+            for copies in (pickle.dumps, copy.copy, copy.deepcopy):
+                with self.assertRaisesRegex(TypeError, "^(paths belong|an entry belongs) to one process, .* Paths[(]TEXT, store=FILE[)]"):
+                    copies(one)
 
     def test_options_are_checked(self):
         for options in ({"log": []}, {"journal": False}, {"room": 0}, {"lost": "maybe"}):

@@ -24,6 +24,12 @@ _VERBS = ("put {}", "take", "look", "add {}")
 _OFFERED = {"cell": "put and look", "queue": "put, take and look", "tally": "add and look"}
 
 
+def not_copied(whose: str) -> TypeError:
+    """What a copy of it gets, also one for another process."""
+    told = "{} to one process, and can't be copied or pickled: let the other process open Paths(TEXT, store=FILE), and they share the paths"
+    return TypeError(told.format(whose))
+
+
 def raise_refused_use(operation: Operation, code: int, verb: int, number: int) -> NoReturn:
     """Raises what a use gets that is refused."""
     if code == native.NO_ROOM:
@@ -123,6 +129,9 @@ class Entry(Base):
 
     def _not_in_progress(self) -> NotInProgress:
         return NotInProgress("this entry of {} isn't in progress".format(self.operation))
+
+    def __reduce__(self) -> NoReturn:
+        raise not_copied("an entry belongs")
 
     def __repr__(self) -> str:
         operation = self._operation

@@ -162,4 +162,5 @@ class Closed(WanzocheError):
 
 
 class Forked(Closed):
-    """The paths belong to the parent of this process, and nothing of them is shared with it. Open others in the child."""
+    """The paths belong to the parent of this process, and nothing of them is shared with it. Open others in the child; those that both open
+    with the same `store=` are shared."""

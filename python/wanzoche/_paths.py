@@ -12,10 +12,10 @@ import threading
 import warnings
 import weakref
 from types import TracebackType
-from typing import Any, Awaitable, Callable, Dict, Iterator, List, Optional, Tuple, Type, TypeVar, Union, cast
+from typing import Any, Awaitable, Callable, Dict, Iterator, List, NoReturn, Optional, Tuple, Type, TypeVar, Union, cast
 
 from . import _native as native
-from ._entries import AsyncEntry, Calls, Entry, System
+from ._entries import AsyncEntry, Calls, Entry, System, not_copied
 from ._errors import Blocked, Closed, DeclarationError, Forked, JournalError, NoJournal, UnknownOperation
 from ._resumed import Journal, live_workers
 from ._texts import TASKS, Live, Path, Report, Verdict, read_declaration, read_report, without_marks, worker_name
@@ -306,6 +306,9 @@ class Paths(System):
     ) -> None:
         self.close()
 
+    def __reduce__(self) -> NoReturn:
+        raise not_copied("paths belong")
+
     def __repr__(self) -> str:
         return "<Paths: {}>".format("; ".join("path " + path.text for path in self._paths_of_text) or "no path")
 
@@ -353,7 +356,7 @@ class Paths(System):
 
     def _closed(self) -> Closed:
         if self._forked:
-            return Forked("these paths belong to the parent of this process: open others here")
+            return Forked("these paths belong to the parent of this process: open others here, and with one `store=` both share them")
         return Closed("these paths were closed")
 
     def _made_room(self, before: Optional[int]) -> bool:
