@@ -12,6 +12,21 @@ from wanzoche import Paths
 from .declarations import BOOK, SLOT
 from .stores import InFolder
 
+SAYS_HELLO = """
+import os, sys
+def is_open(stream):
+    try:
+        return bool(os.fstat(stream))
+    except OSError:
+        return False
+streams = [stream for stream in range(3) if is_open(stream)]
+for stream in set(streams) - {0}:
+    os.write(stream, b"hello")
+with open(sys.argv[1], "w") as file:
+    file.write(str(streams))
+sys.exit(4)
+"""
+
 
 class Commands(InFolder, unittest.TestCase):
     def setUp(self):
@@ -101,6 +116,43 @@ class Commands(InFolder, unittest.TestCase):
             process.stdin.close()
             process.stdout.read()  # until it has ended
         paths.enter("read", timeout=20).leave()
+
+    def runs_without(self, streams, command, *words):
+        """The same where these of the streams 0 to 2 are closed."""
+        ended = subprocess.run(
+            self.words(command, *words), stdin=subprocess.DEVNULL, stdout=subprocess.PIPE, stderr=subprocess.PIPE, timeout=60,
+            preexec_fn=lambda: [os.close(stream) for stream in streams],
+        )  # fmt: skip
+        return ended.stdout.decode(), ended.stderr.decode(), ended.returncode
+
+    def test_streams_that_are_closed(self):
+        """They are closed for the command, too. No file of the store takes their place: what is written there would stand in it."""
+        paths, told = self.open(BOOK), os.path.join(self.folder, "told")
+        words = ["write", "--", sys.executable, "-c", SAYS_HELLO, told]
+        for streams in ((0, 1), (0, 1, 2), (1,), (2,), (1, 2), (0,), ()):
+            with self.subTest(streams):
+                texts = ["" if stream in streams else "hello" for stream in (1, 2)]
+                self.assertEqual(self.runs_without(streams, "exec", *words), (*texts, 4))
+                with open(told) as file:
+                    self.assertEqual(file.read(), str([stream for stream in range(3) if stream not in streams]))
+                self.assertEqual(paths._store._beside.declaration(), paths._store._replica.declaration())
+                paths.enter("write", timeout=0).leave()
+                self.assertTrue(paths.audit())
+
+    def test_what_cannot_be_told(self):
+        """Where standard error is closed nothing is said, and the status is the same. What goes to a closed standard output fails."""
+        paths = self.open(BOOK)
+        with paths("write"):
+            self.assertEqual(self.runs_without((2,), "exec", "--nonblock", "read", "--", "true"), ("", "", 1))
+        self.assertEqual(self.runs_without((2,), "exec", "steal", "--", "true"), ("", "", 125))
+        self.assertEqual(self.runs_without((2,), "exec", "read", "--", "no-such-command"), ("", "", 127))
+        self.assertEqual(self.runs_without((2,), "exec", "--nothing"), ("", "", 125))
+        self.assertEqual(self.runs_without((2,), "audit"), ("sound\n", "", 0))
+        for command in (["status"], ["log"], ["audit"], ["watch"], ["operations"], ["recover", "1"]):
+            self.assertEqual(self.runs_without((1,), *command), ("", "wanzoche: standard output is closed\n", 1))
+        with open("/dev/full", "w") as full:
+            ended = subprocess.run(self.words("log"), stdout=full, stderr=subprocess.PIPE, timeout=60)
+        self.assertEqual((ended.stderr, ended.returncode), (b"wanzoche: standard output: No space left on device\n", 1))
 
     def test_recovery(self):
         def holds():

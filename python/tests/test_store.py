@@ -175,6 +175,27 @@ class Sharing(InFolder, unittest.TestCase):
         with again("remove") as entry:
             self.assertEqual((entry.look(), entry.token), (5, 1))
 
+    def test_no_file_becomes_a_standard_stream(self):
+        """Where these are closed: what a program writes there would stand in a file of the store."""
+
+        def opens():
+            for stream in range(3):
+                os.close(stream)
+            paths = Paths(LINE, store=self.file, room=8)
+            opened = []
+            with mock.patch.object(_store, "read", lambda fd, *given: opened.append(fd) or read(fd, *given)):
+                for operation in ("put", "get") * 3:
+                    paths.enter(operation).leave()
+                    paths.journal()
+                    paths.rotate()
+            self.assertGreater(min(opened), 2)
+            for stream in range(3):
+                with self.assertRaises(OSError):
+                    os.fstat(stream)
+
+        read = _store.read
+        self.ends_well(opens)
+
     def test_two_syncs_are_one(self):
         paths = self.open(BOOK)
         synced, entries = [], []

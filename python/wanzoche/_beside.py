@@ -8,6 +8,7 @@ of each worker's process.
 
 from __future__ import annotations
 
+import contextlib
 import ctypes
 import errno
 import fcntl
@@ -17,7 +18,7 @@ import platform
 import struct
 import time
 from ctypes import c_uint8, c_uint32, c_uint64
-from typing import Any, Optional
+from typing import Any, Iterator, List, Optional
 
 from ._errors import StoreError
 
@@ -59,7 +60,7 @@ class Beside:
     """What one opening of a store has of the file."""
 
     def __init__(self, path: str) -> None:
-        self.fd = os.open(path, os.O_RDWR | os.O_CLOEXEC)
+        self.fd = open_file(path, os.O_RDWR)
         """The file with the locks; a child of a fork that keeps it keeps the presence, too."""
         try:
             self.page = self._mapped(path)
@@ -97,11 +98,12 @@ class Beside:
             raise StoreError("{} isn't the file that a store has beside its journal".format(path))
         if version != VERSION:
             raise StoreError("{} is of version {}, and this package has {}".format(path, version, VERSION))
-        mapped = os.open(path, os.O_RDWR | os.O_CLOEXEC)  # a mapping keeps its descriptor, and a child of a fork would keep the locks of it
-        try:
-            return mmap.mmap(mapped, PAGE)
-        finally:
-            os.close(mapped)
+        with no_stream_is_free():
+            mapped = os.open(path, os.O_RDWR | os.O_CLOEXEC)  # a mapping keeps its descriptor, and a child of a fork would keep the locks of it
+            try:
+                return mmap.mmap(mapped, PAGE)
+            finally:
+                os.close(mapped)
 
     def declaration(self) -> str:
         """The declaration of the store."""
@@ -194,11 +196,31 @@ class Beside:
         return True
 
 
+@contextlib.contextmanager
+def no_stream_is_free() -> Iterator[None]:
+    """Meanwhile no file that is opened becomes a standard stream of this process that is closed, in which all that is written there would
+    stand. Nothing can be read from or written to what stands in its place."""
+    taken: List[int] = []
+    try:
+        while not taken or taken[-1] <= 2:
+            taken.append(os.open("/", os.O_PATH | os.O_CLOEXEC))
+        yield
+    finally:
+        for each in taken:
+            os.close(each)
+
+
+def open_file(path: str, flags: int) -> int:
+    """Opens a file of a store, which no program gets that this process runs. It is never one of the standard streams."""
+    with no_stream_is_free():
+        return os.open(path, flags | os.O_CLOEXEC, 0o666)
+
+
 def make(path: str, declaration: str) -> None:
     """Makes the file, whole or not at all. One that is there is left as it is."""
     text = declaration.encode("ascii")
     part = "{}.{}.{}".format(path, os.getpid(), time.monotonic_ns())
-    fd = os.open(part, os.O_WRONLY | os.O_CREAT | os.O_EXCL | os.O_CLOEXEC, 0o666)
+    fd = open_file(part, os.O_WRONLY | os.O_CREAT | os.O_EXCL)
     try:
         os.write(fd, _HEAD.pack(_MAGIC, VERSION, len(text)).ljust(PAGE, b"\0") + text)
         os.fsync(fd)

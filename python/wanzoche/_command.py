@@ -91,9 +91,38 @@ def _check_exec(given: Any, text: bytes) -> None:
 def _operations(given: Any) -> int:
     """Writes the names of the operations. The store isn't opened, so nothing of it changes."""
     with Paths(_declaration(given), journal=False, room=1) as paths:
-        for name in paths.operations:
-            print(name)
+        _write("".join(name + "\n" for name in paths.operations))
     return 0
+
+
+def _write(text: str) -> None:
+    """Writes to standard output. Raises WanzocheError if that fails, but `BrokenPipeError` if whoever reads there has enough."""
+    try:
+        sys.stdout.write(text)
+        sys.stdout.flush()
+    except BrokenPipeError:
+        raise
+    except OSError as error:
+        _leave_to_nobody(sys.stdout)
+        raise WanzocheError("standard output: {}".format(error.strerror)) from error
+
+
+def _leave_to_nobody(stream: Any) -> None:
+    """What a stream still has isn't written any more, as Python would at its end, and nothing is said of that."""
+    nobody = os.open(os.devnull, os.O_WRONLY | os.O_CLOEXEC)
+    os.dup2(nobody, stream.fileno())
+    os.close(nobody)
+
+
+def _take_closed_streams() -> None:
+    """A standard stream that is closed is taken, so that nothing else becomes it. A command that is run gets it closed, as it was."""
+    for stream in range(3):
+        try:
+            os.fstat(stream)
+        except OSError:
+            os.open(os.devnull, os.O_RDWR | os.O_CLOEXEC)  # as this one, which is the lowest that is free
+    if sys.stderr is None:
+        sys.stderr = open(os.devnull, "w")
 
 
 class _Told:
@@ -182,13 +211,12 @@ def _run(words: List[str], environment: Any, paths: StoredPaths) -> int:
 
 def _status(paths: StoredPaths) -> int:
     report = paths.report()
-    sys.stdout.write(report.text)
-    for each in report.lost:
-        print("lost {} {} {}".format(each.activation, each.worker.split()[-1], each.operation))
+    told = ["lost {} {} {}\n".format(each.activation, each.worker.split()[-1], each.operation) for each in report.lost]
     for worker in dict.fromkeys(int(each.worker.split()[-1]) for each in report.live):
         process = paths._store.process_of(worker)
         if process:
-            print("process {} {}".format(worker, process))
+            told.append("process {} {}\n".format(worker, process))
+    _write(report.text + "".join(told))
     return 0
 
 
@@ -200,8 +228,7 @@ def _watch(paths: StoredPaths) -> int:
     while True:
         before = end.value  # before the lines are read: what comes meanwhile is seen then, or changes it
         journal = paths.journal()
-        sys.stdout.write(journal[written:])
-        sys.stdout.flush()
+        _write(journal[written:])
         written = len(journal)
         while end.value == before:
             time.sleep(0.05)
@@ -212,8 +239,7 @@ def _watch_served(paths: ServedPaths) -> int:
     written = 0
     while True:
         text = "".join(paths._served.texts_from(written))
-        sys.stdout.write(text)
-        sys.stdout.flush()
+        _write(text)
         written += text.count("\n")
         time.sleep(0 if text else 0.2)
 
@@ -226,12 +252,12 @@ def _do(paths: StoredPaths, given: Any) -> int:
     if given.command == "watch":
         return _watch(paths)
     if given.command == "recover":
-        print("finished {}".format(paths.recover(given.worker, given.even_alive)))
+        _write("finished {}\n".format(paths.recover(given.worker, given.even_alive)))
     elif given.command == "log":
-        sys.stdout.write(paths.journal())
+        _write(paths.journal())
     else:
         verdict = paths.audit()
-        print(verdict)
+        _write("{}\n".format(verdict))
         return 0 if verdict else WRONG_LINE
     return 0
 
@@ -247,8 +273,11 @@ def _given(words: Optional[List[str]]) -> Any:
 
 def main(words: Optional[List[str]] = None) -> int:
     """What the command does with these words: its status."""
+    _take_closed_streams()
     given = _given(words)
     try:
+        if sys.stdout is None and given.command != "exec":
+            raise WanzocheError("standard output is closed")
         if given.command == "operations":
             return _operations(given)
         with _opened(given) as paths:

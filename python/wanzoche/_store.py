@@ -12,7 +12,7 @@ from collections import deque
 from typing import TYPE_CHECKING, Any, Callable, Deque, Dict, List, Optional, Protocol, Tuple, TypeVar, cast
 
 from . import _native as native
-from ._beside import Beside, make, sync_folder
+from ._beside import Beside, make, open_file, sync_folder
 from ._errors import Closed, CorruptStore, Lost, OtherDeclaration, StoreError, StoreInUse
 from ._form import core
 from ._replica import ROOM, Refusal, Replica
@@ -58,7 +58,7 @@ class Lines:
 
     def __init__(self, path: str, flags: int = os.O_CREAT) -> None:
         self.path = path
-        self.fd = os.open(path, os.O_RDWR | os.O_APPEND | os.O_CLOEXEC | flags, 0o666)
+        self.fd = open_file(path, os.O_RDWR | os.O_APPEND | flags)
 
     def has_to_itself(self, beside: str) -> bool:
         """Locks the file: True if no other program has it open, and then for none but this; False beside others that share it."""
@@ -785,7 +785,7 @@ class Store(Turns):
 
     def texts(self) -> List[str]:
         """All lines of the journal so far, without their marks and without heads: those of each file."""
-        count, file, end = self._in_turn(lambda: (self._segment, os.dup(self._lines.fd), self._end))
+        count, file, end = self._in_turn(lambda: (self._segment, fcntl.fcntl(self._lines.fd, fcntl.F_DUPFD_CLOEXEC, 3), self._end))
         texts = []
         for segment in range(count):
             with open(self._archive(segment), "rb") as archive:
