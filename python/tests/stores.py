@@ -12,6 +12,9 @@ from wanzoche import Paths
 THOROUGH = not os.environ.get("WANZOCHE_FEWER")
 """Whether tests that take long are made, too."""
 
+ANOTHER = 54321
+"""The number of a user and of a group that aren't those of the tests."""
+
 
 def only_in_python(store):
     """From now on this store makes its turns in Python, also where the package has its core."""
@@ -64,6 +67,18 @@ class InFolder:
         while not condition():
             self.assertLess(time.monotonic(), end, "it never comes")
             time.sleep(0.001)
+
+    def as_another(self, work, *groups):
+        """The same as another user with these groups, where that can be: only root can. The user may write to the folder."""
+
+        def is_another():
+            os.setgroups(groups)
+            os.setgid(ANOTHER)
+            os.setuid(ANOTHER)
+            work()
+
+        os.chmod(self.folder, 0o777)
+        self.ends_well(work if os.getuid() else is_another)
 
     def ends_well(self, work):
         """In another process, which has to end well."""

@@ -12,6 +12,7 @@ import random
 import re
 import resource
 import signal
+import stat
 import subprocess
 import sys
 import threading
@@ -42,7 +43,7 @@ from wanzoche._texts import read_declaration
 from .declarations import BOOK, LINE, SLOT
 from .test_core import _testcapi, lacking_memory
 from .interrupts import Interrupt, at_instruction, interrupt, no_longer_than
-from .stores import THOROUGH, InFolder
+from .stores import ANOTHER, THOROUGH, InFolder
 
 WRITTEN = b"""journal 3 room 1048576
 1 start put: started 0
@@ -304,6 +305,62 @@ class Sharing(InFolder, unittest.TestCase):
                         self.assertEqual(paths.journal(), (other or paths).journal())
                     if other:
                         other.close()
+
+    def access(self, end=""):
+        """Who may do what with the journal: its mode, its owner and its group."""
+        found = os.stat(self.file + end)
+        return stat.S_IMODE(found.st_mode), found.st_uid, found.st_gid
+
+    def test_a_new_file_has_the_access_of_the_one_before(self):
+        """Whoever moves it away, root too: else the others couldn't go on."""
+        with Paths(SLOT, store=self.file):
+            pass
+        os.unlink(self.file + ".shared")
+        os.chmod(self.file, 0o640)
+        if os.getuid() == 0:
+            os.chown(self.file, ANOTHER, ANOTHER + 1)
+        elif len(os.getgroups()) > 1:
+            os.chown(self.file, -1, max(os.getgroups()))
+        before = self.access()
+        before_umask = os.umask(0)
+        self.addCleanup(os.umask, before_umask)
+        paths = self.open(SLOT)
+        self.assertEqual(self.access(".shared"), before)
+        for umask in (0, 0o077):
+            os.umask(umask)
+            paths.enter(paths.report().startable[0]).leave()
+            paths.rotate()
+            self.assertEqual((self.access(), self.access(".1")), (before, before))
+
+    @unittest.skipUnless(os.getuid() == 0, "only root has files of others")
+    def test_a_new_file_has_as_much_of_it_as_may_be(self):
+        """By a user who isn't its owner: the group stays if it is one of that user's. Else the new group gets no more than all others."""
+        for groups, before, after in (
+            ((ANOTHER + 1,), (0o664, 0, ANOTHER + 1), (0o664, ANOTHER, ANOTHER + 1)),
+            ((), (0o676, 0, ANOTHER + 1), (0o666, ANOTHER, ANOTHER)),
+        ):
+            self.file = "{}/{}.log".format(self.folder, len(groups))
+            with Paths(SLOT, store=self.file) as paths:
+                paths.enter("deposit").leave()
+            for end in ("", ".shared"):
+                os.chown(self.file + end, *before[1:])
+                os.chmod(self.file + end, before[0])
+            self.as_another(lambda: Paths(SLOT, store=self.file).rotate(), *groups)
+            self.assertEqual((self.access(), self.access(".1")), (after, before))
+
+    def test_what_a_move_has_left_is_no_obstacle(self):
+        """As of another user, who died in the middle of it."""
+        paths = self.open(SLOT)
+        paths.enter("deposit").leave()
+        with open(self.file + ".new", "w"):
+            pass
+        os.chmod(self.file + ".new", 0)
+        before = self.access()
+        paths.rotate()
+        self.assertFalse(os.path.exists(self.file + ".new"))
+        self.assertEqual(self.access(), before)
+        paths.enter("remove").leave()
+        self.assertTrue(paths.audit())
 
     def moves_until(self, step, is_behind):
         paths = Paths(SLOT, store=self.file)

@@ -8,7 +8,6 @@ of each worker's process.
 
 from __future__ import annotations
 
-import contextlib
 import ctypes
 import errno
 import fcntl
@@ -18,9 +17,10 @@ import platform
 import struct
 import time
 from ctypes import c_uint8, c_uint32, c_uint64
-from typing import Any, Iterator, List, Optional
+from typing import Any, Optional
 
 from ._errors import StoreError
+from ._files import give_access, no_stream_is_free, open_file, sync_folder, write
 
 VERSION = 1
 """Of this file's form. A package refuses a store of another one."""
@@ -196,33 +196,14 @@ class Beside:
         return True
 
 
-@contextlib.contextmanager
-def no_stream_is_free() -> Iterator[None]:
-    """Meanwhile no file that is opened becomes a standard stream of this process that is closed, in which all that is written there would
-    stand. Nothing can be read from or written to what stands in its place."""
-    taken: List[int] = []
-    try:
-        while not taken or taken[-1] <= 2:
-            taken.append(os.open("/", os.O_PATH | os.O_CLOEXEC))
-        yield
-    finally:
-        for each in taken:
-            os.close(each)
-
-
-def open_file(path: str, flags: int) -> int:
-    """Opens a file of a store, which no program gets that this process runs. It is never one of the standard streams."""
-    with no_stream_is_free():
-        return os.open(path, flags | os.O_CLOEXEC, 0o666)
-
-
-def make(path: str, declaration: str) -> None:
-    """Makes the file, whole or not at all. One that is there is left as it is."""
+def make(path: str, declaration: str, like: os.stat_result) -> None:
+    """Makes the file, whole or not at all, with the access of another. One that is there is left as it is."""
     text = declaration.encode("ascii")
     part = "{}.{}.{}".format(path, os.getpid(), time.monotonic_ns())
-    fd = open_file(part, os.O_WRONLY | os.O_CREAT | os.O_EXCL)
+    fd = open_file(part, os.O_WRONLY | os.O_CREAT | os.O_EXCL, 0o600)
     try:
-        os.write(fd, _HEAD.pack(_MAGIC, VERSION, len(text)).ljust(PAGE, b"\0") + text)
+        give_access(fd, like)
+        write(fd, _HEAD.pack(_MAGIC, VERSION, len(text)).ljust(PAGE, b"\0") + text)
         os.fsync(fd)
         os.link(part, path)
     except FileExistsError:
@@ -231,12 +212,3 @@ def make(path: str, declaration: str) -> None:
         os.close(fd)
         os.unlink(part)
     sync_folder(path)
-
-
-def sync_folder(path: str) -> None:
-    """Syncs the folder of a file, so that the file is found there after a crash."""
-    fd = os.open(os.path.dirname(path) or ".", os.O_RDONLY | os.O_CLOEXEC)
-    try:
-        os.fsync(fd)
-    finally:
-        os.close(fd)

@@ -2,6 +2,7 @@
 
 from __future__ import annotations
 
+import contextlib
 import errno
 import fcntl
 import os
@@ -12,8 +13,9 @@ from collections import deque
 from typing import TYPE_CHECKING, Any, Callable, Deque, Dict, List, Optional, Protocol, Tuple, TypeVar, cast
 
 from . import _native as native
-from ._beside import Beside, make, open_file, sync_folder
+from ._beside import Beside, make
 from ._errors import Closed, CorruptStore, Lost, OtherDeclaration, StoreError, StoreInUse
+from ._files import give_access, open_file, read, sync_folder, write
 from ._form import core
 from ._replica import ROOM, Refusal, Replica
 from ._texts import without_marks
@@ -41,24 +43,12 @@ class Held(Protocol):
     _worker: int
 
 
-def read(fd: int, begin: int, end: int) -> bytes:
-    """What stands in a file there."""
-    parts = []
-    while begin < end:
-        part = os.pread(fd, end - begin, begin)
-        if not part:
-            break
-        parts.append(part)
-        begin += len(part)
-    return b"".join(parts)
-
-
 class Lines:
     """The journal's file: what stands in it, and what is appended."""
 
-    def __init__(self, path: str, flags: int = os.O_CREAT) -> None:
+    def __init__(self, path: str, flags: int = os.O_CREAT, mode: int = 0o666) -> None:
         self.path = path
-        self.fd = open_file(path, os.O_RDWR | os.O_APPEND | flags)
+        self.fd = open_file(path, os.O_RDWR | os.O_APPEND | flags, mode)
 
     def has_to_itself(self, beside: str) -> bool:
         """Locks the file: True if no other program has it open, and then for none but this; False beside others that share it."""
@@ -169,7 +159,7 @@ class Store(Turns):
             is_alone = self._lines.has_to_itself(beside)
             declaration = self._replica.declaration()
             if is_alone and not os.path.exists(beside):
-                make(beside, declaration)
+                make(beside, declaration, os.fstat(self._lines.fd))
             self._beside = Beside(beside)
         except OSError as error:
             raise error if isinstance(error, StoreError) else self._failed("can't be opened", error) from error
@@ -385,9 +375,12 @@ class Store(Turns):
         beside.rotating.value = 1
         head = b"journal 3 room %d\n" % self.room
         try:
-            new = Lines(self.path + ".new", os.O_CREAT | os.O_TRUNC)
+            with contextlib.suppress(FileNotFoundError):
+                os.unlink(self.path + ".new")  # of one who died here
+            new = Lines(self.path + ".new", os.O_CREAT | os.O_EXCL, 0o600)
             self._retired.append(new)  # so that it is closed whatever comes
-            os.write(new.fd, head)
+            give_access(new.fd, os.fstat(self._lines.fd))
+            write(new.fd, head)
             os.fsync(new.fd)
             new.shares()
             os.link(self.path, self._archive(self._segment))
