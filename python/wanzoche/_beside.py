@@ -20,7 +20,7 @@ from ctypes import c_uint8, c_uint32, c_uint64
 from typing import Any, Optional
 
 from ._errors import StoreError
-from ._files import give_access, no_stream_is_free, open_file, sync_folder, write
+from ._files import give_access, no_stream_is_free, open_file, sync_folder, telling, write
 
 VERSION = 1
 """Of this file's form. A package refuses a store of another one."""
@@ -60,13 +60,14 @@ class Beside:
     """What one opening of a store has of the file."""
 
     def __init__(self, path: str) -> None:
-        self.fd = open_file(path, os.O_RDWR)
-        """The file with the locks; a child of a fork that keeps it keeps the presence, too."""
-        try:
-            self.page = self._mapped(path)
-        except BaseException:
-            os.close(self.fd)
-            raise
+        with telling(path, "can't be opened"):
+            self.fd = open_file(path, os.O_RDWR)
+            """The file with the locks; a child of a fork that keeps it keeps the presence, too."""
+            try:
+                self.page = self._mapped(path)
+            except BaseException:
+                os.close(self.fd)
+                raise
         self._word = c_uint32.from_buffer(self.page, 16)
         self.rotating = c_uint32.from_buffer(self.page, 20)
         """1 while somebody moves the journal away; it stays so if that one dies in between."""
@@ -200,15 +201,16 @@ def make(path: str, declaration: str, like: os.stat_result) -> None:
     """Makes the file, whole or not at all, with the access of another. One that is there is left as it is."""
     text = declaration.encode("ascii")
     part = "{}.{}.{}".format(path, os.getpid(), time.monotonic_ns())
-    fd = open_file(part, os.O_WRONLY | os.O_CREAT | os.O_EXCL, 0o600)
-    try:
-        give_access(fd, like)
-        write(fd, _HEAD.pack(_MAGIC, VERSION, len(text)).ljust(PAGE, b"\0") + text)
-        os.fsync(fd)
-        os.link(part, path)
-    except FileExistsError:
-        pass
-    finally:
-        os.close(fd)
-        os.unlink(part)
-    sync_folder(path)
+    with telling(path, "can't be made"):
+        fd = open_file(part, os.O_WRONLY | os.O_CREAT | os.O_EXCL, 0o600)
+        try:
+            give_access(fd, like)
+            write(fd, _HEAD.pack(_MAGIC, VERSION, len(text)).ljust(PAGE, b"\0") + text)
+            os.fsync(fd)
+            os.link(part, path)
+        except FileExistsError:
+            pass
+        finally:
+            os.close(fd)
+            os.unlink(part)
+        sync_folder(path)

@@ -1,4 +1,5 @@
-"""Files as a store has them: none becomes a standard stream, each is written whole, and a new one has the access of the one before it."""
+"""Files as a store has them: none becomes a standard stream, each is written whole, a new one has the access of the one before it, and what
+the system refuses is told as the store's fault."""
 
 from __future__ import annotations
 
@@ -6,6 +7,30 @@ import contextlib
 import errno
 import os
 from typing import Any, Callable, Iterator, List
+
+from ._errors import StoreError
+
+
+def is_of_system(error: OSError) -> bool:
+    """Whether the system has refused something. A store's exceptions are no such ones, nor are those that a signal handler raises, as
+    TimeoutError."""
+    return error.errno is not None
+
+
+def refused(path: str, what: str, error: OSError) -> StoreError:
+    """What is told where the system refuses something."""
+    return StoreError("{} {}: {}".format(path, what, error.strerror))
+
+
+@contextlib.contextmanager
+def telling(path: str, what: str) -> Iterator[None]:
+    """Where the system refuses something meanwhile, `StoreError` says that this can't be done to this file, and why."""
+    try:
+        yield
+    except OSError as error:
+        if not is_of_system(error):
+            raise
+        raise refused(path, what, error) from error
 
 
 @contextlib.contextmanager

@@ -3,7 +3,6 @@
 from __future__ import annotations
 
 import contextlib
-import errno
 import fcntl
 import os
 import re
@@ -15,7 +14,7 @@ from typing import TYPE_CHECKING, Any, Callable, Deque, Dict, List, Optional, Pr
 from . import _native as native
 from ._beside import Beside, make
 from ._errors import Closed, CorruptStore, Lost, OtherDeclaration, StoreError, StoreInUse
-from ._files import give_access, open_file, read, sync_folder, write
+from ._files import give_access, is_of_system, open_file, read, refused, sync_folder, telling, write
 from ._form import core
 from ._replica import ROOM, Refusal, Replica
 from ._texts import without_marks
@@ -48,7 +47,8 @@ class Lines:
 
     def __init__(self, path: str, flags: int = os.O_CREAT, mode: int = 0o666) -> None:
         self.path = path
-        self.fd = open_file(path, os.O_RDWR | os.O_APPEND | flags, mode)
+        with telling(path, "can't be opened"):
+            self.fd = open_file(path, os.O_RDWR | os.O_APPEND | flags, mode)
 
     def has_to_itself(self, beside: str) -> bool:
         """Locks the file: True if no other program has it open, and then for none but this; False beside others that share it."""
@@ -129,9 +129,9 @@ class Store(Turns):
             return answer
         try:
             self._lines = self._journal()
-        except OSError as error:
+        except BaseException:
             self._replica.close()
-            raise error if isinstance(error, StoreError) else self._failed("can't be opened", error) from error
+            raise
         try:
             self._begin()
         except BaseException:
@@ -146,34 +146,36 @@ class Store(Turns):
         beside = self.path + ".shared"
         if not os.path.exists(beside):
             return Lines(self.path)
-        try:
-            return Lines(self.path, 0)
-        except FileNotFoundError as error:
+        if not os.path.exists(self.path):
             told = "{} is gone, and {}, which belongs to it, is there: put the journal back, or remove that file, too, to begin anew"
-            raise StoreError(told.format(self.path, beside)) from error
+            raise StoreError(told.format(self.path, beside))
+        return Lines(self.path, 0)
 
     def _begin(self) -> None:
         """The rest, once the journal is open."""
         beside = self.path + ".shared"
-        try:
+        declaration = self._replica.declaration()
+        with telling(self.path, "can't be opened"):
             is_alone = self._lines.has_to_itself(beside)
-            declaration = self._replica.declaration()
             if is_alone and not os.path.exists(beside):
                 make(beside, declaration, os.fstat(self._lines.fd))
-            self._beside = Beside(beside)
-        except OSError as error:
-            raise error if isinstance(error, StoreError) else self._failed("can't be opened", error) from error
+        self._beside = Beside(beside)
         try:
-            told = difference(self._beside.declaration(), declaration)
-            if told:
-                raise OtherDeclaration("{} is of another declaration: {}".format(self.path, told))
-            self._aim_at_turns()
-            self._in_turn(self._join, is_alone)
-            self._lines.shares()
+            with telling(self.path, "can't be opened"):
+                self._has_to_be_of(declaration)
+                self._aim_at_turns()
+                self._in_turn(self._join, is_alone)
+                self._lines.shares()
         except BaseException:
             self._is_ready = False
             self._beside.close()
             raise
+
+    def _has_to_be_of(self, declaration: str) -> None:
+        """Raises `OtherDeclaration` if the store is of another one."""
+        told = difference(self._beside.declaration(), declaration)
+        if told:
+            raise OtherDeclaration("{} is of another declaration: {}".format(self.path, told))
 
     def _aim_at_turns(self) -> None:
         """So that turns can be made in C."""
@@ -248,8 +250,7 @@ class Store(Turns):
         if self._lines.path != self.path or not is_alone or not (is_torn or not head.strip(b"\0") and len(head) < 64):
             raise self._broken("it has no head as `journal 3 room 1048576`", 1)
         os.ftruncate(self._lines.fd, 0)
-        text = b"journal 3 room %d\n" % self.room
-        self._append(text)
+        self._append(self._head())
         self._beside.synced.value = self._base
         os.fsync(self._lines.fd)
         sync_folder(self.path)
@@ -257,7 +258,17 @@ class Store(Turns):
     # Turns
 
     def _in_turn(self, work: Callable[..., T], *given: Any) -> T:
-        """What a call returns that is made in this process's turn. An exception in it makes the next turn begin from the journal."""
+        """What a call returns that is made in this process's turn. An exception in it makes the next turn begin from the journal. Raises
+        `StoreError` where the system refuses something."""
+        try:
+            return self._in_any_turn(work, *given)
+        except OSError as error:
+            if not is_of_system(error):
+                raise
+            raise refused(self.path, "can't be used", error) from error
+
+    def _in_any_turn(self, work: Callable[..., T], *given: Any) -> T:
+        """The same, but that the system's exceptions come as they are."""
         if self._has_turn():
             raise RuntimeError("this thread has its turn at {} already: what interrupts it has to do without".format(self.path))
         try:
@@ -373,26 +384,33 @@ class Store(Turns):
         beside = self._beside
         self._lines_are_synced()
         beside.rotating.value = 1
-        head = b"journal 3 room %d\n" % self.room
-        try:
-            with contextlib.suppress(FileNotFoundError):
-                os.unlink(self.path + ".new")  # of one who died here
-            new = Lines(self.path + ".new", os.O_CREAT | os.O_EXCL, 0o600)
-            self._retired.append(new)  # so that it is closed whatever comes
-            give_access(new.fd, os.fstat(self._lines.fd))
-            write(new.fd, head)
-            os.fsync(new.fd)
-            new.shares()
+        with telling(self.path, "can't be moved away"):
+            new = self._new_file()
             os.link(self.path, self._archive(self._segment))
             os.rename(self.path + ".new", self.path)
             sync_folder(self.path)
-        except OSError as error:
-            raise self._failed("can't be moved away", error) from error
         self._retired.remove(new)
+        end = new.size()
         self._retire(self._lines)
-        self._lines, self._end = new, len(head)
+        self._lines, self._end = new, end
         self._lines.path = self.path
         self._tell_rotation()
+
+    def _new_file(self) -> Lines:
+        """A file with a head, which takes the journal's place. It is closed whatever comes."""
+        with contextlib.suppress(FileNotFoundError):
+            os.unlink(self.path + ".new")  # of one who died here
+        new = Lines(self.path + ".new", os.O_CREAT | os.O_EXCL, 0o600)
+        self._retired.append(new)
+        give_access(new.fd, os.fstat(self._lines.fd))
+        write(new.fd, self._head())
+        os.fsync(new.fd)
+        new.shares()
+        return new
+
+    def _head(self) -> bytes:
+        """The first line of each file of the journal."""
+        return b"journal 3 room %d\n" % self.room
 
     def _tell_rotation(self) -> None:
         """To all, when there is a new file. The order counts: who syncs reads where the journal ends, and then which file it is."""
@@ -469,11 +487,13 @@ class Store(Turns):
     def _append(self, text: bytes) -> None:
         """Appends whole lines in this turn, or nothing."""
         try:
-            if os.write(self._lines.fd, text) != len(text):
-                raise OSError(errno.ENOSPC, os.strerror(errno.ENOSPC))
+            write(self._lines.fd, text)
         except OSError as error:
-            os.ftruncate(self._lines.fd, self._end)
-            raise self._failed("can't be written", error) from error
+            if not is_of_system(error):
+                raise
+            with contextlib.suppress(OSError):
+                os.ftruncate(self._lines.fd, self._end)  # else the next turn does it
+            raise refused(self.path, "can't be written", error) from error
         self._end += len(text)
         self._beside.end.value = self._base + self._end
 
@@ -632,17 +652,18 @@ class Store(Turns):
         """Returns when all lines up to there are on the disk. Those who wait at once share a sync."""
         if not self.is_ahead_of_disk(end):
             return
-        try:
+        with telling(self.path, "can't be synced"):
             try:
-                self._syncing.acquire()
-                self._sync_once(end)
-                self._syncing.release()
+                try:
+                    self._syncing.acquire()
+                    self._sync_once(end)
+                    self._syncing.release()
+                except BaseException:
+                    self._leave_sync()
+                    raise
             except BaseException:
-                self._leave_sync()
+                self._leave_sync()  # again, for an interrupt may have cut it off
                 raise
-        except BaseException:
-            self._leave_sync()  # again, for an interrupt may have cut it off
-            raise
 
     def _sync_once(self, end: int) -> None:
         if self._beside.synced.value < end:
@@ -669,15 +690,14 @@ class Store(Turns):
         except (OSError, ValueError) as error:
             if self._is_closed:
                 raise Closed("these paths were closed") from None
-            failed = self._failed("can't be synced, so what was answered last may be lost at a crash", error)
+            if not isinstance(error, OSError) or not is_of_system(error):
+                raise
+            failed = refused(self.path, "can't be synced, so what was answered last may be lost at a crash", error)
             self._fault = StoreError, failed.args
             self._replica.close()
             raise failed from error
         if end > self._beside.synced.value:
             self._beside.synced.value = end
-
-    def _failed(self, what: str, error: Exception) -> StoreError:
-        return StoreError("{} {}: {}".format(self.path, what, getattr(error, "strerror", None) or error))
 
     # The dead
 
@@ -780,18 +800,20 @@ class Store(Turns):
         """All lines of the journal so far, without their marks and without heads: those of each file."""
         count, file, end = self._in_turn(lambda: (self._segment, fcntl.fcntl(self._lines.fd, fcntl.F_DUPFD_CLOEXEC, 3), self._end))
         texts = []
-        for segment in range(count):
-            with open(self._archive(segment), "rb") as archive:
-                texts.append(archive.read())
         try:
-            texts.append(read(file, 0, end))
+            for segment in range(count):
+                with telling(self._archive(segment), "can't be read"), open(self._archive(segment), "rb") as archive:
+                    texts.append(archive.read())
+            with telling(self.path, "can't be read"):
+                texts.append(read(file, 0, end))
         finally:
             os.close(file)
         return [without_marks(each.decode("ascii")).partition("\n")[2] for each in texts]
 
     def process_of(self, worker: int) -> Optional[str]:
         """The process of a worker, by the number that it gave itself; None if it isn't known."""
-        found = self._beside.process_of(worker)
+        with telling(self.path + ".shared", "can't be read"):
+            found = self._beside.process_of(worker)
         return None if found is None else str(found)
 
     # Ending
