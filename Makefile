@@ -2,7 +2,7 @@
 #
 #   make              the program, the C library (static and shared) and wanzoche.pc, in out/
 #   make example      the program alone, and then runs a stored example
-#   make test         the examples and the tests of the program, the C library, the Python package and the web page; with WANZOCHE_TESTS=all
+#   make test         the cases, the examples and the tests of the program, the C library, the Python package and the web page; with WANZOCHE_TESTS=all
 #                     in each Python that is here, under sanitizers and over PostgreSQL, too
 #   make test_rust    the tests of the Rust crate, which want cargo
 #   make install      to PREFIX (/usr/local), below DESTDIR if that is set; make uninstall takes the same files away
@@ -139,6 +139,7 @@ test: all test_program test_library test_package test_page
 	@echo "make test: all passed"
 
 test_program: $(program) library
+	cases/run $(program)
 	examples/run $(program)
 	examples/follow_test $(program)
 	examples/terminal_test $(program)

@@ -8,7 +8,6 @@ mod endings;
 mod failing_traces;
 mod faults;
 mod input;
-mod overlap;
 mod reports;
 mod trace;
 mod whole;

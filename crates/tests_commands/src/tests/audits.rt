@@ -21,104 +21,22 @@ const FORGED: &str =
     "1 start deposit: started 0\n2 start remove: started 1\n1 use 0 put 7: used 0\n\
      1 finish 0: finished\n2 start remove: started 1\n2 use 1 look: used 7\n";
 
-const FAILED_PUT: &str =
-    "1 start deposit: started 0\n2 start remove: blocked 0\n1 use 0 put 7: device failed\n\
-     1 finish 0: finished\n2 start remove: started 1\n2 use 1 look: used 7\n";
-
-const FAILED_PUT_SEEN: &str =
-    "1 start deposit: started 0\n2 start remove: blocked 0\n1 use 0 put 7: device failed\n\
-     1 finish 0: finished\n2 start remove: started 1\n2 use 1 look: used 0\n";
-
-const FAILED_LOOK: &str =
-    "1 start deposit: started 0\n2 start remove: blocked 0\n1 use 0 put 7: used 0\n\
-     1 finish 0: finished\n2 start remove: started 1\n2 use 1 look: device failed\n";
-
 const VERDICTS: &[Row] = &[
     (4096, SLOT_JOURNAL, Status::Done, "sound\n", ""),
-    (1_048_576, SLOT_JOURNAL, Status::Done, "sound\n", ""),
-    (1, "", Status::Done, "sound\n", ""),
     (4096, FORGED, Status::Unsound, "wrong line 1\n", ""),
-    (4096, FAILED_PUT, Status::Unsound, "wrong line 5\n", ""),
-    (4096, FAILED_PUT_SEEN, Status::Done, "sound\n", ""),
-    (4096, FAILED_LOOK, Status::Done, "sound\n", ""),
-    (
-        2,
-        "1 start deposit: started 0\n1 use 0 look: used 0\n",
-        Status::Unsound,
-        "wrong line 1\n",
-        "",
-    ),
-    (
-        1,
-        "1 start deposit: no room\n",
-        Status::Unsound,
-        "wrong line 0\n",
-        "",
-    ),
 ];
 
-/// A journal that fills a room of two lines, in texts of both versions.
-const ROOMS: &[Row] = &[
-    (
-        1,
-        "journal 2 room 2\n1 start deposit: started 0\n1 finish 0: finished\n",
-        Status::Done,
-        "sound\n",
-        "",
-    ),
-    (
-        0,
-        "journal 2 room 2\n1 start deposit: started 0\n1 finish 0: finished",
-        Status::Done,
-        "sound\n",
-        "",
-    ),
-    (
-        4096,
-        "journal 2 room 1\n1 start deposit: started 0\n1 finish 0: finished\n",
-        Status::Unsound,
-        "wrong line 0\n",
-        "",
-    ),
-    (
-        1,
-        "1 start deposit: started 0\n1 finish 0: finished\n",
-        Status::Unsound,
-        "wrong line 0\n",
-        "",
-    ),
-    (
-        2,
-        "1 start deposit: started 0\n1 finish 0: finished\n",
-        Status::Done,
-        "sound\n",
-        "",
-    ),
-];
+/// A journal whose text brings its room, in a room that no journal has.
+const ROOMS: &[Row] = &[(
+    0,
+    "journal 2 room 2\n1 start deposit: started 0\n1 finish 0: finished",
+    Status::Done,
+    "sound\n",
+    "",
+)];
 
-/// A bad head, a bad line and a bad room: a fault of the text counts before the room.
+/// A bad line and a bad room: a fault of the text counts before the room.
 const REFUSED: &[Row] = &[
-    (
-        2,
-        "journal 2 room 1048577\n1 start deposit: started 0\n1 finish 0: finished\n",
-        Status::TextRefused,
-        "",
-        "text: bad line 0\n",
-    ),
-    (
-        4096,
-        "journal 2 room 0\n1 start deposit: started 0\n1 finish 0: finished\n",
-        Status::TextRefused,
-        "",
-        "text: bad line 0\n",
-    ),
-    (
-        0,
-        "journal 4 room 2\n1 start deposit: started 0\n1 finish 0: finished\n",
-        Status::TextRefused,
-        "",
-        "text: bad line 0\n",
-    ),
     (
         0,
         "journal 2 room 2\n1 start deposit: started 0\n1 finish 0: done\n",
@@ -132,13 +50,6 @@ const REFUSED: &[Row] = &[
         Status::TextRefused,
         "",
         "text: bad line 1\n",
-    ),
-    (
-        4096,
-        "1 start insert: started 0\n",
-        Status::TextRefused,
-        "",
-        "text: undeclared in line 0\n",
     ),
     (
         0,

@@ -1,6 +1,6 @@
 //! How a declaration is printed.
 
-use crate::tests::commands::{Command, Named, check_ending_into, check_endings, ends};
+use crate::tests::commands::{Command, check_ending_into, ends};
 use cmd_base::Status;
 use std::alloc::Global;
 use std::io::ErrorKind;
@@ -8,32 +8,6 @@ use std::process::Abort;
 use test_support::{FailingWriter, FullWriter};
 
 const SLOT: &str = "resource slot cell operation deposit, remove path deposit ; remove end end";
-
-const CHECKED: &[Named<'static>] = &[
-    (
-        "other trees",
-        "resource r cell operation a, b, c path a ; b ; c end path a ; ( b ; c ) end end",
-        (
-            Status::Done,
-            "resource r cell operation a, b, c path a; b; c end path a; ( b; c ) end end\n",
-            "",
-        ),
-    ),
-    (
-        "a name twice",
-        "resource r cell operation a, a end",
-        (
-            Status::DeclarationRefused,
-            "",
-            "declaration: duplicate operation at 29\n",
-        ),
-    ),
-];
-
-#[test]
-fn other_trees(rt: HostRuntime) {
-    check_endings(&rt, rt.alloc(), Command::Check, CHECKED);
-}
 
 #[test]
 fn a_full_writer(rt: HostRuntime) {

@@ -85,19 +85,6 @@ pub fn ends<A: Allocator + Copy, O: Write, E: Write>(
     }
 }
 
-/// The name of a row, a declaration, and how a command on it ends.
-pub type Named<'a> = (&'a str, &'a str, Ending<'a>);
-
-/// Checks that the command on each declaration ends as its row says.
-pub fn check_endings(rt: &impl Abort, heap: Global, command: Command, rows: &[Named<'_>]) {
-    for (name, declaration, want) in rows {
-        let mut out = Vec::new(heap);
-        let mut err = Vec::new(heap);
-        let status = ends(heap, command, (declaration, ""), &mut out, &mut err);
-        check_ending(rt, name, (status, &out, &err), *want);
-    }
-}
-
 /// Checks that the command on this declaration, into this writer, ends with this status and message.
 pub fn check_ending_into<O: Write>(
     rt: &impl Abort,

@@ -108,179 +108,23 @@ const DEPOSITED: &str = "1 start deposit: started 0\n1 use 0 put 7: used 0\n";
 
 const ONE: File<'static> = ("one", DEPOSITED);
 
-const TWO: File<'static> = (
-    "two",
-    "journal 2 room 9\n1 start deposit: started 0\n1 use 0 put 7: used 0",
-);
-
-const THREE: File<'static> = (
-    "three",
-    "journal 3 room 9\n1 start deposit: started 0\n+1 use 0 put 7: used 0\n",
-);
-
 const EMPTY: File<'static> = ("empty", "");
 
 const LATER: &str = "1 finish 0\n2 start remove\n2 use 1 look\n";
 
-const LATER_TRACED: &str =
-    "1 finish 0: finished\n2 start remove: started 1\n2 use 1 look: used 7\n";
-
 /// A room, files, attempts, and how their trace ends.
 type Row = (u32, &'static [File<'static>], &'static str, Ending<'static>);
 
-const ROWS: &[Row] = &[
-    (ROOM, &[ONE], LATER, (Status::Done, LATER_TRACED, "")),
-    // The room of a head counts, and no other.
-    (1, &[TWO], LATER, (Status::Done, LATER_TRACED, "")),
-    (1, &[THREE], LATER, (Status::Done, LATER_TRACED, "")),
-    (
-        ROOM,
-        &[EMPTY],
-        LATER,
-        (
-            Status::Done,
-            "1 finish 0: stale\n2 start remove: blocked 0\n2 use 1 look: stale\n",
-            "",
-        ),
-    ),
-    (ROOM, &[ONE], "", (Status::Done, "", "")),
-    // The lines of the last file take room, those of the others don't.
-    (
-        4,
-        &[ONE],
-        LATER,
-        (
-            Status::Done,
-            "1 finish 0: finished\n2 start remove: no room\n2 use 1 look: stale\n",
-            "hint: attempts without room: 1; an empty file as the last journal has all its room\n",
-        ),
-    ),
-    (4, &[ONE, EMPTY], LATER, (Status::Done, LATER_TRACED, "")),
-    (
-        4,
-        &[EMPTY, ONE, EMPTY, EMPTY],
-        LATER,
-        (Status::Done, LATER_TRACED, ""),
-    ),
-    // A device that failed has kept what it contained.
-    (
-        ROOM,
-        &[(
-            "failed",
-            "1 start deposit: started 0\n1 use 0 put 7: device failed\n",
-        )],
-        "1 use 0 look",
-        (Status::Done, "1 use 0 look: used 0\n", ""),
-    ),
+const BAD_ROOM: Ending<'static> = (Status::CommandRefused, "", "open: bad room\n");
+
+const BAD_ROOMS: &[Row] = &[
+    (0, &[ONE], LATER, BAD_ROOM),
+    (1_048_577, &[EMPTY], LATER, BAD_ROOM),
 ];
 
 #[test]
-fn goes_on(rt: HostRuntime) {
-    for (room, journal, attempts, want) in ROWS {
-        let asked = Asked {
-            room: *room,
-            journal: *journal,
-            report: false,
-            attempts: *attempts,
-        };
-        let passed = traces(&rt, rt.alloc(), rt.alloc(), SLOT, asked, *want);
-        assert!(rt; passed == Ok(true));
-    }
-}
-
-const WRONG: File<'static> = (
-    "wrong",
-    "1 finish 0: finished\n2 start remove: started 1\n2 use 1 look: used 8\n",
-);
-
-const REFUSED: &[Row] = &[
-    (
-        ROOM,
-        &[ONE, WRONG],
-        LATER,
-        (Status::Unsound, "", "journal: wrong line 2 of wrong\n"),
-    ),
-    (
-        ROOM,
-        &[WRONG, ONE],
-        LATER,
-        (Status::Unsound, "", "journal: wrong line 0 of wrong\n"),
-    ),
-    // No journal has a line without room, also where none is left.
-    (
-        1,
-        &[("full", "1 start deposit: no room\n")],
-        LATER,
-        (Status::Unsound, "", "journal: wrong line 0 of full\n"),
-    ),
-    // A wrong line counts before the attempts, and a file before its lines.
-    (
-        ROOM,
-        &[WRONG],
-        "x",
-        (Status::Unsound, "", "journal: wrong line 0 of wrong\n"),
-    ),
-    (
-        ROOM,
-        &[WRONG, ("bad", "1 end\n")],
-        "x",
-        (Status::TextRefused, "", "bad: text: bad line 0\n"),
-    ),
-    (
-        ROOM,
-        &[("other", "1 start insert: started 0\n")],
-        LATER,
-        (
-            Status::TextRefused,
-            "",
-            "other: text: undeclared in line 0\n",
-        ),
-    ),
-    // A torn end isn't passed over.
-    (
-        ROOM,
-        &[(
-            "torn",
-            "journal 3 room 9\n1 start deposit: started 0\n1 use 0 p",
-        )],
-        LATER,
-        (Status::TextRefused, "", "torn: text: bad line 2\n"),
-    ),
-    (
-        ROOM,
-        &[TWO, ("room_4", "journal 2 room 4\n")],
-        LATER,
-        (Status::TextRefused, "", "room_4: text: other room\n"),
-    ),
-    (
-        ROOM,
-        &[ONE, TWO],
-        LATER,
-        (Status::TextRefused, "", "two: text: other room\n"),
-    ),
-    (
-        0,
-        &[ONE],
-        LATER,
-        (Status::CommandRefused, "", "open: bad room\n"),
-    ),
-    (
-        1_048_577,
-        &[EMPTY],
-        LATER,
-        (Status::CommandRefused, "", "open: bad room\n"),
-    ),
-    (
-        ROOM,
-        &[ONE],
-        "1 finish 0\n01 start deposit",
-        (Status::TextRefused, "", "text: bad line 1\n"),
-    ),
-];
-
-#[test]
-fn nothing_is_written_of_what_is_refused(rt: HostRuntime) {
-    for (room, journal, attempts, want) in REFUSED {
+fn bad_rooms(rt: HostRuntime) {
+    for (room, journal, attempts, want) in BAD_ROOMS {
         let asked = Asked {
             room: *room,
             journal: *journal,
@@ -301,24 +145,6 @@ const UNDER_WAY: Asked<'static> = Asked {
 
 const REPORTED: &str = "2 start remove: blocked 0\n\
      startable\nblocked deposit 0\nblocked remove 0\nlive 0 1 deposit\nfrozen no\n";
-
-#[test]
-fn the_declaration_counts_first(rt: HostRuntime) {
-    let want = (
-        Status::DeclarationRefused,
-        "",
-        "declaration: bad byte at 9\n",
-    );
-    let passed = traces(&rt, rt.alloc(), rt.alloc(), "resource _r", UNDER_WAY, want);
-    assert!(rt; passed == Ok(true));
-}
-
-#[test]
-fn the_report_is_one_on_all_lines(rt: HostRuntime) {
-    let want = (Status::Done, REPORTED, "");
-    let passed = traces(&rt, rt.alloc(), rt.alloc(), SLOT, UNDER_WAY, want);
-    assert!(rt; passed == Ok(true));
-}
 
 #[test]
 fn each_request_is_refused(rt: HostRuntime) {

@@ -1,6 +1,6 @@
-//! Traces from bytes to bytes: what is written, and each refusal with its status.
+//! Traces from bytes to bytes, into a writer that takes nothing and with requests refused.
 
-use crate::tests::endings::{Traced, check_all_traces, refuse_each_request};
+use crate::tests::endings::refuse_each_request;
 use cmd_base::Status;
 use cmd_trace::{ROOM, trace_bytes};
 use std::alloc::Global;
@@ -14,52 +14,6 @@ const ATTEMPTS: &str =
 
 const TRACE: &str = "1 start deposit: started 0\n2 start remove: blocked 0\n1 use 0 put 7: used 0\n\
       1 finish 0: finished\n2 start remove: started 1\n2 use 1 look: used 7\n";
-
-const SLOT_TRACED: &[Traced<'static>] = &[
-    ("slot", (SLOT, ATTEMPTS), (Status::Done, TRACE, "")),
-    ("no attempts", (SLOT, ""), (Status::Done, "", "")),
-];
-
-#[test]
-fn slot(rt: HostRuntime) {
-    check_all_traces(&rt, rt.alloc(), SLOT_TRACED);
-}
-
-const REFUSED: &[Traced<'static>] = &[
-    (
-        "both texts are bad",
-        ("", "x"),
-        (
-            Status::DeclarationRefused,
-            "",
-            "declaration: unexpected at 0\n",
-        ),
-    ),
-    (
-        "a bad byte",
-        ("resource _r", ""),
-        (
-            Status::DeclarationRefused,
-            "",
-            "declaration: bad byte at 9\n",
-        ),
-    ),
-    (
-        "a bad line",
-        (SLOT, "1 start deposit\n01 start deposit"),
-        (Status::TextRefused, "", "text: bad line 1\n"),
-    ),
-    (
-        "an operation that is not declared",
-        (SLOT, "1 start insert"),
-        (Status::TextRefused, "", "text: undeclared in line 0\n"),
-    ),
-];
-
-#[test]
-fn the_first_cause_counts(rt: HostRuntime) {
-    check_all_traces(&rt, rt.alloc(), REFUSED);
-}
 
 // Checks that the texts are refused with StreamFailed if the fault can't be written.
 fn check_untold(rt: &impl Abort, heap: Global, declaration: &[u8], attempts: &[u8]) {

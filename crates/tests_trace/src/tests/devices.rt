@@ -1,6 +1,6 @@
-//! Traces over devices: the program's own, the caller's, and those that don't fit.
+//! Traces over devices: the caller's, and those that don't fit.
 
-use crate::tests::endings::{Ending, Traced, check_all_traces, check_ending, refuse_each_request};
+use crate::tests::endings::{Ending, check_ending, refuse_each_request};
 use cmd_base::Status;
 use cmd_trace::{ROOM, trace_to};
 use path_model::{Law, MOST_LINES, Verb};
@@ -9,65 +9,7 @@ use path_shelf::{ActFault, Cell, Device, Tally};
 use std::alloc::Global;
 use std::process::Abort;
 
-const BUFFER: &str = "resource buf queue 2 operation put0, put1, get0, get1 path put0 ; put1 end \
-                      path get0 ; get1 end path put0 ; get0 end path put1 ; get1 end end";
-
-const BAG: &str = "resource q queue 1 operation a end";
-
-const TOTAL: &str = "resource t tally operation a end";
-
 const CELL: &str = "resource c cell operation a end";
-
-const OWN_DEVICES: &[Traced<'static>] = &[
-    (
-        "bounded buffer",
-        (
-            BUFFER,
-            "1 start put0\n1 use 0 put 5\n1 finish 0\n1 start put1\n1 use 1 put 6\n1 finish 1\n\
-             1 start put0\n2 start get1\n2 start get0\n2 use 2 take\n2 finish 2\n2 start get1\n2 use 3 take\n",
-        ),
-        (
-            Status::Done,
-            "1 start put0: started 0\n1 use 0 put 5: used 1\n1 finish 0: finished\n\
-             1 start put1: started 1\n1 use 1 put 6: used 2\n1 finish 1: finished\n\
-             1 start put0: blocked 2\n2 start get1: blocked 1\n2 start get0: started 2\n\
-             2 use 2 take: used 5\n2 finish 2: finished\n2 start get1: started 3\n2 use 3 take: used 6\n",
-            "",
-        ),
-    ),
-    (
-        "a queue of one",
-        (
-            BAG,
-            "1 start a\n1 use 0 put 9\n1 use 0 put 9\n1 use 0 take\n1 use 0 take\n1 use 0 look\n1 use 0 add 1",
-        ),
-        (
-            Status::Done,
-            "1 start a: started 0\n1 use 0 put 9: used 1\n1 use 0 put 9: full\n1 use 0 take: used 9\n\
-             1 use 0 take: empty\n1 use 0 look: empty\n1 use 0 add 1: not offered\n",
-            "",
-        ),
-    ),
-    (
-        "a tally",
-        (
-            TOTAL,
-            "1 start a\n1 use 0 look\n1 use 0 add 18446744073709551615\n1 use 0 add 1\n1 use 0 put 1\n1 use 0 look",
-        ),
-        (
-            Status::Done,
-            "1 start a: started 0\n1 use 0 look: used 0\n\
-             1 use 0 add 18446744073709551615: used 18446744073709551615\n1 use 0 add 1: overflow\n\
-             1 use 0 put 1: not offered\n1 use 0 look: used 18446744073709551615\n",
-            "",
-        ),
-    ),
-];
-
-#[test]
-fn own_devices(rt: HostRuntime) {
-    check_all_traces(&rt, rt.alloc(), OWN_DEVICES);
-}
 
 // Checks that a trace over these devices in this room ends this way.
 fn check_trace_over<D: Device>(

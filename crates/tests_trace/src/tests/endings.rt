@@ -66,14 +66,3 @@ pub(crate) fn refuse_each_request(
     });
     assert_eq!(rt; refused, Ok(()));
 }
-
-/// The name of a row, a declaration and attempts, and how their trace over the program's own devices ends.
-pub(crate) type Traced<'a> = (&'a str, (&'a str, &'a str), Ending<'a>);
-
-/// Checks that each trace ends as its row says.
-pub(crate) fn check_all_traces(rt: &impl Abort, heap: Global, rows: &[Traced<'_>]) {
-    for (name, texts, want) in rows {
-        let passed = traces(rt, heap, heap, name, *texts, *want);
-        assert!(rt; passed == Ok(true), "{name}");
-    }
-}
