@@ -1,6 +1,6 @@
 """A pool of three connections, and a maintenance window that comes although queries overlap all the time.
 
-Who wants to query passes a door first, `admit`. Maintenance closes it, `announce`, and begins when the queries behind it are over.
+Who wants to query passes a door first, `admit`. Maintenance closes it, `announce`, and begins when the queries that are inside are over.
 """
 
 import threading
@@ -12,10 +12,9 @@ from wanzoche import Paths, Timeout
 paths = Paths(
     """
     resource pool cell
-    operation query, maintain, admit, announce, give_up
+    operation query, maintain, admit, announce
     path { query : 3 } , maintain end
-    path admit , (announce ; maintain) end
-    path { admit ; (query , give_up) } end
+    path admit , announce end
     end
     """
 )
@@ -26,16 +25,12 @@ answering = threading.Lock()
 @contextmanager
 def connection(timeout: float = 60) -> Iterator[None]:
     """One of three, for a `with` statement. Raises `Timeout` if there is none in time."""
-    paths.enter("admit", timeout).leave()
-    try:
-        entry = paths.enter("query", timeout)
-    except BaseException:
-        paths.enter("give_up").leave()  # else this admission would let somebody else in
-        raise
+    with paths("admit", timeout=timeout):
+        query = paths.enter("query", timeout)
     try:
         yield
     finally:
-        entry.leave()
+        query.leave()
 
 
 def query(number: int) -> None:
@@ -44,9 +39,8 @@ def query(number: int) -> None:
 
 
 def maintain() -> None:
-    paths.enter("announce").leave()
-    with paths("maintain"):
-        assert [each.operation for each in paths.report().live] == ["maintain"]
+    with paths("announce"), paths("maintain"):
+        assert [each.operation for each in paths.report().live] == ["announce", "maintain"]
         try:
             with connection(timeout=0.01):
                 pass
