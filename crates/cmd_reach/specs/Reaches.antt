@@ -17,9 +17,9 @@ use Rattle.cmd_base.specs.Ends.{OfText, Writes as WritesBytes}
 abbrev pub states_line : ℕ → List ℕ
 states_line states = codes "states " ++ (decimal states ++ 10 ∷ [])
 
--- what is written if every operation begins and nothing freezes
+-- what is written if every operation begins and no history freezes the paths
 abbrev pub fine_text : ℕ → List ℕ
-fine_text states = codes "every operation begins, nothing freezes" ++ (10 ∷ states_line states)
+fine_text states = codes "every operation begins, the resources never all freeze" ++ (10 ∷ states_line states)
 
 -- the line of an operation that never begins
 abbrev pub never_line : Declaration → ℕ → Bool → List ℕ

@@ -44,14 +44,14 @@ fn never_text<A: Allocator + Copy>(
     Ok(text)
 }
 
-/// What is written if every operation begins and nothing freezes. Fails only if allocation fails.
+/// What is written if every operation begins and no history freezes the paths. Fails only if allocation fails.
 fn fine<A: Allocator + Copy>(alloc: A, states: usize) -> Result<String<A>, OutOfMemory>
     ensures { IfOk result (λ text. string_bytes text ≡ fine_text states) }
 {
     let mut text = String::new(alloc);
     write!(
         text,
-        "every operation begins, nothing freezes\nstates {states}\n"
+        "every operation begins, the resources never all freeze\nstates {states}\n"
     )?;
     Ok(text)
 }
