@@ -10,3 +10,5 @@ pub use Rattle.path_gate.proofs.Placed.{none_forbids, found_declared}
 pub use Rattle.path_gate.proofs.Counted.{named_declared}
 -- what may go to another thread
 pub use Rattle.path_gate.proofs.Threads.{gate_send}
+-- the values of a gate at a history
+pub use Rattle.path_gate.proofs.Determined.{same_semaphores, same_counters}

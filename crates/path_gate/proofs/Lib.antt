@@ -4,11 +4,14 @@ pub mod Passes
 pub mod KeptPaths
 pub mod Counts
 pub mod Fits
+pub mod Unkept
 pub mod Sound
 pub mod Forbidding
 pub mod Runs
 pub mod OpeningValues
+pub mod UnkeptOpen
 pub mod Opened
+pub mod Determined
 pub mod Adding
 pub mod Appended
 pub mod Placed

@@ -23,6 +23,7 @@ use Rattle.path_gate.specs.Inner.Soundness.{IsSound}
 use Rattle.path_gate.specs.Inner.Initial.{ops_terms, rows_terms, semaphores_put, counters_put, IsBelow}
 use Rattle.path_gate.proofs.KeptPaths.{rising_kept, every_kept}
 use Rattle.path_gate.proofs.OpeningValues.{zeros, SemaphoresOpen, CountersOpen, semaphores_opened, counters_opened, shows_opened, places_opened}
+use Rattle.path_gate.proofs.UnkeptOpen.{semaphores_zero, counters_zero}
 
 true_false : true ≡ false → ⊥
 true_false z = cc
@@ -190,6 +191,8 @@ module _ (ss : List Tree) (L : LawfulTrees ss) where
   pub opened_at : IsAt opened []
   opened_at = record {
     values = every_both (λ x s c. shows_opened (semaphores_put (lean_table ss) []) (counters_put (lean_table ss) []) x s c) (kept_paths paths) semaphores_open counters_open;
+    unkept_semaphores = λ i free. ap (λ rs. get_or (semaphores_put rs []) i 0) table_is ∙ semaphores_zero i (kept_paths paths) [] free;
+    unkept_counters = λ i free. counters_zero i (lean_table ss) [] refl;
     progress = λ a n. let z = zeros 256 a.0 in omega arith;
   }
 

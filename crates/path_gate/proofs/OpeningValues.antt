@@ -52,10 +52,10 @@ put_grows xs i x =
     let b = length-append xs (replicate (i + 1 - length xs) 0) in
     omega arith
 
-put_here : (xs : List ℕ) (i x : ℕ) → get_or (put_value xs i x) i 0 ≡ x
+pub put_here : (xs : List ℕ) (i x : ℕ) → get_or (put_value xs i x) i 0 ≡ x
 put_here xs i x = get_or-set_same (xs ++ replicate (i + 1 - length xs) 0) i x 0 (let a = length-set (xs ++ replicate (i + 1 - length xs) 0) i x in let b = put_place xs i x in omega arith)
 
-put_there : (xs : List ℕ) (i j x : ℕ) → (j ≡ i → ⊥) → get_or (put_value xs i x) j 0 ≡ get_or xs j 0
+pub put_there : (xs : List ℕ) (i j x : ℕ) → (j ≡ i → ⊥) → get_or (put_value xs i x) j 0 ≡ get_or xs j 0
 put_there xs i j x n = get_or-set_other (xs ++ replicate (i + 1 - length xs) 0) i j x 0 n ∙ padded xs (i + 1 - length xs) j
 
 -- several values from the number n on
@@ -145,7 +145,7 @@ bound_found (burst (most n) s) m c (inr h) =
     let i : cond (nat_lt m c) 1 0 + rank s (m + 1) c ≡ suc (rank s (m + 1) c) = omega (arith, b) in
     ap (λ k. get_or (n ∷ bounds_in s) k 0) i ∙ bound_found s (m + 1) c h ∙ sym (cond-false (c == m) n (bound_at s (m + 1) c) (ne_eqb c m (λ z. let w0 = w.0 in omega arith)))
 
-length_values : (s : Tree) → length (opening_values s) ≡ semaphores_in s
+pub length_values : (s : Tree) → length (opening_values s) ≡ semaphores_in s
 length_values s =
     let a = length-append (replicate (semicolons s) 0) (bounds_in s) in
     let b : length {A = ℕ} (replicate (semicolons s) 0) ≡ semicolons s = length-replicate (semicolons s) 0 in
@@ -178,10 +178,10 @@ pub record Wrote (n m : ℕ) (old new : List ℕ) : Type 0 where
   pub grows : length old ≤ length new
 
 module _ (x : Sited) (old : List ℕ) where
-  whole : Put x.own (opening_values x.tree) old (put_all (semaphores_of x) old)
+  pub whole : Put x.own (opening_values x.tree) old (put_all (semaphores_of x) old)
   whole = put_numbered x.own (opening_values x.tree) old
 
-  rest : Put (x.own + 1) (replicate (semicolons x.tree) 0 ++ bounds_in x.tree) old (put_all (drop 1 (semaphores_of x)) old)
+  pub rest : Put (x.own + 1) (replicate (semicolons x.tree) 0 ++ bounds_in x.tree) old (put_all (drop 1 (semaphores_of x)) old)
   rest = put_numbered (x.own + 1) (replicate (semicolons x.tree) 0 ++ bounds_in x.tree) old
 
   path_wrote : Wrote x.own (x.own + semaphores_in x.tree) old (put_all (semaphores_left x) old)

@@ -28,6 +28,7 @@ use Rattle.path_gate.proofs.Passes.{next, Low, Moved, StartReady, started_moves,
 use Rattle.path_gate.proofs.KeptPaths.{rising_kept, every_kept, trees_kept, terms_none, none_terms}
 use Rattle.path_gate.proofs.Counts.{starts_snoc, begun_few, counts_start, counts_finish, counts_other}
 use Rattle.path_gate.proofs.Fits.{start_fits, ends_fit, next_now}
+use Rattle.path_gate.proofs.Unkept.{starts_leave_semaphore, starts_leave_counter, ends_leave_semaphore, ends_leave_counter}
 
 true_false : true ≡ false → ⊥
 true_false z = cc
@@ -212,6 +213,8 @@ module _ (g : Standing) (by_op : List (List Term)) (S : IsSound g by_op) (a : Op
   begun_at : (h : List Event) → IsAt g h → IsAt (begun_from g terms a.0) (h ++ Began a ∷ [])
   begun_at h at = record {
     values = along h (Began a) (all_started terms g.levels) (kept_paths g.paths) (begun_moved h at).0;
+    unkept_semaphores = λ i free. ap (λ ts. get_or (all_started ts g.levels).semaphores i 0) is ∙ starts_leave_semaphore i a (kept_paths g.paths) formed free g.levels ∙ at.unkept_semaphores i free;
+    unkept_counters = λ i free. ap (λ ts. get_or (all_started ts g.levels).counters i 0) is ∙ starts_leave_counter i a (kept_paths g.paths) formed free g.levels ∙ at.unkept_counters i free;
     progress = λ b n. more_progress g.paths a b g.in_progress h n (at.progress b n) terms is counted;
   }
 
@@ -272,6 +275,8 @@ module _ (g : Standing) (by_op : List (List Term)) (S : IsSound g by_op) (a : Op
     ended_at : (h : List Event) → IsAt g h → IsAt (ended_from g terms a.0) (h ++ Ended a ∷ [])
     ended_at h at = record {
       values = along h (Ended a) (all_finished terms g.levels) (kept_paths g.paths) (ended_moved h at).0;
+      unkept_semaphores = λ i free. ap (λ ts. get_or (all_finished ts g.levels).semaphores i 0) is ∙ ends_leave_semaphore i a (kept_paths g.paths) formed free g.levels ∙ at.unkept_semaphores i free;
+      unkept_counters = λ i free. ap (λ ts. get_or (all_finished ts g.levels).counters i 0) is ∙ ends_leave_counter i a (kept_paths g.paths) formed free g.levels ∙ at.unkept_counters i free;
       progress = λ b n. less_progress g.paths a b g.in_progress h n (at.progress b n) terms is counted (λ m. some (named m));
     }
 
@@ -308,6 +313,8 @@ module _ (g : Standing) (by_op : List (List Term)) (S : IsSound g by_op) (semaph
   pub restored_at : (h : List Event) → IsAt (having g semaphores counters counts admitted) h → IsAt (having g semaphores counters new admitted) h
   restored_at h at = record {
     values = at.values;
+    unkept_semaphores = at.unkept_semaphores;
+    unkept_counters = at.unkept_counters;
     progress = λ a n. (let e = here a.0 (named_counted a n) (can.named a n) in let p = at.progress a n in omega (arith, e, p));
   }
 

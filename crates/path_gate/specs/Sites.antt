@@ -1,5 +1,5 @@
 -- The paths that are kept, and what a table shows of them.
-use Rattle.std.specs.Prelude.{◌≡◌, ◌≤◌, ◌<◌, ◌+◌, ℕ, List, [], ◌∷◌, if◌then◌else◌, slice_index}
+use Rattle.std.specs.Prelude.{◌≡◌, ◌≢◌, ◌≤◌, ◌<◌, ◌+◌, ℕ, List, [], ◌∷◌, if◌then◌else◌, slice_index}
 use Rattle.path_model.specs.Trees.{Tree}
 use Rattle.path_model.specs.Machine.{semicolons, braces, Values}
 use Rattle.path_model.specs.Flat.{Sited, sited, HasBound, bound_number}
@@ -19,3 +19,11 @@ pub record Shows (v : Levels) (w : Values) (x : Sited) : Type 0 where
   pub semaphores : (q : ℕ) → q ≤ semicolons x.tree → KeepsSemaphore x.tree q → slice_index v.semaphores (x.own + q) ≡ w.semaphore q
   pub counters : (c : ℕ) → c < braces x.tree → KeepsCounter x.tree c → slice_index v.counters (x.first + c) ≡ w.counter c
   pub limits : (c : ℕ) → HasBound x.tree 0 c → slice_index v.semaphores (bound_number x c) ≡ w.bound c
+
+-- no value that is kept of the path is the semaphore of this number, or the counter
+pub record LeavesSemaphore (i : ℕ) (x : Sited) : Type 0 where
+  pub own : (q : ℕ) → q ≤ semicolons x.tree → KeepsSemaphore x.tree q → i ≢ x.own + q
+  pub limits : (c : ℕ) → HasBound x.tree 0 c → i ≢ bound_number x c
+
+pub record LeavesCounter (i : ℕ) (x : Sited) : Type 0 where
+  pub own : (c : ℕ) → c < braces x.tree → KeepsCounter x.tree c → i ≢ x.first + c

@@ -13,7 +13,7 @@ use Rattle.path_model.specs.Machine.{opening}
 use Rattle.path_model.specs.Trimmed.{kept, lean_among}
 use Rattle.path_decl.specs.Stored.{tree_code}
 use Rattle.path_gate.specs.Levels.{Levels, levels}
-use Rattle.path_gate.specs.Sites.{kept_paths, Shows}
+use Rattle.path_gate.specs.Sites.{kept_paths, Shows, LeavesSemaphore, LeavesCounter}
 
 -- the trees of all paths with their numbers, the values of all semaphores and of all counters, how often each operation is in
 -- progress, and how many starts were admitted
@@ -36,10 +36,12 @@ standing_code =
 abbrev pub IsNamed : List (ℕ × Tree) → OpId → Type 0
 IsNamed xs a = legal.NoneOf (λ s. Names s a) xs → ⊥
 
--- the gate is at a history: of each path that is kept it has the values of the trimmed semaphores after it, and for each operation
--- that a path names, the count of executions that began in it and haven't ended
+-- the gate is at a history: of each path that is kept it has the values of the trimmed semaphores after it, 0 where no path keeps a
+-- value, and for each operation that a path names, the count of executions that began in it and haven't ended
 pub record IsAt (g : Standing) (h : List Event) : Type 0 where
   pub values : legal.Every (λ x. Shows g.levels (lean_among x.tree (opening x.tree) h) x) (kept_paths g.paths)
+  pub unkept_semaphores : (i : ℕ) → legal.Every (LeavesSemaphore i) (kept_paths g.paths) → slice_index g.levels.semaphores i ≡ 0
+  pub unkept_counters : (i : ℕ) → legal.Every (LeavesCounter i) (kept_paths g.paths) → slice_index g.levels.counters i ≡ 0
   pub progress : (a : OpId) → IsNamed g.paths a → slice_index g.in_progress a.0 + ended a h ≡ begun a h
 
 -- a start is let through if and only if each legal history at which the gate is stays legal with it; else the error is the first path
