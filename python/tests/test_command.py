@@ -154,6 +154,16 @@ class Commands(InFolder, unittest.TestCase):
             ended = subprocess.run(self.words("log"), stdout=full, stderr=subprocess.PIPE, timeout=60)
         self.assertEqual((ended.stderr, ended.returncode), (b"wanzoche: standard output: No space left on device\n", 1))
 
+    def test_a_store_by_another_name(self):
+        """A symbolic link is the same store, also in another folder."""
+        with self.open(BOOK)("write"):
+            os.mkdir(os.path.join(self.folder, "links"))
+            os.symlink(self.file, os.path.join(self.folder, "links", "door"))
+            self.file = os.path.join(self.folder, "links", "door")
+            self.assertEqual(self.runs("exec", "--nonblock", "write", "--", "true")[2], 1)
+            self.assertIn("live 0 1 write\n", self.runs("status")[0])
+        self.assertEqual(self.runs("operations"), ("read\nwrite\n", "", 0))
+
     def test_recovery(self):
         def holds():
             self.kept = Paths(BOOK, store=self.file).enter("write")

@@ -874,6 +874,51 @@ class Refusals(InFolder, unittest.TestCase):
             os.unlink(self.file + end)
         self.open(BOOK)
 
+    def test_a_symbolic_link_is_the_same_store(self):
+        """Whatever name the file is opened by, and also where it is made by one."""
+        os.mkdir(self.folder + "/links")
+        links = [self.folder + "/links/" + name for name in ("first", "second", "beside")]
+        os.symlink(self.file, links[0])
+        os.symlink("first", links[1])
+        os.symlink(self.folder, links[2])
+        names = [*links[:2], self.file, links[2] + "/door.log"]
+        opened = [Paths(BOOK, store=name) for name in names]
+        for paths in opened:
+            self.addCleanup(paths.close)
+        self.assertEqual([paths.worker for paths in opened], ["process 1", "process 2", "process 3", "process 4"])
+        for paths in opened:
+            with paths("write"):
+                for other in opened:
+                    self.assertIsNone(other.try_enter("read"))
+            paths.rotate()
+        self.assertEqual(sorted(os.listdir(self.folder + "/links")), ["beside", "first", "second"])
+        self.assertEqual({paths.journal() for paths in opened}, {opened[0].journal()})
+
+    def test_a_file_with_another_name_is_refused(self):
+        """By a hard link: whoever opens it by the other name would share nothing with these."""
+        other, told = self.folder + "/other.log", r"has 2 names \(hard links\), .*: remove all but one$"
+
+        def both_are_refused():
+            for name in (self.file, other):
+                with self.assertRaisesRegex(StoreError, "^" + re.escape(name) + " " + told):
+                    Paths(BOOK, store=name)
+
+        with Paths(BOOK, store=self.file):
+            os.link(self.file, other)
+            both_are_refused()
+        both_are_refused()
+        self.assertEqual(sorted(os.listdir(self.folder)), ["door.log", "door.log.shared", "other.log"])
+        os.unlink(other)
+        with Paths(BOOK, store=self.file) as paths:
+            self.assertEqual(paths.worker, "process 2")
+            paths.enter("write").leave()
+            os.link(self.file, other)
+            paths.rotate()
+            self.open(BOOK).enter("write").leave()
+            with self.assertRaisesRegex(StoreError, told):
+                Paths(BOOK, store=other)
+            self.assertTrue(paths.audit())
+
     def test_another_journal_in_its_place(self):
         paths = self.open(BOOK)
         os.unlink(self.file)

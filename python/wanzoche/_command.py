@@ -55,7 +55,7 @@ def _stored_declaration(given: Any) -> bytes:
         if found is None:
             raise StoreError("there is no log {}: `wanzoche exec` with --declaration makes one".format(given.name))
         return found.encode()
-    beside = os.path.abspath(given.store) + ".shared"
+    beside = os.path.realpath(given.store) + ".shared"
     if not os.path.exists(beside):
         raise StoreError("{} isn't there: `wanzoche exec` with --declaration makes a store".format(beside))
     file_beside = Beside(beside)

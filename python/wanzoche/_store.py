@@ -104,7 +104,7 @@ class Store(Turns):
     """
 
     def __init__(self, path: str, source: bytes, handle: native.Handle, *, room: int, sync: bool, finishes_lost: bool) -> None:
-        self.path = os.path.abspath(path)
+        self.path = os.path.realpath(path)  # so that a symbolic link is the same store
         self.sync = sync
         self._finishes_lost = finishes_lost
         self._replica = Replica(source, handle)
@@ -156,6 +156,7 @@ class Store(Turns):
         beside = self.path + ".shared"
         declaration = self._replica.declaration()
         with telling(self.path, "can't be opened"):
+            self._has_to_have_one_name()
             is_alone = self._lines.has_to_itself(beside)
             if is_alone and not os.path.exists(beside):
                 make(beside, declaration, os.fstat(self._lines.fd))
@@ -170,6 +171,14 @@ class Store(Turns):
             self._is_ready = False
             self._beside.close()
             raise
+
+    def _has_to_have_one_name(self) -> None:
+        """Raises `StoreError` if the file of the journal has another name than this one, and those that it gets when it is moved away."""
+        found = os.fstat(self._lines.fd)
+        names = found.st_nlink - self._is_half_moved(found.st_ino)
+        if names > 1:
+            told = "{} has {} names (hard links), and who opens another of them shares nothing with who opens this one: remove all but one"
+            raise StoreError(told.format(self.path, names))
 
     def _has_to_be_of(self, declaration: str) -> None:
         """Raises `OtherDeclaration` if the store is of another one."""
@@ -422,17 +431,27 @@ class Store(Turns):
 
     def _repair_rotation(self) -> None:
         """In this turn, after somebody died while moving the file away: undoes it, or says the rest."""
-        beside, count = self._beside, 0
-        while os.path.exists(self._archive(count)):
-            count += 1
+        beside, count = self._beside, self._count_moved()
         inode = os.stat(self.path).st_ino
-        if count and os.stat(self._archive(count - 1)).st_ino == inode:
+        if self._is_half_moved(inode):
             os.unlink(self._archive(count - 1))
         elif count > beside.segment.value:
             beside.inode.value, beside.segment.value = inode, count
             end = sum(os.stat(self._archive(each)).st_size for each in range(count)) + os.stat(self.path).st_size
             beside.end.value = beside.synced.value = end
         beside.rotating.value = 0
+
+    def _count_moved(self) -> int:
+        """How many files of the journal were moved away. One that was cut off in the middle of that is among them."""
+        count = 0
+        while os.path.exists(self._archive(count)):
+            count += 1
+        return count
+
+    def _is_half_moved(self, inode: int) -> bool:
+        """Whether the file of the journal with this number has the name already that it gets when it is moved away."""
+        count = self._count_moved()
+        return count > 0 and os.stat(self._archive(count - 1)).st_ino == inode
 
     # Following
 
