@@ -919,6 +919,21 @@ class Refusals(InFolder, unittest.TestCase):
                 Paths(BOOK, store=other)
             self.assertTrue(paths.audit())
 
+    def test_a_file_in_two_places(self):
+        """As where a container has the file alone mounted: what is beside it is another file there. Here a hard link is such a place."""
+        other, told = self.folder + "/other.log", "is open in another place, with another file beside it than .*shared$"
+        with mock.patch.object(_store.Store, "_has_to_have_one_name", lambda store: None):
+            self.open(BOOK).close()
+            os.link(self.file, other)
+            for here, there in ((other, self.file), (self.file, other)):
+                with Paths(BOOK, store=here) as paths:
+                    for _ in range(2):
+                        with paths("write"), self.assertRaisesRegex(StoreInUse, re.escape(there) + " " + told):
+                            Paths(BOOK, store=there)
+                        with Paths(BOOK, store=here):
+                            pass
+                        self.assertTrue(paths.audit())
+
     def test_another_journal_in_its_place(self):
         paths = self.open(BOOK)
         os.unlink(self.file)
@@ -1023,9 +1038,10 @@ class Systems(InFolder, unittest.TestCase):
         paths, synced = self.open(LINE, sync=False), self.open(LINE)
         only_in_python(paths._store)
         failing = OSError(errno.ENOLCK, os.strerror(errno.ENOLCK))
-        for call in (paths.report, lambda: paths.enter("put"), paths.rotate, lambda: Paths(LINE, store=self.file)):
-            with mock.patch.object(fcntl, "fcntl", side_effect=failing):
+        with mock.patch.object(fcntl, "fcntl", side_effect=failing):
+            for call in (paths.report, lambda: paths.enter("put"), paths.rotate):
                 self.refused(errno.ENOLCK, "door.log can't be used: No locks available$", call)
+            self.refused(errno.ENOLCK, "door.log can't be opened: No locks available$", lambda: Paths(LINE, store=self.file))
         with mock.patch.object(_beside.Beside, "take_sync", side_effect=failing):
             self.refused(errno.ENOLCK, "door.log can't be synced: No locks available$", lambda: synced.enter("put"))
         synced.enter("put").leave()

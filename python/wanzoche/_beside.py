@@ -32,11 +32,18 @@ PAGE = 4096
 _OFD_GETLK, _OFD_SETLK, _OFD_SETLKW = 36, 37, 38
 _FLOCK = "hhqqi4x"  # struct flock on Linux with 64 bits
 _TURN, _SYNC, _WORKERS = 1 << 40, (1 << 40) + 1, 1 << 41
+_PLACES, _MOST_PLACES = 1 << 41, 1 << 40
+"""The bytes of the journal's own file that are locked there: the number of each says which file is beside it."""
 
 
 def _asked(kind: int, place: int, length: int = 1) -> bytes:
     """What `fcntl` is told of the lock on a byte, or on all from there on with the length 0."""
     return struct.pack(_FLOCK, kind, os.SEEK_SET, place, length, 0)
+
+
+def _is_free(fd: int, asked: bytes) -> bool:
+    """Whether nobody else has a lock in the way of this one."""
+    return bool(struct.unpack(_FLOCK, fcntl.fcntl(fd, _OFD_GETLK, asked))[0] == fcntl.F_UNLCK)
 
 
 _LOCK_TURN, _UNLOCK_TURN = _asked(fcntl.F_WRLCK, _TURN), _asked(fcntl.F_UNLCK, _TURN)
@@ -153,14 +160,19 @@ class Beside:
 
     def is_gone(self, worker: int) -> bool:
         """Whether another's worker has ended or died."""
-        return self._is_free(_asked(fcntl.F_WRLCK, _WORKERS + worker))
+        return _is_free(self.fd, _asked(fcntl.F_WRLCK, _WORKERS + worker))
 
     def has_others(self) -> bool:
         """Whether any other's worker is alive."""
-        return not self._is_free(_asked(fcntl.F_WRLCK, _WORKERS, 0))
+        return not _is_free(self.fd, _asked(fcntl.F_WRLCK, _WORKERS, 0))
 
-    def _is_free(self, asked: bytes) -> bool:
-        return bool(struct.unpack(_FLOCK, fcntl.fcntl(self.fd, _OFD_GETLK, asked))[0] == fcntl.F_UNLCK)
+    def belongs_to(self, journal: int) -> bool:
+        """Tells at the open file of the journal that this file is beside it here. False if it is another one for others who have it open."""
+        found = os.fstat(self.fd)
+        place = 1 + (found.st_dev * 1000003 + found.st_ino) % (_MOST_PLACES - 2)
+        fcntl.fcntl(journal, _OFD_SETLK, _asked(fcntl.F_RDLCK, _PLACES + place))
+        before, behind = _asked(fcntl.F_WRLCK, _PLACES, place), _asked(fcntl.F_WRLCK, _PLACES + place + 1, _MOST_PLACES - place - 1)
+        return _is_free(journal, before) and _is_free(journal, behind)
 
     # Waking
 

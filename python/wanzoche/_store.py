@@ -181,7 +181,9 @@ class Store(Turns):
             raise StoreError(told.format(self.path, names))
 
     def _has_to_be_of(self, declaration: str) -> None:
-        """Raises `OtherDeclaration` if the store is of another one."""
+        """Raises `StoreInUse` if others have another file beside the journal, and `OtherDeclaration` if the store is of another one."""
+        if not self._beside.belongs_to(self._lines.fd):
+            raise StoreInUse("{0} is open in another place, with another file beside it than {0}.shared".format(self.path))
         told = difference(self._beside.declaration(), declaration)
         if told:
             raise OtherDeclaration("{} is of another declaration: {}".format(self.path, told))
@@ -367,7 +369,12 @@ class Store(Turns):
         if inode != self._lines.inode():
             self._retired.append(self._lines)
             self._lines = Lines(self.path, 0)
-            self._lines.shares()
+            self._share(self._lines)
+
+    def _share(self, lines: Lines) -> None:
+        """Others who share this store may open the file, too."""
+        lines.shares()
+        self._beside.belongs_to(lines.fd)
 
     def _catch_up(self) -> None:
         """Reads what is left of this file, and those that others have begun since."""
@@ -376,7 +383,7 @@ class Store(Turns):
             self._retire(self._lines)
             is_last = self._segment == self._beside.segment.value
             self._lines = Lines(self.path if is_last else self._archive(self._segment), 0)
-            self._lines.shares()
+            self._share(self._lines)
             self._read_file(False)
 
     def rotate(self) -> None:
@@ -414,7 +421,7 @@ class Store(Turns):
         give_access(new.fd, os.fstat(self._lines.fd))
         write(new.fd, self._head())
         os.fsync(new.fd)
-        new.shares()
+        self._share(new)
         return new
 
     def _head(self) -> bytes:
