@@ -234,6 +234,8 @@ class Commands(InFolder, unittest.TestCase):
             self.assertEqual(self.runs(command, "--declaration", self.declaration)[2], 1)
         for words in (["read"], ["read", "--"], ["steal", "--", "true"], ["--timeout", "soon", "read", "--", "true"], []):
             self.assertEqual(self.runs("exec", "--declaration", self.declaration, *words)[::2], ("", 125))
+        self.assertEqual(self.runs("exec", "--declaration", "none.path", "read", "--", "true")[1:], (
+            "wanzoche: none.path: No such file or directory\n", 125))  # fmt: skip
         self.assertEqual(sorted(os.listdir(self.folder)), ["book.path"])
         self.assertEqual(self.runs("exec", "--declaration", self.declaration, "read", "--", "no-such-command")[2], 127)
         self.assertEqual(self.runs("exec", "read", "--", self.folder)[2], 126)

@@ -43,9 +43,12 @@ def _declaration(given: Any) -> bytes:
 
 
 def _text_in(path: str) -> bytes:
-    """What stands in the file of a declaration."""
-    with open(path, "rb") as file:
-        return file.read()
+    """What stands in the file of a declaration. Raises WanzocheError if it can't be read."""
+    try:
+        with open(path, "rb") as file:
+            return file.read()
+    except OSError as error:
+        raise WanzocheError("{}: {}".format(path, error.strerror)) from error
 
 
 def _stored_declaration(given: Any) -> bytes:

@@ -356,7 +356,8 @@ class Paths(System):
 
     def _closed(self) -> Closed:
         if self._forked:
-            return Forked("these paths belong to the parent of this process: open others here, and with one `store=` both share them")
+            told = "these paths belong to the parent of this process: open them here, too. What processes open with the same `store=` they share"
+            return Forked(told)
         return Closed("these paths were closed")
 
     def _made_room(self, before: Optional[int]) -> bool:
