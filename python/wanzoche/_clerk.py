@@ -50,6 +50,7 @@ class Clerk:
         """Why the server can't be reached; None while it can."""
         self.is_over = False
         self._names = {op: name.encode() for name, op in numbers.items()}
+        self._ops = {b"%d" % op: op for op in numbers.values()}  # as a notification says them
         self._rivals = _rivals(paths, numbers)
         self._finishes_lost, self._patience = finishes_lost, patience
         self._inbox: Deque[Request] = deque()
@@ -424,8 +425,8 @@ class Clerk:
         if not notices:
             return
         for notice in notices:
-            op = int(notice)
-            if not any(each.is_ready() for each in self._starts.get(op, ())):
+            op = self._ops.get(notice)  # a hint at most: whoever may use the database may notify, and say anything
+            if op is not None and not any(each.is_ready() for each in self._starts.get(op, ())):
                 self._passes.add(op)  # nobody here wants it any more
         self._is_stale = True
         notices.clear()
