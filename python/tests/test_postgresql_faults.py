@@ -1,15 +1,27 @@
 """What a PostgreSQL server, or somebody else who uses it, does to the processes of a log: none stays stuck when it is over, and none enters
 beside another."""
 
+import gc
+import os
+import random
 import threading
 import time
 import unittest
+from unittest import mock
+
+from wanzoche import StoreError, _postgresql
 
 from .declarations import BOOK
-from .servers import OnServer, needs_server
+from .servers import OnServer, needs_server, the_server
+from .stores import THOROUGH
+from .test_postgresql import Cutting
+from .test_postgresql_many import Round, Worker
 
 SOON = 5
 """Seconds in which every process has to be able to enter when a fault is over."""
+CANCELLED, NO_RIGHT, CUT = "57014", "42501", "cut"
+PLACES = (0, 1, None) if THOROUGH else (1, None)
+"""Behind how many statements of a call something goes wrong; None for all."""
 
 
 class Faulty(OnServer):
@@ -19,16 +31,25 @@ class Faulty(OnServer):
             paths.enter("write", timeout=SOON).leave()
 
     def thread(self, work):
-        """Begins a thread, which has to end in time."""
-        thread = threading.Thread(target=work, daemon=True)
+        """Begins a thread, which has to end in time and well."""
+        errors = []
+
+        def works():
+            try:
+                work()
+            except BaseException as error:
+                errors.append(error)
+
+        thread = threading.Thread(target=works, daemon=True)
         thread.start()
         self.addCleanup(thread.join, 20)
-        return thread
+        return thread, errors
 
-    def ends(self, *threads):
-        for thread in threads:
+    def ends(self, *begun):
+        for thread, errors in begun:
             thread.join(20)
             self.assertFalse(thread.is_alive(), "it never ends")
+            self.assertEqual(errors, [])
 
 
 @needs_server
@@ -71,6 +92,279 @@ class Notifications(Faulty, unittest.TestCase):
         entry.leave()
         self.ends(waits)
         self.assertEqual(tokens, [1])
+
+
+class Failing:
+    """The calls of a session, some of which go wrong, from one on: before it, behind its first statement, or behind all of it. Each is
+    refused with a code, or its session is cut."""
+
+    def __init__(self, session, number, behind, codes):
+        self._session, self._call, self._left, self._behind, self._codes = session, session.call, number, behind, list(codes)
+
+    def __call__(self, calls, until):
+        self._left -= 1
+        if self._left > 0 or self.is_over():
+            return self._call(calls, until)
+        if self._behind != 0:
+            self._call(calls[: self._behind], until)
+        code = self._codes.pop(0)
+        if code == CUT:
+            self._session.close()
+            raise _postgresql.Cut("as if")
+        raise _postgresql.Complaint(code, "as if", "")
+
+    def is_over(self):
+        return not self._codes
+
+
+@needs_server
+class Refusals(Faulty, unittest.TestCase):
+    """Each call of a process is refused, one after another, at each place where it can be."""
+
+    def setUp(self):
+        super().setUp()
+        self.a, self.b = self.open(BOOK), self.open(BOOK)
+        self.told = 0
+
+    def tries(self, step):
+        try:
+            return step()
+        except StoreError as error:
+            self.assertRegex(str(error), "^the log .*: as if$")
+            self.told += 1
+
+    def leaves(self, entry):
+        """Until it is left."""
+        is_left = entry is None
+        while not is_left:
+            is_left = self.tries(lambda: entry.leave() is None)
+
+    def enters(self, operation, timeout=20):
+        self.leaves(self.tries(lambda: self.a.enter(operation, timeout=timeout)))
+
+    def scenario(self):
+        """A device, a wait, several at once, and questions."""
+        entry = self.tries(lambda: self.a.enter("write"))
+        if entry is not None:
+            self.tries(lambda: entry.put(7))
+            self.assertIn(self.tries(entry.look), (7, 0, None))
+            self.leaves(entry)
+        with self.b("write"):
+            self.assertIsNone(self.tries(lambda: self.a.try_enter("read")))
+            waits = self.thread(lambda: self.enters("read"))
+            self.until(lambda: self.a.waiting() or not waits[0].is_alive())
+        self.ends(waits)
+        clerk = self.a._served.clerk
+        with clerk._desk:  # so that all go in one turn
+            waits = [self.thread(lambda: self.enters("read")) for _ in range(3)]
+            self.until(lambda: len(clerk._inbox) == 3)
+        self.ends(*waits)
+        told = self.tries(self.a.report)
+        self.assertEqual(told and told.live, told and ())
+
+    def each(self, behind, *codes):
+        session, number, is_over = self.a._served._log.session, 0, True
+        while is_over:
+            number += 1
+            failing = Failing(session, number, behind, codes)
+            with self.subTest(codes=codes, behind=behind, number=number), mock.patch.object(session, "call", failing):
+                self.scenario()
+                is_over = failing.is_over()
+            self.enters_soon(self.a, self.b)
+            self.assertEqual(self.b.report().live, ())
+        self.assertGreater(number, 10)
+        self.assertEqual((self.a.worker, self.b.worker), ("process 1", "process 2"))
+        self.assertTrue(self.a.audit())
+
+    def test_a_call_that_is_cancelled_is_made_again(self):
+        for behind in PLACES:
+            self.each(behind, CANCELLED)
+            self.each(behind, CANCELLED, CANCELLED, CANCELLED)
+        self.assertEqual(self.told, 0)
+
+    def test_a_call_that_is_refused(self):
+        for behind in PLACES:
+            self.each(behind, NO_RIGHT)
+            self.each(behind, NO_RIGHT, NO_RIGHT, NO_RIGHT)
+        self.assertGreater(self.told, 20)
+
+    def test_a_session_that_is_cut_as_well(self):
+        for behind in PLACES[1:]:
+            self.each(behind, CANCELLED, CUT)
+            self.each(behind, CUT, CANCELLED)
+        self.assertEqual(self.told, 0)
+        self.each(None, NO_RIGHT, CUT, NO_RIGHT)
+
+
+@needs_server
+class Rights(Faulty, unittest.TestCase):
+    """Of a role that isn't the owner, which are taken away while it has a log open, and given back."""
+
+    def setUp(self):
+        super().setUp()
+        self.b = self.open(BOOK)
+        self.server.run("create role app login")
+        self.addCleanup(self.server.run, "drop owned by app; drop role app")
+        self.server.run("grant usage on schema wanzoche to app")
+        self.server.run("grant select, insert, update, delete on all tables in schema wanzoche to app")
+        self.a = self.open(BOOK, store=self.server.url.replace("postgres@", "app@"))
+
+    def test_a_call_behind_the_line(self):
+        """The line is there, and what is called behind it is refused: nobody holds what was started."""
+        for function in ("pg_logical_emit_message(boolean, text, text)", "wanzoche.lines(int, bigint, bigint)"):
+            with self.subTest(function):
+                self.server.run("revoke execute on function {} from public".format(function))
+                try:
+                    for _ in range(3):
+                        self.a._served._log._has_company = True  # so it looks behind its line, too
+                        with self.assertRaisesRegex(StoreError, "permission denied for function"):
+                            self.a.enter("write")
+                finally:
+                    self.server.run("grant execute on function {} to public".format(function))
+                self.enters_soon(self.b, self.a)
+        self.assertTrue(self.a.audit())
+
+    def test_who_is_refused_is_told_soon_and_keeps_what_it_has(self):
+        kept = self.a.enter("read")
+        for right in ("select", "insert"):
+            with self.subTest(right):
+                self.server.run("revoke {} on wanzoche.line from app".format(right))
+                try:
+                    begun = time.monotonic()
+                    for _ in range(3):
+                        with self.assertRaisesRegex(StoreError, "permission denied for table line"):
+                            self.a.enter("read")
+                    with self.assertRaisesRegex(StoreError, "permission denied for table line"):
+                        kept.leave()
+                    self.assertLess(time.monotonic() - begun, SOON)
+                    time.sleep(3 * self.grace)
+                    self.assertIsNone(self.b.try_enter("write"))
+                finally:
+                    self.server.run("grant {} on wanzoche.line to app".format(right))
+                self.a.enter("read", timeout=SOON).leave()
+        kept.leave()
+        self.enters_soon(self.b, self.a)
+        self.assertEqual((self.a.worker, self.a.report().live), ("process 2", ()))
+        self.assertTrue(self.a.audit())
+
+
+    def test_a_close_that_is_refused(self):
+        self.a.enter("write")
+        self.server.run("revoke insert on wanzoche.line from app")
+        try:
+            begun = time.monotonic()
+            with self.assertRaisesRegex(StoreError, "permission denied for table line"):
+                self.a.close()
+            self.assertLess(time.monotonic() - begun, SOON)
+        finally:
+            self.server.run("grant insert on wanzoche.line to app")
+        self.enters_soon(self.b)
+
+
+@needs_server
+class Dropped(Faulty, unittest.TestCase):
+    def test_what_nobody_leaves_is_left_later(self):
+        """Also when the server was away for longer than the patience."""
+        proxy = Cutting(self.server.port)
+        self.addCleanup(proxy.close)
+        a, b = self.open(BOOK, store=self.server.tcp_url(port=proxy.port), patience=0.3, grace=60), self.open(BOOK, grace=60)
+        entry = a.enter("write")
+        proxy.is_open = False
+        proxy.cut()
+        del entry
+        gc.collect()
+        time.sleep(0.5)
+        with self.assertRaisesRegex(StoreError, "the server doesn't answer"):
+            a.report()
+        proxy.is_open = True
+        self.enters_soon(b, a)
+        self.assertEqual(a.worker, "process 1")
+
+
+class Enters(Worker):
+    """Enters one thing after another until a file is there."""
+
+    def run(self, entries):
+        paths = self.opened()
+        while not os.path.exists(self.round.folder + "/over"):
+            operation = random.choice(paths.operations)
+            entry = paths.enter(operation, timeout=20)
+            self.note("entered", entry.token, operation)
+            self.body(operation, entry.token)
+            token = entry.token
+            entry.leave()
+            self.note("left", token)
+        paths.close()
+
+
+class Disturbed(Round):
+    """Processes that enter until a fault is over, and each again behind it."""
+
+    worker = Enters
+
+    def __init__(self, fault, **named):
+        super().__init__(BOOK, 5, 1, server=the_server(), disturb=self.disturbs, patience=30, **named)
+        self.fault = fault
+
+    def disturbs(self, over, chance, noted, round):
+        try:
+            self.all_enter(20)
+            self.fault(chance)
+            self.all_enter(SOON)
+        except Exception as error:
+            self.wrong.append(str(error))
+        finally:
+            with open(self.folder + "/over", "w"):
+                pass
+
+    def all_enter(self, seconds):
+        """Each, from now on."""
+        names = [os.path.join(self.folder, "notes.{}".format(number)) for number in range(self.processes)]
+        before, until = [self.left(name) for name in names], time.monotonic() + seconds
+        while any(self.left(name) <= count for name, count in zip(names, before)):
+            if time.monotonic() > until:
+                raise AssertionError("somebody enters nothing in {} seconds".format(seconds))
+            time.sleep(0.01)
+
+    def left(self, name):
+        """How often."""
+        if not os.path.exists(name):
+            return 0
+        with open(name) as file:
+            return sum(line.startswith("left") for line in file)
+
+
+@needs_server
+class Cancellations(unittest.TestCase):
+    """A call that is cancelled is made again: nobody hears of it."""
+
+    def is_right(self, fault, **named):
+        round = Disturbed(fault, **named)
+        wrong = round.run()
+        self.assertEqual((wrong, round.lost), ([], 0), wrong)
+
+    def test_a_statement_that_takes_too_long(self):
+        """While somebody has locked the tables."""
+        url = the_server().url + "&options=-c%20statement_timeout%3D1s"
+        tables = "wanzoche.line, wanzoche.segment, wanzoche.waiting, wanzoche.worker, wanzoche.log"
+
+        def locks(chance):
+            for _ in range(2):
+                the_server().run("begin; lock table {}; select pg_sleep(1.4); commit".format(tables))
+                time.sleep(chance.random() * 0.3)
+
+        self.is_right(locks, url=url)
+
+    def test_statements_that_somebody_cancels(self):
+        told = "select pg_cancel_backend(pid) from (select pid from pg_stat_activity where application_name = 'wanzoche' "
+        told += "order by state = 'idle', random() limit 1) x"
+
+        def cancels(chance):
+            for _ in range(300):
+                the_server().run(told)
+                time.sleep(chance.random() * 0.01)
+
+        self.is_right(cancels)
 
 
 if __name__ == "__main__":

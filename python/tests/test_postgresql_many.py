@@ -36,6 +36,8 @@ BUFFER = LINE.replace("path put end\npath get end", "path put , get end")
 class Round:
     """So many processes with so many entries each, of which some are killed, and something that disturbs them."""
 
+    worker: "type[Worker]"
+
     def __init__(
         self, text, processes, entries, *, server, kills=0.0, disturb=None, url=None, grace=1.0, patience=PATIENCE, sync=True, room=None
     ):
@@ -77,7 +79,7 @@ class Round:
         child = os.fork()
         if child == 0:
             try:
-                Worker(self, self.begun).run(entries)
+                self.worker(self, self.begun).run(entries)
                 os._exit(0)
             except BaseException as error:
                 with open("{}/wrong.{}".format(self.folder, self.begun), "w") as file:
@@ -264,6 +266,9 @@ class Worker:
             os.pwrite(self.total, b"%020d" % (before + 1), 0)
         fcntl.lockf(self.witness, fcntl.LOCK_UN)
         self.note("body", token, operation)
+
+
+Round.worker = Worker
 
 
 def restarts(server, count):

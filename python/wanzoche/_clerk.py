@@ -17,7 +17,7 @@ from typing import Any, Callable, Deque, Dict, List, Optional, Sequence, Set, Tu
 
 from . import _native as native
 from ._errors import Closed, CorruptStore, StoreError
-from ._log import Gone, Log, Wishes
+from ._log import Gone, Log, Wishes, may_pass
 from ._postgresql import Cut
 from ._requests import Batch, Bell, Finish, Held, Nobody, Question, Request, Start, Use, wake_nobody
 from ._texts import Path
@@ -32,10 +32,25 @@ CONNECTING = 10.0
 """So many seconds one attempt to connect may take."""
 LATE = 1.0
 """So many seconds a close tries to reach a server that is away."""
+PAUSE, LONGEST_PAUSE = 0.01, 1.0
+"""So many seconds pass before the server is asked again; from one failure to the next the pause doubles, up to the longest."""
 
 T = TypeVar("T")
 
 _VERBS = {native.PUT: b"put %d", native.TAKE: b"take", native.LOOK: b"look", native.ADD: b"add %d"}
+
+
+class Outage:
+    """Failures, one behind another: since when, and how long to wait now."""
+
+    def __init__(self) -> None:
+        self.begun = time.monotonic()
+        self._pause = PAUSE
+
+    def pause(self) -> float:
+        """So many seconds; the next time it is longer."""
+        seconds, self._pause = self._pause * (0.5 + random.random()), min(2 * self._pause, LONGEST_PAUSE)
+        return seconds
 
 
 class Clerk:
@@ -46,8 +61,8 @@ class Clerk:
         self.log = log
         self.held: Dict[int, Held] = {}
         self.fault: Optional[BaseException] = None
-        self.away: Optional[StoreError] = None
-        """Why the server can't be reached; None while it can."""
+        self.away: Optional[Exception] = None
+        """Why the server can't be reached, or what it refuses; None while all is well."""
         self.is_over = False
         self._names = {op: name.encode() for name, op in numbers.items()}
         self._ops = {b"%d" % op: op for op in numbers.values()}  # as a notification says them
@@ -71,12 +86,16 @@ class Clerk:
         self._done: Dict[int, Held] = {}  # those that were finished without a reply
         self._flight: Optional[Batch] = None
         self._registered: Set[int] = set()  # the operations for which the server knows that this worker waits
+        self._doubtful: Set[int] = set()  # those of them of which it may not know it
         self._passes: Set[int] = set()  # the operations of which the next waiter has yet to be woken
         self._beaten = 0
         self._alone: Set[int] = set()  # the operations of which two were never admitted at once
         self._is_stale = False
         self._has_moved = False  # whether the last step moved lines: then the next one does something else first
         self._is_unsure = False  # whether something was given up that may have been done
+        self._refusal: Optional[Exception] = None  # what the server has refused, until it is known what became of what was on its way
+        self._refused: List[Request] = []  # who is told so then
+        self._outage: Optional[Outage] = None  # of refusals, since an append or all that was to be done has succeeded
         self._check_at = float("inf")
         self.thread = threading.Thread(target=self._run, name="wanzoche clerk", daemon=True)
 
@@ -160,7 +179,7 @@ class Clerk:
     def _do_here(self, request: Request) -> bool:
         """At the desk: whether the request is done, or the clerk knows of it. Nobody else's is touched, so an interrupt costs nobody else
         anything."""
-        if not self._is_asleep or self._inbox or self._ends or self._is_cut or self._is_unsure or self.fault or self._flight:
+        if not self._is_asleep or self._inbox or self._ends or self._is_cut or self._has_failed() or self._flight:
             return False
         watched = self._watched
         if not self._is_idle() or self.log.session.fileno() != watched:
@@ -196,8 +215,10 @@ class Clerk:
             self._is_unsure = True
         except CorruptStore as error:
             self.fault = error  # which ends the clerk
+        except (StoreError, MemoryError) as error:
+            self._note_refusal(error)
         self._passes = {op for op in self._passes if self.log.replica.can_start(op)}
-        is_usual = not (self._inbox or self._flight or self._is_unsure or self.fault) and self.log.session.fileno() == watched
+        is_usual = not (self._inbox or self._flight or self._has_failed()) and self.log.session.fileno() == watched
         if is_usual and isinstance(request, Start) and self._is_all(request):
             self._keep_here(request)
         else:
@@ -206,6 +227,10 @@ class Clerk:
             if not (is_usual and self._is_idle()):
                 self.ring()
         self._here = None
+
+    def _has_failed(self) -> bool:
+        """Whether something has gone wrong that the clerk has yet to set right."""
+        return self._is_unsure or self._refusal is not None or self.fault is not None
 
     def _is_all(self, start: Start) -> bool:
         """Whether this start is all that is to be done, and has to wait."""
@@ -297,6 +322,8 @@ class Clerk:
                 raise self.fault
             if self._is_cut:
                 self._mend()
+            if self._refusal is not None:
+                self._settle_refusal()
             if self._is_unsure:
                 self._begin_anew()
             work()
@@ -305,6 +332,11 @@ class Clerk:
             self._come_back(error)
         except Gone:
             self._is_unsure = True
+        except CorruptStore:
+            raise
+        except (StoreError, MemoryError) as error:
+            self._note_refusal(error)
+            self._wait_out()
         return False
 
     def _work(self) -> None:
@@ -312,6 +344,7 @@ class Clerk:
         while not self._ends and self._step():
             pass
         if not self._ends:
+            self._outage = None
             self._sleep()
 
     def _sleep(self) -> None:
@@ -349,9 +382,7 @@ class Clerk:
     def _refuse_all(self) -> None:
         """After the end: whoever asks is told."""
         self._read_inbox()
-        flight = self._flight
-        sent: List[Request] = [] if flight is None else [each for each, _ in flight.lines] + list(flight.finishes.values())
-        for request in self._all_requests() + sent:
+        for request in self._all_requests() + _requests_of(self._flight):
             request.reply(native.CLOSED, self.fault or Closed("these paths were closed"))
         self._starts, self._uses, self._finishes, self._questions, self._flight = {}, [], [], [], None
 
@@ -463,7 +494,7 @@ class Clerk:
             others = sum(each.waits for each in self._starts.get(op, ())) - (op == own)
             if op in self._registered and (op == own or others <= 0):
                 stops.append(op)
-            if others > 0 and (op == own or op not in self._registered):
+            if others > 0 and (op == own or op not in self._registered or op in self._doubtful):
                 waits.append(op)
         if waits:
             self._check_at = min(self._check_at, time.monotonic() + CHECK / 4)
@@ -491,7 +522,8 @@ class Clerk:
                 found[number] = request
         self._finishes = []
         for number in self._unknown:
-            found.setdefault(number, Finish(wake_nobody, Nobody(number)))
+            if not self._is_lost(number):
+                found.setdefault(number, Finish(wake_nobody, Nobody(number)))
         self._unknown.clear()
         return found
 
@@ -553,8 +585,7 @@ class Clerk:
     def _append_in_turn(self, finishes: Dict[int, Finish]) -> None:
         """Several lines, for which the replica makes each attempt while nobody else appends."""
         log = self.log
-        self._finishes = [each for each in finishes.values() if each.wake is not wake_nobody]  # should the turn be cut off
-        self._unknown.update(number for number, each in finishes.items() if each.wake is wake_nobody)
+        self._put_back(finishes)  # should the turn be cut off
         log.turn()
         self._looked()
         self._beaten = 0
@@ -573,6 +604,11 @@ class Clerk:
             log.end_turn()
             return
         self._send(Batch(tuple(lines), finishes, Wishes((), wakes, waits, stops), before, True))
+
+    def _put_back(self, finishes: Dict[int, Finish]) -> None:
+        """They are wanted as before."""
+        self._finishes = [each for each in finishes.values() if each.wake is not wake_nobody]
+        self._unknown.update(number for number, each in finishes.items() if each.wake is wake_nobody)
 
     def _used_now(self) -> List[Tuple[Request, bytes]]:
         lines: List[Tuple[Request, bytes]] = []
@@ -599,19 +635,17 @@ class Clerk:
         return lines
 
     def _send(self, batch: Batch) -> None:
-        """Appends, and replies. If the session is cut meanwhile, the batch is sent again by the next one."""
+        """Appends, and replies. If the session is cut meanwhile, the batch is sent again by the next one. If the server refuses something,
+        the batch is on its way until the log says whether its lines are there."""
         self._flight = batch
-        try:
-            is_in, taken = self.log.append(batch.text(), batch.wishes, before=batch.before, is_stepped=batch.is_stepped)
-        except StoreError as error:
-            self._flight = None
-            self._fail(batch, error)
-            return
-        self._flight = None
+        is_in, taken = self.log.append(batch.text(), batch.wishes, before=batch.before, is_stepped=batch.is_stepped)
+        self._flight, self._outage = None, None
         self._looked()
         if is_in or not batch.lines:
             self._registered.difference_update(batch.wishes.stops)
+            self._doubtful.difference_update(batch.wishes.stops)
         self._registered.update(batch.wishes.waits)
+        self._doubtful.difference_update(batch.wishes.waits)
         for number in batch.wishes.over:
             self._finished(batch.finishes[number], number, number in taken)
         if is_in:
@@ -671,7 +705,7 @@ class Clerk:
             queue.remove(start)
         if self.log.replica.can_start(op):
             self._alone.discard(op)
-        if held._live:  # another thread has begun the same entry
+        if held._live or start.is_over():  # another thread has begun the same entry, or nobody waits for this start any more
             self._unknown.add(number)
             start.reply(native.NOT_YOURS)
             return
@@ -700,25 +734,6 @@ class Clerk:
             elif isinstance(request, Finish):
                 self._finishes.append(request)
 
-    def _fail(self, batch: Batch, error: StoreError) -> None:
-        """The server refuses it: those who want something are told, and all is as before."""
-        for request, _ in batch.lines:
-            self._drop(request)
-            request.reply(native.CLOSED, error)
-        for number, finish in batch.finishes.items():
-            finish.reply(native.CLOSED, error)
-            if finish.wake is wake_nobody:
-                self._unknown.add(number)
-        for start in [each for queue in self._starts.values() for each in queue if not each.has_looked]:
-            start.reply(native.CLOSED, error)
-        if batch.is_stepped:
-            self._begin_anew()
-        time.sleep(0.01)
-
-    def _drop(self, request: Request) -> None:
-        if isinstance(request, Use) and request in self._uses:
-            self._uses.remove(request)
-
     # Looking
 
     def _check(self) -> None:
@@ -746,6 +761,8 @@ class Clerk:
             except (Cut, Gone):
                 raise  # and it is asked again
             except Exception as error:
+                if may_pass(error):
+                    raise
                 each.reply(native.CLOSED, error)
             self._questions.remove(each)
 
@@ -773,26 +790,27 @@ class Clerk:
 
     def _come_back(self, error: BaseException) -> None:
         """Begins another session, however often that takes. Requests that are older than the patience fail."""
-        begun, pause = time.monotonic(), 0.01
+        outage = Outage()
         is_same: Optional[bool] = None
         while is_same is None:
             self.away = StoreError("the log {}: the server doesn't answer: {}".format(self.log.name, error))
             self._read_inbox()
-            self._fail_old(begun)
-            if self._ends and time.monotonic() > begun + LATE:
+            self._fail_old(outage.begun)
+            if self._ends and time.monotonic() > outage.begun + LATE:
                 raise self.away
             try:
                 limit = LATE if self._ends else min(CONNECTING, self._patience)
                 is_same = self.log.come_back(time.monotonic() + limit)
             except (Cut, StoreError) as told:
                 self.log.session.close()
+                if self.log.is_removed:
+                    raise
                 error = told
-                self._wait(pause * (0.5 + random.random()))
-                pause = min(2 * pause, 1.0)
+                self._wait(outage.pause())
         self.away, self._watched = None, -1
         flight = self._flight
         self._is_unsure = self._is_unsure or flight is not None and not flight.is_stepped and flight.before != self.log.place
-        self._registered.clear()
+        self._doubtful.update(self._registered)
         self._check_at = 0.0
         self._is_stale = True
         if not is_same:
@@ -817,18 +835,68 @@ class Clerk:
                 if isinstance(request, Start) and (request.is_late or begun < before):
                     request.is_unwanted = True
                     request.reply(native.CLOSED, self.away)
-        if flight is not None and begun < before:
-            self._flight, self._is_unsure = None, True
-            for request in [each for each, _ in flight.lines] + list(flight.finishes.values()):
-                request.reply(native.CLOSED, self.away)
+        if begun < before:
+            self._give_up_flight()
         self._forget_unwanted()
-        for request in self._all_requests():
-            if max(request.since, begun) < before:
-                request.reply(native.CLOSED, self.away)
+        self._tell([each for each in self._all_requests() if max(each.since, begun) < before], self.away)
+
+    def _tell(self, requests: Sequence[Request], error: Optional[Exception]) -> None:
+        """Replies that this has gone wrong. A finish that nobody waits for is made when that can be."""
+        for request in requests:
+            if isinstance(request, Finish) and request.wake is wake_nobody:
+                self._unknown.add(request.held._number)
+            request.reply(native.CLOSED, error)
         self._uses = [each for each in self._uses if not each.is_over()]
         self._finishes = [each for each in self._finishes if not each.is_over()]
         self._questions = [each for each in self._questions if not each.is_over()]
         self._forget_unwanted()
+
+    # When the server refuses a call
+
+    def _note_refusal(self, error: Exception) -> None:
+        """What was on its way may have been done or not, and a transaction may be open. Who wanted something is told so when that is known,
+        or if it can't be known. A call that was only cancelled is made again, and nobody is told."""
+        self._outage = self._outage or Outage()
+        is_second, self._refusal, self.away = self._refusal is not None, error, error
+        if not may_pass(error):
+            starts = [each for queue in self._starts.values() for each in queue if not (each.waits and each.has_looked)]
+            self._refused = [*starts, *self._uses, *self._finishes, *self._questions, *_requests_of(self._flight)]
+            if is_second:
+                self._give_up_flight()
+                self._tell(self._refused, error)
+
+    def _wait_out(self) -> None:
+        """After a refusal, before the server is asked again."""
+        outage = self._outage or Outage()
+        self._read_inbox()
+        self._fail_old(outage.begun)
+        if self._ends and self.away is not None and time.monotonic() > outage.begun + LATE:
+            raise self.away
+        self._wait(outage.pause())
+
+    def _settle_refusal(self) -> None:
+        """Finds out what became of what was on its way; then tells those who were refused."""
+        self.log.end_turn()
+        if self._is_unsure or self._flight is not None and self._flight.is_stepped:
+            self._begin_anew()
+        else:
+            self._catch_up()
+        self._put_back(self._taken_finishes())
+        error, refused, self._refusal, self._refused, self.away = self._refusal, self._refused, None, [], None
+        self._tell(refused, error)
+
+    def _give_up_flight(self) -> None:
+        """Who wanted what is on its way is told that it has gone wrong, though it may have been done."""
+        if self._flight is not None:
+            flight, self._flight, self._is_unsure = self._flight, None, True
+            self._doubt(flight)
+            self._tell(_requests_of(flight), self.away)
+
+    def _doubt(self, flight: Batch) -> None:
+        """The server may know that this worker waits, or that it doesn't."""
+        for ops in (flight.wishes.waits, flight.wishes.stops):
+            self._registered.update(ops)
+            self._doubtful.update(ops)
 
     def _all_requests(self) -> List[Request]:
         """All that aren't on their way."""
@@ -840,20 +908,13 @@ class Clerk:
         flight, self._flight = self._flight, None
         if flight is not None:
             self._revert(flight)
+            self._doubt(flight)
+            self._passes.update(flight.wishes.wakes)
             for number, finish in flight.finishes.items():
                 if isinstance(finish.held, Nobody):
                     self._unknown.add(number)
                 elif finish not in self._finishes:
                     self._finishes.append(finish)
-
-    def _settle_flight(self) -> None:
-        """When the log was followed: what was on its way is there, or is wanted as before."""
-        flight = self._flight
-        text = None if flight is None else flight.text()
-        if flight is not None and text is not None and self.log.has(text, flight.before.lines):
-            self._flight = flight._replace(lines=())
-            self._confirm(flight)
-        self._take_flight_back()
 
     def _lose_all(self) -> None:
         """The worker was taken for dead, and this is another: what was in progress is others'."""
@@ -862,23 +923,36 @@ class Clerk:
         self._is_unsure = False
         self._take_flight_back()
         self._unknown.clear()
+        self._registered.clear()
+        self._doubtful.clear()
         self.log.forget()
 
     def _begin_anew(self) -> None:
         """Follows the log from its begin: what this process holds is what stands in it."""
         self._is_unsure = True  # until all is done: the session may be cut meanwhile
         self.log.forget()
+        self._catch_up()
+        self._is_unsure = False
+
+    def _catch_up(self) -> None:
+        """Follows the log: what was on its way is there, or is wanted as before. What this process holds is what stands there."""
         self._follow()
-        self._settle_flight()
-        own = {each.number for each in self.log.replica.live() if each.worker == self.log.worker}
+        flight, own = self._flight, {each.number for each in self.log.replica.live() if each.worker == self.log.worker}
+        text = None if flight is None else flight.text()
+        is_in = flight is not None and text is not None and self.log.has(text, flight.before.lines)
         gone = sorted(set(self.held) - own)
         ended = self.log.own_finishes(gone)
+        if is_in or ended:
+            self.log.make_last()
+        if flight is not None and is_in:
+            self._flight = flight._replace(lines=())
+            self._confirm(flight)
+        self._take_flight_back()
         for number in gone:
-            held = self.held.pop(number)  # and whoever leaves it is told so
-            if number in ended:
+            held = self.held.pop(number, None)  # and whoever leaves it is told so
+            if held is not None and number in ended:
                 self._done[number] = held
         self._unknown.update(own - set(self.held))
-        self._is_unsure = False
 
     # Ending
 
@@ -902,6 +976,10 @@ class Clerk:
         self.is_over = True
         self.log.session.close_here()
         self.log.replica.close()
+
+
+def _requests_of(batch: Optional[Batch]) -> List[Request]:
+    return [] if batch is None else [*(each for each, _ in batch.lines), *batch.finishes.values()]
 
 
 def _rivals(paths: Sequence[Path], numbers: Dict[str, int]) -> List[Set[int]]:

@@ -10,7 +10,7 @@ from typing import Any, Callable, Iterator, List, NamedTuple, Optional, Sequence
 
 from . import _native as native
 from ._errors import CorruptStore, OtherDeclaration, StoreError
-from ._postgresql import AGAIN, HEARTBEAT, Call, Complaint, Cut, Row, Session, array
+from ._postgresql import AGAIN, CANCELLED, HEARTBEAT, Call, Complaint, Cut, Row, Session, array
 from ._replica import ROOM, Replica
 from ._store import difference
 
@@ -141,6 +141,8 @@ class Log:
         self._listens = False
         self._has_company = False  # whether others have appended lately
         self._commits = b"on"  # how the server commits what has to last
+        self.is_removed = False
+        """Whether there is no such log any more."""
 
     # Sessions
 
@@ -181,6 +183,7 @@ class Log:
         process = "{} {}".format(os.getpid(), socket.gethostname())
         ((number,),) = self._call(Call(b"arrive", (self._log, process.encode())))[0]
         if number is None:
+            self.is_removed = True
             raise StoreError("the log {} was removed".format(self.name))
         self.worker = int(number)
 
@@ -281,8 +284,8 @@ class Log:
         ended = set(wishes.over).difference(left)
         taken = ended - self.own_finishes(sorted(ended))
         rest = wishes._replace(over=left, stops=wishes.stops if is_in or text is None else ())
-        if self._sync and (is_in or ended):
-            self._call(self._lasts())
+        if is_in or ended:
+            self.make_last()
         try:
             if any(rest):
                 taken |= self._append(None, rest, self.place, False)[1]
@@ -322,6 +325,11 @@ class Log:
     def _lasts(self) -> Call:
         return Call(b"lasts", (self._commits,))
 
+    def make_last(self) -> None:
+        """Waits for the disk behind all lines that are there, if it is to."""
+        if self._sync:
+            self._call(self._lasts())
+
     def turn(self) -> None:
         """Takes over what is new. From now on nobody else appends, until `append` or `end_turn`."""
         try:
@@ -337,7 +345,7 @@ class Log:
             self.follow()
 
     def end_turn(self) -> None:
-        """Ends a turn without a line."""
+        """Ends a turn without a line. Does nothing if there is none."""
         self._call(Call(b"rollback"))
 
     def texts(self, begin: int, most: int = MOST) -> Iterator[bytes]:
@@ -466,7 +474,7 @@ class Log:
             try:
                 return self.session.call(calls, time.monotonic() + ANSWER)
             except Complaint as error:
-                if not error.code.startswith(AGAIN) or tries == 4 or len(calls) > 2:
+                if not error.code.startswith(AGAIN) or tries == 4 or len(calls) > 2 or calls[0].name == b"begin":
                     raise self._refused(error) from error
         raise AssertionError
 
@@ -486,6 +494,11 @@ class Log:
         if error.code == "WZ002":
             return self.broken("there is no line", int(error.detail))
         return StoreError("the log {}: {}".format(self.name, error.told))
+
+
+def may_pass(error: BaseException) -> bool:
+    """Whether an error of a call only says that the server has cancelled it. Then it may be made again."""
+    return isinstance(error.__cause__, Complaint) and error.__cause__.code.startswith((CANCELLED, *AGAIN))
 
 
 def make_schema(session: Session, until: float) -> None:

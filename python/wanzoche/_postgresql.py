@@ -29,6 +29,8 @@ CUT = ("08", "57P", "25P03")
 """What a server says that ends a session."""
 AGAIN = ("40001", "40P01", "55P03")
 """What it says of a call that was undone and may be repeated."""
+CANCELLED = "57014"
+"""What it says of a call that took longer than `statement_timeout`, or that somebody has cancelled."""
 Row = Sequence[Optional[bytes]]
 
 

@@ -14,7 +14,7 @@ from ._attempts import InUse, admitted, in_use
 from ._clerk import Clerk
 from ._entries import AsyncEntry, Entry
 from ._errors import Blocked, Closed, Lost, StoreError, Timeout
-from ._log import MOST_IN_SEGMENT, SEGMENT, Log
+from ._log import MOST_IN_SEGMENT, SEGMENT, Log, may_pass
 from ._postgresql import Cut
 from ._requests import Finish, Question, Request, Start, Use, wake_nobody
 from ._store import Store
@@ -84,6 +84,9 @@ class ServedStore:
                 if time.monotonic() >= until - 0.1:
                     told = "the log {}: the server doesn't answer: {}".format(self._log.name, error)
                     raise StoreError(told) from error
+            except StoreError as error:
+                if not may_pass(error) or time.monotonic() >= until - 0.1:
+                    raise
             self._log.forget()
             time.sleep(0.1)
 
