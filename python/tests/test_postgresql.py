@@ -1168,8 +1168,8 @@ class Refusals(OnServer, unittest.TestCase):
     def test_another_schema(self):
         self.open(BOOK).close()
         self.server.run("update wanzoche.schema set number = 7")
-        self.addCleanup(self.server.run, "update wanzoche.schema set number = 2")
-        self.refused(StoreError, "^the schema wanzoche is number 7, and this package has 2$")
+        self.addCleanup(self.server.run, "update wanzoche.schema set number = 3")
+        self.refused(StoreError, "^the schema wanzoche is number 7, and this package has 3$")
 
     def test_a_server_that_is_not_there(self):
         with mock.patch.object(_served, "OPENING", 0.3):

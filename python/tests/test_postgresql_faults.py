@@ -4,15 +4,16 @@ beside another."""
 import gc
 import os
 import random
+import signal
 import threading
 import time
 import unittest
 from unittest import mock
 
-from wanzoche import StoreError, _postgresql
+from wanzoche import StoreError, _log, _postgresql
 
 from .declarations import BOOK
-from .servers import OnServer, needs_server, the_server
+from .servers import OnServer, Server, needs_server, the_server
 from .stores import THOROUGH
 from .test_postgresql import Cutting
 from .test_postgresql_many import Round, Worker
@@ -279,6 +280,177 @@ class Dropped(Faulty, unittest.TestCase):
         proxy.is_open = True
         self.enters_soon(b, a)
         self.assertEqual(a.worker, "process 1")
+
+
+@needs_server
+class Traps(Faulty, unittest.TestCase):
+    """Functions and operators in `public` that fit better than those of the system, and note who runs them."""
+
+    OPERATORS = (
+        ("||", "int", "text", "text"),
+        ("||", "text", "int", "text"),
+        ("||", "text", "bigint", "text"),
+        ("|", "bigint", "int", "bigint"),
+        ("*", "float8", "bigint", "float8"),
+        ("<>", "int[]", "int[]", "boolean"),
+        ("<>", "bigint[]", "bigint[]", "boolean"),
+    )
+    FUNCTIONS = (
+        ("unnest", "int[]", "setof int", "return query select pg_catalog.unnest(a)"),
+        ("unnest", "bigint[]", "setof bigint", "return query select pg_catalog.unnest(a)"),
+        ("cardinality", "bigint[]", "int", "return pg_catalog.cardinality(a)"),
+    )
+
+    def setUp(self):
+        super().setUp()
+        self.server = Server()
+        self.addCleanup(self.server.end)
+        told = "create role app login; create role mallory; grant create on database postgres to app; "
+        told += "grant create on schema public to mallory; set role mallory; create table public.caught (who text, what text); "
+        told += "grant insert on public.caught to public; "
+        for number, (name, left, right, result) in enumerate(self.OPERATORS):
+            does = "return a operator(pg_catalog.{}) b".format(name)
+            told += self.trap("trap{}".format(number), "a {}, b {}".format(left, right), result, does)
+            told += "create operator public.{} (leftarg = {}, rightarg = {}, function = trap{}); ".format(name, left, right, number)
+        for name, given, result, does in self.FUNCTIONS:
+            told += self.trap(name, "a {}".format(given), result, does)
+        self.server.run(told)
+        self.url = self.server.url.replace("postgres@", "app@")
+
+    def trap(self, name, given, result, does):
+        told = "create function public.{0}({1}) returns {2} language plpgsql as $$ begin "
+        return (told + "insert into public.caught values (current_user, '{0}({1})'); {3}; end $$; ").format(name, given, result, does)
+
+    def caught(self):
+        return self.server.run("select distinct what from public.caught where who = 'app'")
+
+    def run_as_app(self, told, *values):
+        with mock.patch.object(Server, "url", self.url):
+            return self.server.run(told, *values)
+
+    def test_nobody_runs_them(self):
+        """Who makes the schema, appends, waits, wakes, looks for the dead, moves lines, and comes back."""
+        a, b = self.open(BOOK, store=self.url), self.open(BOOK, store=self.url)
+        entry, number = a.enter("write"), a._served.worker
+        waits = [self.thread(lambda: b.enter("read", timeout=20).leave()) for _ in range(2)]
+        self.until(lambda: b.waiting() == {"read": 2})
+        entry.put(3)
+        entry.leave()
+        self.ends(*waits)
+        self.dies(lambda: setattr(self, "kept", self.made(BOOK, store=self.url).enter("write")))
+        self.enters_soon(a, b)
+        b.enter("read").leave()
+        a.rotate()
+        self.server.run("select pg_terminate_backend(pid) from pg_stat_activity where application_name = 'wanzoche'")
+        self.enters_soon(b, a)
+        self.assertEqual(a._served.worker, number)
+        self.assertTrue(a.audit())
+        a.close()
+        b.close()
+        self.assertIn("start write", self.run_as_app("select wanzoche.journal(%s, 1)", self.name)[0][0])
+        self.until(lambda: self.run_as_app("select wanzoche.remove(%s)", self.name) == [(True,)])
+        self.assertEqual(self.caught(), [])
+
+    def test_each_function_is_bound(self):
+        """It has a search_path of its own, or was read when it was made."""
+        self.open(BOOK, store=self.url)
+        told = "select proname from pg_proc where pronamespace = 'wanzoche'::regnamespace and prosqlbody is null "
+        told += "and coalesce(proconfig, '{}') <> '{\"search_path=pg_catalog, pg_temp\"}'"
+        self.assertEqual(self.server.run(told), [])
+
+    def test_the_schema_is_made_in_one_transaction(self):
+        with open(os.path.join(os.path.dirname(os.path.abspath(_log.__file__)), "schema.sql")) as file:
+            script = file.read()
+        first = script[script.index("do $$ begin") : script.index("end $$;") + len("end $$;")]
+        with self.assertRaisesRegex(Exception, "run this in one transaction"):
+            self.server.run(first)
+
+
+@needs_server
+class Removals(Faulty, unittest.TestCase):
+    """A log is removed when nobody can come back to it."""
+
+    grace = 2.0
+
+    def removes(self):
+        return self.server.run("select wanzoche.remove(%s)", self.name)[0][0]
+
+    def test_one_that_was_stopped_and_has_lost_its_session(self):
+        """It has its grace, as if others were to finish what it has."""
+        told, tells = os.pipe()
+        child = self.child(lambda: self.holds(tells))
+        self.addCleanup(os.waitpid, child, 0)
+        self.addCleanup(os.kill, child, signal.SIGKILL)
+        os.close(tells)
+        with os.fdopen(told) as lines:
+            self.assertEqual(lines.readline(), "in\n")
+            os.kill(child, signal.SIGSTOP)
+            ends = "select pg_terminate_backend(pid, 5000) from pg_stat_activity where application_name = 'wanzoche' and pid <> %s"
+            begun = time.monotonic()
+            self.server.run(ends, 0)
+            self.assertFalse(self.removes())
+            self.assertIsNone(self.open(BOOK, lost="keep").try_enter("read"))
+            self.assertFalse(self.removes())
+            for paths in self.opened:
+                paths.close()
+            self.until(self.removes)
+            self.assertGreater(time.monotonic() - begun, self.grace)
+            self.open(BOOK).enter("write").leave()
+            os.kill(child, signal.SIGCONT)
+            self.assertRegex(lines.readline(), "^StoreError: the log .* was removed\n$")
+
+    def holds(self, tells):
+        """In a child: what it says before it leaves, and then."""
+        entry = self.made(BOOK).enter("write")
+        os.write(tells, b"in\n")
+        time.sleep(1)
+        try:
+            entry.leave()
+        except Exception as error:
+            os.write(tells, "{}: {}\n".format(type(error).__name__, error).encode())
+
+    def open(self, *given, **named):
+        self.opened = getattr(self, "opened", [])
+        self.opened.append(super().open(*given, **named))
+        return self.opened[-1]
+
+    def test_one_that_closes_has_no_grace(self):
+        self.open(BOOK).close()
+        self.until(self.removes, 1)
+        self.assertFalse(self.removes())
+
+    def test_one_that_dies_has_it(self):
+        self.dies(lambda: self.made(BOOK))
+        begun = time.monotonic()
+        self.until(self.removes)
+        self.assertGreater(time.monotonic() - begun, self.grace - 0.1)
+
+    def test_one_that_arrives_meanwhile(self):
+        """Before the log is removed, or behind that: then it makes another."""
+        self.open(BOOK).close()
+        self.until(lambda: not self.server.run("select from pg_locks where locktype = 'advisory'"))
+        found = []
+        with self.connection() as arrives:
+            arrives.execute("select wanzoche.arrive(log, '', 3, '2 seconds') from wanzoche.log where name = %s", [self.name])
+            removes = self.thread(lambda: found.append(self.removes()))
+            time.sleep(0.3)
+            arrives.execute("commit")
+            self.ends(removes)
+            self.assertEqual(found, [False])
+            arrives.execute("select wanzoche.leave(log, 2) from wanzoche.log where name = %s", [self.name])
+        with self.connection() as removes:
+            self.assertEqual(removes.execute("select wanzoche.remove(%s)", [self.name]).fetchall(), [(True,)])
+            opens = self.thread(lambda: found.append(self.open(BOOK)))
+            time.sleep(0.3)
+            removes.execute("commit")
+            self.ends(opens)
+        self.enters_soon(found[1])
+        self.assertEqual((found[1].worker, self.lines()[0]), ("process 1", "1 start write: started 0"))
+
+    def connection(self):
+        import psycopg
+
+        return psycopg.connect(self.server.url, gssencmode="disable")
 
 
 class Enters(Worker):

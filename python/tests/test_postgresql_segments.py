@@ -778,10 +778,13 @@ class Crashes(Rotating, unittest.TestCase):
 
 
 class OldProcess:
-    """What a package of number 1 does at the server, by the statements that it prepared then."""
+    """What a package of number 1 or 2 does at the server, by the statements that it prepared then."""
 
     STATEMENTS = {
         b"arrive": "select wanzoche.arrive($1, $2)",
+        b"arrive_as_2": "select wanzoche.arrive($1, $2, 2)",
+        b"bury_as_2": "select wanzoche.bury($1, $2, $3, $4, $5, $6, $7, $8)",
+        b"rotate": "select wanzoche.rotate($1, $2, $3, $4, $5, $6)",
         b"hold": "select wanzoche.hold($1, $2)",
         b"lines": "select * from wanzoche.lines($1, $2, $3)",
         b"put": OLD_PUT,
@@ -791,14 +794,15 @@ class OldProcess:
         b"dead": "select wanzoche.dead($1, $2, $3)",
     }
 
-    def __init__(self, url, log):
+    def __init__(self, url, log, number=1):
         import psycopg
 
         self.log = log
         self.connection = psycopg.connect(url, autocommit=True, gssencmode="disable")
         self.connection.execute("set plan_cache_mode = force_generic_plan")
         for name, text in self.STATEMENTS.items():
-            self.connection.pgconn.prepare(name, text.encode())
+            if number > 1 or name not in (b"arrive_as_2", b"bury_as_2", b"rotate"):
+                self.connection.pgconn.prepare(name, text.encode())
 
     def call(self, name, *given):
         """The rows of a statement. Raises AssertionError with what the server says."""
@@ -810,15 +814,16 @@ class OldProcess:
         return [tuple((result.get_value(row, column) or b"").decode() for column in columns) for row in range(result.ntuples)]
 
 
-@needs_server
-class Numbers(Rotating, unittest.TestCase):
-    """A schema of number 1, which another server has."""
+class Earlier(Rotating):
+    """A schema of an earlier number, which another server has."""
+
+    earlier: int
 
     def setUp(self):
         super().setUp()
         self.server = Server()
         self.addCleanup(self.server.end)
-        with open(os.path.join(os.path.dirname(os.path.abspath(__file__)), "schema1.sql")) as file:
+        with open(os.path.join(os.path.dirname(os.path.abspath(__file__)), "schema{}.sql".format(self.earlier))) as file:
             self.server.run(file.read())
         self.log = self.server.run("select l from wanzoche.open(%s, %s)", self.name, self.declaration())[0][0]
 
@@ -835,51 +840,43 @@ class Numbers(Rotating, unittest.TestCase):
         return self.server.run("select number from wanzoche.schema")[0][0]
 
     def old_process(self):
-        old = OldProcess(self.server.url, self.log)
+        old = OldProcess(self.server.url, self.log, self.earlier)
         self.addCleanup(old.connection.close)
-        old.worker = int(old.call(b"arrive", "old")[0][0])
+        old.worker = int(old.call(b"arrive" if self.earlier == 1 else b"arrive_as_2", "old")[0][0])
         return old
 
     def test_it_is_brought_up(self):
         old = self.old_process()
-        old.call(b"put", old.worker, 0, None, "1 start read: started 0")
+        old.call(b"append", 1, 0, None, "1 start read: started 0", "{}", "{}", "{}", "{}", "f")
         old.connection.close()
         a = self.open(BOOK)
-        self.assertEqual((self.number(), a.worker), (2, "process 2"))
+        self.assertEqual((self.number(), a.worker), (3, "process 2"))
         self.enters(a, 2, "write")  # what the dead one had is finished
         self.until(lambda: self.server.run("select is_over from wanzoche.worker where worker = 1") == [(True,)])
         a.rotate()
         self.assertEqual((self.segments(), len(self.standing())), ([(0, 5)], 6))
         self.assertTrue(a.audit() and self.open(BOOK).audit())
 
-    def test_it_may_be_brought_up_by_hand_and_twice(self):
-        with open(os.path.join(os.path.dirname(os.path.abspath(_log.__file__)), "schema.sql")) as file:
-            script = file.read()
-        for _ in range(2):
-            self.server.run(script)
-            self.assertEqual(self.number(), 2)
-            self.moves(self.open(BOOK), 2)
-        self.server.run("update wanzoche.schema set number = 3")
-        with self.assertRaisesRegex(Exception, "the schema wanzoche is number 3, and this makes 2"):
-            self.server.run(script)
+    def rotated(self, paths):
+        try:
+            paths.rotate()
+            return True
+        except StoreError:
+            return False
 
-    def test_many_bring_it_up_at_once(self):
-        found = []
-        threads = [threading.Thread(target=lambda: found.append(self.open(BOOK))) for _ in range(6)]
-        for thread in threads:
-            thread.start()
-        for thread in threads:
-            thread.join(20)
-        self.assertEqual((len(found), self.number()), (6, 2))
-        self.moves(found[0])
-        self.assertTrue(all(each.audit() for each in found))
+
+@needs_server
+class FromOne(Earlier, unittest.TestCase):
+    """Number 1 had no segments."""
+
+    earlier = 1
 
     def test_an_old_process_goes_on(self):
         """And lines are moved when it has ended."""
         old = self.old_process()
         told = old.call(b"put", 1, 0, None, "1 start read: started 0")
         a = self.open(BOOK, room=4)
-        self.assertEqual(self.number(), 2)
+        self.assertEqual(self.number(), 3)
         old.call(b"append", 1, 1, told[0][0], None, "{0}", "{}", "{}", "{}", "f")
         self.enters(a, 2)
         news, final, mark = old.call(b"lines", 0, None)[0]
@@ -901,13 +898,6 @@ class Numbers(Rotating, unittest.TestCase):
         self.assertEqual(len(self.lines()), 1)
         self.assertRaises(Lost, kept.leave)
         self.assertTrue(a.audit() and self.open(BOOK).audit())
-
-    def rotated(self, paths):
-        try:
-            paths.rotate()
-            return True
-        except StoreError:
-            return False
 
     def test_an_old_process_that_comes_back(self):
         """In time it keeps its worker. Later, and where there are segments, it is refused."""
@@ -940,13 +930,66 @@ class Numbers(Rotating, unittest.TestCase):
             self.server.run("grant usage on schema wanzoche to {}".format(role))
             self.server.run("grant select, insert, update, delete on all tables in schema wanzoche to {}".format(role))
         url = self.server.url.replace("postgres@", "app@")
-        told = "^the schema wanzoche is number 1, and can't be brought to 2, so its owner has to run schema.sql: permission denied for"
+        told = "^the schema wanzoche is number 1, and can't be brought to 3, so its owner has to run schema.sql: permission denied for"
         with self.assertRaisesRegex(StoreError, told):
             self.made(BOOK, store=url)
         self.open(BOOK).close()
         a = self.open(BOOK, store=url)
         self.moves(a)
         self.assertTrue(self.open(BOOK, store=self.server.url.replace("postgres@", "odd%20Name@")).audit())
+
+
+@needs_server
+class FromTwo(Earlier, unittest.TestCase):
+    """Number 2 looked for functions and operators wherever the session did, and knew no grace."""
+
+    earlier = 2
+
+    def test_an_old_process_goes_on(self):
+        """It reads segments, so lines are moved beside it."""
+        old = self.old_process()
+        old.call(b"append", 1, 0, None, "1 start read: started 0", "{}", "{}", "{}", "{}", "f")
+        a = self.open(BOOK)
+        self.assertEqual(self.number(), 3)
+        old.call(b"append", 1, 1, old.call(b"lines", 0, None)[0][2], None, "{0}", "{}", "{}", "{}", "f")
+        self.moves(a)
+        news, final, mark = old.call(b"lines", len(self.standing()) - 1, self.stamps()[-1])[0]
+        self.assertEqual(news, self.lines()[-1])
+        kept = a.enter("read")
+        count = len(self.standing())
+        self.assertEqual(old.call(b"bury_as_2", 1, 2, "{%d}" % kept.token, "{}", "1 second", "t", count), [("t",)])
+        self.assertRaises(Lost, kept.leave)
+        found = old.call(b"rotate", count + 1, self.server.run("select stamp from wanzoche.line order by place desc limit 1")[0][0], 7, 1, "1 second")
+        self.assertEqual(found, [("8",)])
+        late = OldProcess(self.server.url, self.log, 2)
+        self.addCleanup(late.connection.close)
+        self.assertEqual(late.call(b"arrive_as_2", "late"), [("3",)])
+        self.assertTrue(a.audit() and self.open(BOOK).audit())
+
+    def test_it_may_be_brought_up_by_hand_and_twice(self):
+        with open(os.path.join(os.path.dirname(os.path.abspath(_log.__file__)), "schema.sql")) as file:
+            script = file.read()
+        for _ in range(2):
+            self.server.run(script)
+            self.assertEqual(self.number(), 3)
+            self.moves(self.open(BOOK), 2)
+        self.server.run("update wanzoche.schema set number = 4")
+        with self.assertRaisesRegex(Exception, "the schema wanzoche is number 4, and this makes 3"):
+            self.server.run(script)
+
+    def test_many_bring_it_up_at_once(self):
+        found = []
+        threads = [threading.Thread(target=lambda: found.append(self.open(BOOK))) for _ in range(6)]
+        for thread in threads:
+            thread.start()
+        for thread in threads:
+            thread.join(20)
+        self.assertEqual((len(found), self.number()), (6, 3))
+        self.moves(found[0])
+        self.assertTrue(all(each.audit() for each in found))
+
+    def stamps(self):
+        return [stamp for stamps, in self.server.run("select stamps from wanzoche.segment order by place") for stamp in stamps]
 
 
 if __name__ == "__main__":

@@ -14,7 +14,7 @@ from ._postgresql import AGAIN, CANCELLED, HEARTBEAT, Call, Complaint, Cut, Row,
 from ._replica import ROOM, Replica
 from ._store import difference
 
-SCHEMA = 2
+SCHEMA = 3
 """The number of the schema that this package knows. It brings one of an earlier number there."""
 SEGMENT = 16384
 """So many lines go into a segment, if nothing else is said."""
@@ -75,7 +75,7 @@ STATEMENTS = {
     b"commit": "commit",
     b"rollback": "rollback",
     b"open": "select * from wanzoche.open($1, $2)",
-    b"arrive": "select wanzoche.arrive($1, $2, {})".format(SCHEMA),
+    b"arrive": "select wanzoche.arrive($1, $2, {}, $3)".format(SCHEMA),
     b"process": "select process from wanzoche.worker where log = $1 and worker = $2",
     b"hold": "select wanzoche.hold($1, $2)",
     b"leave": "select wanzoche.leave($1, $2)",
@@ -148,7 +148,7 @@ class Log:
 
     def open(self, until: float) -> None:
         """Opens the log, or makes it, and reads it all. The replica is open. Raises `Cut`, `StoreError` and `OtherDeclaration`."""
-        declaration = self.replica.declaration()
+        declaration, self.is_removed = self.replica.declaration(), False
         self.session.connect(until)
         make_schema(self.session, until)
         self._prepare(until)
@@ -181,7 +181,7 @@ class Log:
 
     def _arrive(self) -> None:
         process = "{} {}".format(os.getpid(), socket.gethostname())
-        ((number,),) = self._call(Call(b"arrive", (self._log, process.encode())))[0]
+        ((number,),) = self._call(Call(b"arrive", (self._log, process.encode(), self._grace)))[0]
         if number is None:
             self.is_removed = True
             raise StoreError("the log {} was removed".format(self.name))

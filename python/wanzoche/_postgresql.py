@@ -11,6 +11,8 @@ from typing import Any, Callable, List, NamedTuple, Optional, Sequence
 from ._errors import StoreError
 from ._libpq import Result, direct
 
+PATH = "set search_path = pg_catalog, pg_temp"
+"""What the server is told first: nothing is looked for in a schema in which others may make functions and operators."""
 HEARTBEAT = (
     "set tcp_keepalives_idle = 5; set tcp_keepalives_interval = 2; set tcp_keepalives_count = 3; set tcp_user_timeout = 10000; "
     "set idle_in_transaction_session_timeout = 3000; set client_min_messages = error; set plan_cache_mode = force_generic_plan; "
@@ -107,6 +109,10 @@ class Session:
         if connection.server_version < 140000:
             raise StoreError("the server is PostgreSQL {}: 14 or later is needed".format(connection.server_version // 10000))
         self._calls = direct(pq, connection)
+        try:
+            self.run(PATH, until)
+        except Complaint as error:
+            raise self._cut(str(error)) from error
 
     def _poll(self, events: int, until: float) -> None:
         poll = select.poll()

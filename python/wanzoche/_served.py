@@ -85,7 +85,7 @@ class ServedStore:
                     told = "the log {}: the server doesn't answer: {}".format(self._log.name, error)
                     raise StoreError(told) from error
             except StoreError as error:
-                if not may_pass(error) or time.monotonic() >= until - 0.1:
+                if not (may_pass(error) or self._log.is_removed) or time.monotonic() >= until - 0.1:
                     raise
             self._log.forget()
             time.sleep(0.1)

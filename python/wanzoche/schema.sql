@@ -29,16 +29,24 @@
 --
 -- Advisory locks: key(log, 0) is held by whoever appends or moves lines, to the end of the transaction, and key(log, worker) by the
 -- worker's session.
+--
+-- Nothing here is looked for in a schema in which others may make functions or operators: each function has its own search_path, or was
+-- read under this one when it was made. A session sets it, too, before it calls anything.
+
+set local search_path = pg_catalog, pg_temp;
 
 do $$ begin
+    if current_setting('search_path') <> 'pg_catalog, pg_temp' then
+        raise exception 'run this in one transaction, as by `psql -1 -f schema.sql`';
+    end if;
     if not exists (select from pg_namespace where nspname = 'wanzoche') then
         create schema wanzoche;
         create table wanzoche.schema (number int not null);
-        insert into wanzoche.schema values (2);
-    elsif (select number from wanzoche.schema) > 2 then
-        raise exception 'the schema wanzoche is number %, and this makes 2', (select number from wanzoche.schema);
+        insert into wanzoche.schema values (3);
+    elsif (select number from wanzoche.schema) > 3 then
+        raise exception 'the schema wanzoche is number %, and this makes 3', (select number from wanzoche.schema);
     end if;
-    update wanzoche.schema set number = 2;
+    update wanzoche.schema set number = 3;
 end $$;
 
 create table if not exists wanzoche.log (
@@ -81,9 +89,11 @@ create table if not exists wanzoche.worker (
     gone timestamptz,  -- when somebody first saw its lock free
     is_over boolean not null default false,  -- it never comes back, and others may finish what it has in progress
     knows int not null default 1,  -- the number of the schema that its package knows: with 1 it reads no segments
+    may_be_gone interval,  -- for so long it may be without a session: its grace; null if its package knows a number below 3
     primary key (log, worker)
 );
 alter table wanzoche.worker add column if not exists knows int not null default 1;
+alter table wanzoche.worker add column if not exists may_be_gone interval;
 create index if not exists worker_older on wanzoche.worker (log) where knows < 2 and not is_over;
 
 -- Which worker waits for which operation, and since when; null if it doesn't any more. After a crash nobody waits: each says so again.
@@ -105,16 +115,17 @@ do $$ declare x record; begin
     end loop;
 end $$;
 
--- Of number 1, with fewer parameters: who calls them so gets those below.
+-- Of earlier numbers, with fewer parameters: who calls them so gets those below.
 drop function if exists wanzoche.arrive(int, text);
+drop function if exists wanzoche.arrive(int, text, int);
 drop function if exists wanzoche.bury(int, int, int, bigint[], int[], interval, boolean);
 
-create or replace function wanzoche.key(l int, w int) returns bigint language sql immutable as $$
-    select (22391::bigint << 48) | (l::bigint << 28) | w
-$$;
+create or replace function wanzoche.key(l int, w int) returns bigint language sql immutable
+return (22391::bigint << 48) | (l::bigint << 28) | w;
 
 -- The log of this name, which is made if there is none and a declaration is given; its declaration is returned.
-create or replace function wanzoche.open(called text, declared text, out l int, out declaration text) language plpgsql as $$
+create or replace function wanzoche.open(called text, declared text, out l int, out declaration text)
+language plpgsql set search_path = pg_catalog, pg_temp as $$
 begin
     select x.log, x.declaration into l, declaration from wanzoche.log x where x.name = called;
     if l is null and declared is not null then
@@ -127,18 +138,22 @@ begin
     end if;
 end $$;
 
--- A new worker, whose lock the session has, and whose package knows the schema of this number.
-create or replace function wanzoche.arrive(l int, process text, knows int default 1) returns int language plpgsql as $$
+-- A new worker, whose lock the session has, and whose package knows the schema of this number. Null if the log was removed.
+create or replace function wanzoche.arrive(l int, process text, knows int default 1, grace interval default null) returns int
+language plpgsql set search_path = pg_catalog, pg_temp as $$
 declare w int;
 begin
     update wanzoche.log set workers = workers + 1 where log = l returning workers into w;
+    if w is null then
+        return null;
+    end if;
     if knows < 2 then
         perform pg_advisory_xact_lock(wanzoche.key(l, 0));  -- no segment is made before this worker can be seen
         if wanzoche.moved(l) > 0 then
             raise exception 'the log has segments, which this package doesn''t read: take a later one';
         end if;
     end if;
-    insert into wanzoche.worker (log, worker, process, knows) values (l, w, process, knows);
+    insert into wanzoche.worker (log, worker, process, knows, may_be_gone) values (l, w, process, knows, grace);
     perform pg_advisory_lock(wanzoche.key(l, w));
     if current_setting('synchronous_commit') = 'off' then
         perform set_config('synchronous_commit', 'on', true);  -- or the number might be given again after a crash
@@ -148,7 +163,8 @@ end $$;
 
 -- The worker comes back by another session: false if it was taken for dead meanwhile. If the server hasn't noticed yet that the session
 -- before is gone, that one is ended.
-create or replace function wanzoche.hold(l int, w int) returns boolean language plpgsql as $$
+create or replace function wanzoche.hold(l int, w int) returns boolean
+language plpgsql set search_path = pg_catalog, pg_temp as $$
 declare is_held boolean;
 begin
     while not pg_try_advisory_lock(wanzoche.key(l, w)) loop
@@ -167,19 +183,20 @@ begin
 end $$;
 
 -- The worker ends. It has finished what it had in progress.
-create or replace function wanzoche.leave(l int, w int) returns void language sql as $$
+create or replace function wanzoche.leave(l int, w int) returns void
+language sql set search_path = pg_catalog, pg_temp as $$
     update wanzoche.worker set is_over = true where log = l and worker = w;
     delete from wanzoche.waiting where log = l and worker = w
 $$;
 
 -- How many lines of the log were moved into segments.
-create or replace function wanzoche.moved(l int) returns bigint language sql stable as $$
-    select coalesce((select x.place + x.lines from wanzoche.segment x where x.log = l order by x.place desc limit 1), 0)
-$$;
+create or replace function wanzoche.moved(l int) returns bigint language sql stable
+return coalesce((select x.place + x.lines from wanzoche.segment x where x.log = l order by x.place desc limit 1), 0);
 
 -- Of a caller who knows no line, or whose last line n - 1 isn't a row: returns if line n is a row or isn't there yet. WZ001 and WZ003 as
 -- of `lines`.
-create or replace function wanzoche.look_behind(l int, n bigint, known bigint) returns void language plpgsql stable as $$
+create or replace function wanzoche.look_behind(l int, n bigint, known bigint) returns void
+language plpgsql stable set search_path = pg_catalog, pg_temp as $$
 begin
     if n > 0 and not exists
         (select from (select y.* from wanzoche.segment y where y.log = l and y.place < n order by y.place desc limit 1) x
@@ -194,7 +211,7 @@ end $$;
 -- At most 20,000 lines from place n on, with the place and the stamp of the last. `known` is the stamp of line n - 1. WZ001: that line
 -- isn't there any more, as after a crash. WZ002: a place is empty; it is the detail. WZ003: line n was moved into a segment.
 create or replace function wanzoche.lines(l int, n bigint, known bigint, out news text, out final bigint, out mark bigint)
-language plpgsql stable as $$
+language plpgsql stable set search_path = pg_catalog, pg_temp as $$
 declare many bigint;
 begin
     if n = 0 or not exists (select from wanzoche.line x where x.log = l and x.place = n - 1 and x.stamp = known) then
@@ -214,7 +231,8 @@ end $$;
 
 -- Wakes who has waited longest for each of these operations: a notification with the operation's number on the worker's channel. The caller
 -- needs none. One whose session is gone doesn't wait any more.
-create or replace function wanzoche.wake(l int, w int, operations int[]) returns void language plpgsql as $$
+create or replace function wanzoche.wake(l int, w int, operations int[]) returns void
+language plpgsql set search_path = pg_catalog, pg_temp as $$
 declare x record; woken int[] := '{}';
 begin
     for x in select y.operation, y.worker from wanzoche.waiting y
@@ -236,7 +254,7 @@ end $$;
 -- Appends the finishes of these activations of worker `whose` behind line `final`, but for those that are over: they are owed whatever came
 -- between. Returns the last place then.
 create or replace function wanzoche.put_finishes(l int, whose int, writer int, over bigint[], final bigint, mark bigint) returns bigint
-language plpgsql as $$
+language plpgsql set search_path = pg_catalog, pg_temp as $$
 declare a bigint;
 begin
     foreach a in array over loop
@@ -258,7 +276,7 @@ end $$;
 -- are those of `over` that somebody else has finished. With WZ003, as of `lines`, nothing was done.
 create or replace function wanzoche.append(l int, w int, n bigint, known bigint, texts text, over bigint[], wakes int[], waits int[],
     stops int[], listens boolean, out news text, out final bigint, out mark bigint, out taken bigint[])
-language plpgsql as $$
+language plpgsql set search_path = pg_catalog, pg_temp as $$
 declare is_next boolean; wanted bigint := n - 1; fresh bigint := (random() * 9007199254740991)::bigint;
 begin
     perform pg_advisory_xact_lock(wanzoche.key(l, 0));
@@ -306,14 +324,15 @@ end $$;
 
 -- The same lines as of `lines`, and nobody else appends until the transaction ends.
 create or replace function wanzoche.turn(l int, n bigint, known bigint, out news text, out final bigint, out mark bigint)
-language plpgsql as $$
+language plpgsql set search_path = pg_catalog, pg_temp as $$
 begin
     perform pg_advisory_xact_lock(wanzoche.key(l, 0));
     select x.news, x.final, x.mark into news, final, mark from wanzoche.lines(l, n, known) x;
 end $$;
 
 -- Which of these workers are over, or have been without a session for so long. One that comes back within that time has lost nothing.
-create or replace function wanzoche.dead(l int, workers int[], grace interval) returns setof int language plpgsql as $$
+create or replace function wanzoche.dead(l int, workers int[], grace interval) returns setof int
+language plpgsql set search_path = pg_catalog, pg_temp as $$
 declare w int; x wanzoche.worker;
 begin
     for w in select distinct y from unnest(workers) y order by y loop
@@ -332,7 +351,7 @@ end $$;
 -- lines before n. WZ003: line n was moved into a segment, and nothing was done.
 create or replace function wanzoche.bury(l int, w int, whose int, over bigint[], wakes int[], grace interval, even_alive boolean,
     n bigint default null) returns boolean
-language plpgsql as $$
+language plpgsql set search_path = pg_catalog, pg_temp as $$
 begin
     if not even_alive then
         if not exists (select from wanzoche.dead(l, array[whose], grace)) then
@@ -353,7 +372,8 @@ end $$;
 
 -- Waits until all transactions have ended in which lines are being inserted now: false if that takes more than two seconds. A quick insert
 -- (see above) that is begun behind this sees all lines that the caller knows.
-create or replace function wanzoche.inserts_ended() returns boolean language plpgsql as $$
+create or replace function wanzoche.inserts_ended() returns boolean
+language plpgsql set search_path = pg_catalog, pg_temp as $$
 declare
     began timestamptz := clock_timestamp();
     busy text[] := array(select x.virtualtransaction from pg_locks x where x.locktype = 'relation'
@@ -371,13 +391,19 @@ begin
     return true;
 end $$;
 
+-- The workers that have a session.
+create or replace function wanzoche.alive(l int) returns int[]
+language sql set search_path = pg_catalog, pg_temp as $$
+    select array(select (x.objid::bigint & 268435455)::int from pg_locks x where x.locktype = 'advisory'
+        and x.database = (select d.oid from pg_database d where d.datname = current_database()) and x.objsubid = 1 and x.granted
+        and ((x.classid::bigint << 4) | (x.objid::bigint >> 28)) = wanzoche.key(l, 0) >> 28 and x.objid::bigint & 268435455 > 0)
+$$;
+
 -- The first worker of a package that reads no segments, and that may still be alive; null if there is none. Those without a session for
 -- the grace are over from now on.
-create or replace function wanzoche.older_worker(l int, grace interval) returns int language plpgsql as $$
-declare
-    alive int[] := array(select (x.objid::bigint & 268435455)::int from pg_locks x where x.locktype = 'advisory'
-        and x.database = (select d.oid from pg_database d where d.datname = current_database()) and x.objsubid = 1 and x.granted
-        and ((x.classid::bigint << 4) | (x.objid::bigint >> 28)) = wanzoche.key(l, 0) >> 28);
+create or replace function wanzoche.older_worker(l int, grace interval) returns int
+language plpgsql set search_path = pg_catalog, pg_temp as $$
+declare alive int[] := wanzoche.alive(l);
 begin
     update wanzoche.worker x
         set is_over = coalesce(x.gone + grace <= clock_timestamp(), false), gone = coalesce(x.gone, clock_timestamp())
@@ -389,7 +415,7 @@ end $$;
 -- done: null if somebody inserts lines for too long, or less than zero for a worker whose package reads no segments. The caller knows all
 -- lines before n, `known` is the stamp of the last, and that one stays a row. WZ001 and WZ002 as of `lines`.
 create or replace function wanzoche.rotate(l int, n bigint, known bigint, first bigint, many int, grace interval) returns bigint
-language plpgsql as $$
+language plpgsql set search_path = pg_catalog, pg_temp as $$
 declare older int; deleted int;
 begin
     if not wanzoche.inserts_ended() then
@@ -423,21 +449,29 @@ end $$;
 
 -- A segment of a log as the text of a journal, or the lines behind the last segment: `pathsys audit DECLARATION` takes them all in order.
 -- Null if there is no such segment.
-create or replace function wanzoche.journal(called text, number int default null) returns text language sql stable as $$
+create or replace function wanzoche.journal(called text, number int default null) returns text
+language sql stable set search_path = pg_catalog, pg_temp as $$
     select E'journal 2 room 1048576' || case when number is null
         then coalesce(E'\n' || (select string_agg(x.line, E'\n' order by x.place) from wanzoche.line x where x.log = y.log), '')
         else E'\n' || (select x.text from wanzoche.segment x where x.log = y.log and x.segment = number) end
     from wanzoche.log y where y.name = called
 $$;
 
--- Removes a log that no living worker has open, with all its lines: false if there is none or one is alive.
-create or replace function wanzoche.remove(called text) returns boolean language plpgsql as $$
-declare l int;
+-- Removes a log with all its lines: false if there is none, or if a worker may be alive. It may as long as it has a session, and for the
+-- grace behind the first moment in which somebody saw that it had none, if it hasn't closed its paths. This call looks, too.
+create or replace function wanzoche.remove(called text) returns boolean
+language plpgsql set search_path = pg_catalog, pg_temp as $$
+declare l int; alive int[]; longest interval;
 begin
     perform pg_advisory_xact_lock(wanzoche.key(0, 0));
-    select x.log into l from wanzoche.log x where x.name = called;
-    if l is null or exists
-        (select from wanzoche.worker x where x.log = l and not pg_try_advisory_xact_lock_shared(wanzoche.key(l, x.worker)))
+    select x.log into l from wanzoche.log x where x.name = called for update;  -- from now on nobody arrives
+    perform from wanzoche.worker x where x.log = l and not x.is_over for update;  -- and nobody comes back
+    alive := wanzoche.alive(l);
+    update wanzoche.worker x set gone = clock_timestamp()
+        where x.log = l and not x.is_over and x.gone is null and x.worker <> all (alive);
+    select coalesce(max(x.may_be_gone), '5 seconds') into longest from wanzoche.worker x where x.log = l;
+    if l is null or alive <> '{}'
+        or exists (select from wanzoche.worker x where x.log = l and not x.is_over and x.gone + longest > clock_timestamp())
     then
         return false;
     end if;
