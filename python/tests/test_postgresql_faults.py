@@ -4,7 +4,11 @@ beside another."""
 import gc
 import os
 import random
+import shutil
 import signal
+import socket
+import subprocess
+import tempfile
 import threading
 import time
 import unittest
@@ -451,6 +455,90 @@ class Removals(Faulty, unittest.TestCase):
         import psycopg
 
         return psycopg.connect(self.server.url, gssencmode="disable")
+
+
+POOLER = shutil.which("pgbouncer", path=os.environ.get("PATH", "") + ":/usr/sbin")
+
+
+class Pooler:
+    """pgbouncer before a server."""
+
+    def __init__(self, test, server, **settings):
+        with socket.socket() as free:
+            free.bind(("127.0.0.1", 0))
+            self.port = free.getsockname()[1]
+        told = ["[databases]", "postgres = host={} port={} user=postgres".format(server.folder, server.port), "[pgbouncer]"]
+        told += ["listen_addr = 127.0.0.1", "listen_port = {}".format(self.port), "unix_socket_dir =", "auth_type = any"]
+        told += ["{} = {}".format(*each) for each in settings.items()]
+        with tempfile.NamedTemporaryFile("w", prefix="wanzoche-", dir=server.folder, delete=False) as file:
+            file.write("\n".join(told) + "\n")
+        os.chmod(file.name, 0o644)
+        self._process = subprocess.Popen([POOLER, "-q", file.name], cwd="/", preexec_fn=server._become, stderr=subprocess.DEVNULL)
+        test.addCleanup(self._process.wait)
+        test.addCleanup(self._process.kill)
+        test.until(self.is_there)
+        self.url = server.tcp_url(port=self.port)
+
+    def is_there(self):
+        try:
+            socket.create_connection(("127.0.0.1", self.port)).close()
+            return True
+        except OSError:
+            return False
+
+    def connection(self):
+        """Another client."""
+        import psycopg
+
+        return psycopg.connect(self.url, autocommit=True, gssencmode="disable")
+
+
+@needs_server
+@unittest.skipUnless(POOLER, "there is no pgbouncer here")
+class Poolers(Faulty, unittest.TestCase):
+    def others(self, pooler, transactions):
+        """Clients that have transactions at once, and then one after another, so that the pool has several sessions."""
+        clients = [pooler.connection() for _ in range(transactions)]
+        for client in clients:
+            self.addCleanup(client.close)
+        for told in ("begin", "rollback"):
+            for client in clients:
+                client.execute(told)
+
+    def test_one_that_keeps_no_sessions(self):
+        for mode in ("transaction", "statement"):
+            for settings in ({}, {"default_pool_size": 1}, {"server_round_robin": 1}):
+                for transactions in (0, 3) if mode == "transaction" and not settings.get("default_pool_size") else (0,):
+                    with self.subTest(mode=mode, settings=settings, transactions=transactions):
+                        pooler = Pooler(self, self.server, pool_mode=mode, **settings)
+                        self.others(pooler, transactions)
+                        with self.assertRaisesRegex(StoreError, "^a pooler stands before the server .* name the server itself"):
+                            self.made(BOOK, store=pooler.url)
+
+    def test_one_that_keeps_them(self):
+        pooler = Pooler(self, self.server, pool_mode="session")
+        a, b = self.open(BOOK, store=pooler.url), self.open(BOOK)
+        self.enters_soon(a, b, a)
+        self.assertTrue(a.audit())
+
+    def test_one_that_has_no_other(self):
+        """Only one session, which is kept."""
+        with mock.patch.object(_postgresql, "BESIDE", 0.3):
+            pooler = Pooler(self, self.server, pool_mode="session", default_pool_size=1)
+            a = self.open(BOOK, store=pooler.url)
+            self.enters_soon(a)
+            self.assertTrue(a.audit())
+
+    def test_nothing_of_the_pool_is_changed(self):
+        """Whoever gets the session next finds it as it was."""
+        pooler = Pooler(self, self.server, pool_mode="transaction", default_pool_size=1)
+        client = pooler.connection()
+        self.addCleanup(client.close)
+        before = client.execute("select name, setting from pg_settings order by name").fetchall()
+        with self.assertRaises(StoreError):
+            self.made(BOOK, store=pooler.url)
+        after = client.execute("select name, setting from pg_settings order by name").fetchall()
+        self.assertEqual(set(after) - set(before), set())
 
 
 class Enters(Worker):

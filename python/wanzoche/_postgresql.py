@@ -36,6 +36,14 @@ CANCELLED = "57014"
 Row = Sequence[Optional[bytes]]
 
 
+BESIDE = 2.0
+"""Behind a pooler, so many seconds another session is waited for. If there is none, this one has the only one that there is."""
+POOLED = (
+    "a pooler stands before the server and gives a session to others between two transactions, as pgbouncer does with "
+    "`pool_mode = transaction`. Paths need sessions that are kept: name the server itself in the URL, or take `pool_mode = session`"
+)
+
+
 class Cut(Exception):
     """The session is over. What was called may have been done or not."""
 
@@ -73,6 +81,7 @@ class Session:
     """One session. For one thread; but `close_here` may be called in the child of a fork."""
 
     def __init__(self, url: str) -> None:
+        self._url = url
         self._pq = psycopg(".pq")
         conninfo = psycopg(".conninfo")
         try:
@@ -94,7 +103,36 @@ class Session:
     # Connecting
 
     def connect(self, until: float) -> None:
-        """Connects by then. Raises Cut."""
+        """Connects by then. Raises `Cut`, and `StoreError` if a pooler doesn't keep sessions."""
+        self._connect(until)
+        try:
+            own = self._process(until)
+            if own != self._connection.backend_pid:
+                self._refuse_pooler(own, until)
+            self.run(PATH, until)
+        except Complaint as error:
+            raise self._cut(str(error)) from error
+
+    def _process(self, until: float, before: str = "") -> int:
+        """The number of the server's process that answers."""
+        return int(self.run(before + "select pg_catalog.pg_backend_pid()", until)[-1][0][0] or 0)
+
+    def _refuse_pooler(self, own: int, until: float) -> None:
+        """Another process of the server answers than the one that was named when this session was connected, so somebody stands between.
+        Raises `StoreError` if another session has this process too, or if another process answers while that one has a transaction."""
+        beside, limit = Session(self._url), min(until, time.monotonic() + BESIDE)
+        try:
+            try:
+                beside._connect(limit)
+                is_shared = own in (beside._process(limit), beside._process(limit, "begin; "))
+            except Cut:
+                is_shared = False
+            if is_shared or any(self._process(until) != own for _ in range(3)):
+                raise StoreError(POOLED)
+        finally:
+            beside.close()
+
+    def _connect(self, until: float) -> None:
         pq = self._pq
         self.close()
         self._connection = connection = pq.PGconn.connect_start(self._info)
@@ -109,10 +147,6 @@ class Session:
         if connection.server_version < 140000:
             raise StoreError("the server is PostgreSQL {}: 14 or later is needed".format(connection.server_version // 10000))
         self._calls = direct(pq, connection)
-        try:
-            self.run(PATH, until)
-        except Complaint as error:
-            raise self._cut(str(error)) from error
 
     def _poll(self, events: int, until: float) -> None:
         poll = select.poll()
