@@ -1,6 +1,7 @@
 """The command `wanzoche` over a log in PostgreSQL."""
 
 import os
+import re
 import signal
 import socket
 import subprocess
@@ -9,7 +10,10 @@ import tempfile
 import unittest
 
 from .declarations import BOOK, SLOT
-from .servers import OnServer, needs_server
+from .servers import OnServer, folder_of_programs, needs_server
+
+TOP = os.path.dirname(os.path.dirname(os.path.dirname(os.path.abspath(__file__))))
+PROGRAMS = os.path.join(os.path.dirname(os.path.dirname(os.path.abspath(os.environ.get("WANZOCHE_LIBRARY", "")))), "bin")
 
 
 @needs_server
@@ -115,6 +119,60 @@ class Commands(OnServer, unittest.TestCase):
         with open(self.declaration, "w") as file:
             file.write(SLOT)
         self.assertRegex(self.runs("log", "--declaration", self.declaration)[1], "is of another declaration: ")
+
+
+@needs_server
+@unittest.skipUnless(os.path.exists(os.path.join(PROGRAMS, "pathsys")), "there is no pathsys beside the library")
+class Page(OnServer, unittest.TestCase):
+    """What docs/machines.md shows, copied as it stands, where the server is another."""
+
+    URL = "postgresql://app@db.example/app"
+
+    def setUp(self):
+        super().setUp()
+        self.name = "pool"
+        folder = tempfile.TemporaryDirectory(prefix="wanzoche-")
+        self.addCleanup(folder.cleanup)
+        self.folder = folder.name
+        with open(os.path.join(self.folder, "wanzoche"), "w") as file:
+            file.write('#!/bin/sh\nexec "{}" -m wanzoche "$@"\n'.format(sys.executable))
+        os.chmod(file.name, 0o755)
+        path = [self.folder, PROGRAMS, folder_of_programs(), os.environ["PATH"]]
+        self.environment = {**os.environ, "PATH": ":".join(path), "URL": self.server.url, "PYTHONPATH": os.path.join(TOP, "python")}
+        with open(os.path.join(TOP, "docs", "machines.md")) as file:
+            text = file.read()
+        self.blocks = re.findall(r"^```(\w+)\n(.*?)^```$", text, re.M | re.S)
+
+    def runs(self, language, block):
+        """What it writes."""
+        words = {"python": [sys.executable, "-W", "ignore", "-c"], "sh": ["sh", "-e", "-c"]}[language]
+        words.append(block.replace(self.URL, self.server.url))
+        ended = subprocess.run(words, cwd=self.folder, env=self.environment, stdout=subprocess.PIPE, stderr=subprocess.PIPE, timeout=60)
+        self.assertEqual((ended.returncode, ended.stderr), (0, b""), block)
+        return ended.stdout.decode()
+
+    def test_each_block(self):
+        told = [self.runs(*block) for block in self.blocks if "apt-get" not in block[1]]
+        python, audit, removed, shell = told
+        self.assertEqual((python, audit), ("", "sound\n"))
+        self.assertRegex(removed, "^[tf]\n$")
+        self.assertRegex(shell, "^startable job backup\nfrozen no\n")
+
+    def test_segments(self):
+        """The texts that it takes are all lines, also of a dozen segments."""
+        (language, declared), = [block for block in self.blocks if block[0] == "python"]
+        paths = self.open(re.search('"""(.*?)"""', declared, re.S).group(1))
+        for _ in range(12):
+            paths.enter("job").leave()
+            paths.rotate()
+        audits = [block for block in self.blocks if "pathsys audit" in block[1]]
+        self.assertEqual([self.runs(*block) for block in audits], ["sound\n"])
+        names = sorted((name for name in os.listdir(self.folder) if re.match(r"pool\.\d+$", name)), key=lambda name: int(name[5:]))
+        lines = []
+        for name in names + ["pool.rest"]:
+            with open(os.path.join(self.folder, name)) as file:
+                lines += file.read().splitlines()[1:]
+        self.assertEqual((len(names), lines), (12, paths.journal().splitlines()))
 
 
 if __name__ == "__main__":

@@ -74,7 +74,7 @@ def psycopg(name: str) -> Any:
     try:
         return importlib.import_module("psycopg" + name)
     except ImportError as error:
-        raise StoreError("a store in PostgreSQL needs psycopg 3: pip install wanzoche[postgresql] ({})".format(error)) from error
+        raise StoreError("a store in PostgreSQL needs psycopg 3, as Debian's python3-psycopg: docs/machines.md ({})".format(error)) from error
 
 
 class Session:
