@@ -919,6 +919,28 @@ class Refusals(InFolder, unittest.TestCase):
                 Paths(BOOK, store=other)
             self.assertTrue(paths.audit())
 
+    def test_a_file_that_others_move_away_meanwhile(self):
+        """It has two names while they do, and is one of the older files when they have done so twice."""
+        other, fstat, asked = self.open(BOOK), os.fstat, []
+
+        def moves(fd):
+            if asked:
+                return fstat(fd)
+            asked.append(fd)
+            os.link(self.file, self.file + ".1")
+            found = fstat(fd)
+            os.unlink(self.file + ".1")
+            for _ in range(2):
+                other.enter("write").leave()
+                other.rotate()
+            return found
+
+        with mock.patch.object(os, "fstat", moves):
+            paths = self.open(BOOK)
+        self.assertEqual(paths.journal(), other.journal())
+        paths.enter("write").leave()
+        self.assertTrue(other.audit())
+
     def test_a_file_in_two_places(self):
         """As where a container has the file alone mounted: what is beside it is another file there. Here a hard link is such a place."""
         other, told = self.folder + "/other.log", "is open in another place, with another file beside it than .*shared$"

@@ -132,7 +132,7 @@ class StoreError(WanzocheError, OSError):
 
 
 class StoreInUse(StoreError):
-    """Another program has the store's journal to itself."""
+    """Another program has the store's journal to itself, or it is open in another place with another file beside it."""
 
 
 class OtherDeclaration(StoreError):

@@ -456,9 +456,8 @@ class Store(Turns):
         return count
 
     def _is_half_moved(self, inode: int) -> bool:
-        """Whether the file of the journal with this number has the name already that it gets when it is moved away."""
-        count = self._count_moved()
-        return count > 0 and os.stat(self._archive(count - 1)).st_ino == inode
+        """Whether the file of the journal with this number has a name already that it gets when it is moved away."""
+        return any(os.stat(self._archive(each)).st_ino == inode for each in range(self._count_moved()))
 
     # Following
 
