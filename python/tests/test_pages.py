@@ -1,4 +1,4 @@
-"""The blocks of pages can be copied: each runs as it stands, in an empty folder and behind those before it on its page."""
+"""The blocks of pages can be copied: each runs as it stands, in an empty folder and behind all that stand before it."""
 
 import os
 import re
@@ -53,8 +53,9 @@ class Pages(unittest.TestCase):
 
     @unittest.skipUnless(THOROUGH, "it takes longer")
     def test_one_behind_the_other(self):
+        """Also where the pages before have left their files."""
+        folder = self.new_folder("all")
         for page in PAGES:
-            folder = self.new_folder(page)
             for line, language, text in blocks(page):
                 with self.subTest("docs/{}:{}".format(page, line)):
                     self.runs(folder, language, text)
