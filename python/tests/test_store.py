@@ -1072,7 +1072,8 @@ class Systems(InFolder, unittest.TestCase):
             self.refused(errno.EIO, "door.log can't be used: Input/output error$", paths.report)
             self.refused(errno.EIO, "door.log.shared can't be read: Input/output error$", lambda: paths._store.process_of(1))
         with mock.patch.object(os, "pwrite", side_effect=OSError(errno.ENOSPC, os.strerror(errno.ENOSPC))):
-            self.refused(errno.ENOSPC, "No space left on device$", lambda: Paths(LINE, store=self.file))
+            with Paths(LINE, store=self.file) as third:
+                self.assertEqual((third.worker, third._store.process_of(3)), ("process 3", None))
         paths.enter("get").leave()
         self.assertTrue(paths.audit())
 
@@ -1155,6 +1156,10 @@ class Disks(InFolder, unittest.TestCase):
             self.assertEqual(self.text()[-1:], b"\n")
             left = self.text().count(b"finished")
             self.assertEqual(len(other.report().live), len(entries) - left)
+            with Paths(BOOK, store=self.file, lost="keep") as looking:
+                self.assertEqual(len(looking.report().live), len(entries) - left)
+                with self.assertRaisesRegex(StoreError, "can't be written: No space left on device$"):
+                    looking.enter("read")
             os.unlink(mounted + "/filler")
             for entry in entries[left:]:
                 entry.leave()

@@ -20,7 +20,7 @@ from ctypes import c_uint8, c_uint32, c_uint64
 from typing import Any, Optional
 
 from ._errors import StoreError
-from ._files import give_access, no_stream_is_free, open_file, sync_folder, telling, write
+from ._files import give_access, is_of_system, no_stream_is_free, open_file, sync_folder, telling, write
 
 VERSION = 1
 """Of this file's form. A package refuses a store of another one."""
@@ -144,8 +144,13 @@ class Beside:
     # Presence
 
     def arrive(self, worker: int) -> None:
-        """From now on this worker is alive, until this opening is closed or the process dies."""
-        os.pwrite(self.fd, _PROCESS.pack(os.getpid()), self._place_of(worker))
+        """From now on this worker is alive, until this opening is closed or the process dies. On a full disk the number of its process isn't
+        known: nobody needs it to go on."""
+        try:
+            os.pwrite(self.fd, _PROCESS.pack(os.getpid()), self._place_of(worker))
+        except OSError as error:
+            if not is_of_system(error):
+                raise
         fcntl.fcntl(self.fd, _OFD_SETLK, _asked(fcntl.F_WRLCK, _WORKERS + worker))
 
     def process_of(self, worker: int) -> Optional[int]:
