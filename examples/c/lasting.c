@@ -24,14 +24,17 @@ static int fail(const char *what) {
     exit(3);
 }
 
-/* Opens the file, or makes it: then its name has to be on the disk, too. */
-static int open_log(char *path) {
+/* Opens the file, or makes it: then its name has to be on the disk, too, in the folder where it lies, also if the path is a link. */
+static int open_log(const char *path) {
     int file = open(path, O_RDWR | O_CREAT | O_APPEND | O_CLOEXEC, 0666);
     if (file < 0) fail("the log can't be opened");
     if (flock(file, LOCK_EX | LOCK_NB)) fail("the log is in use");
-    int folder = open(dirname(path), O_RDONLY | O_CLOEXEC);
+    char *real = realpath(path, NULL);
+    if (real == NULL || fsync(file)) fail("the log can't be synced");
+    int folder = open(dirname(real), O_RDONLY | O_CLOEXEC);
     if (folder < 0 || fsync(folder)) fail("the log's folder can't be synced");
     close(folder);
+    free(real);
     return file;
 }
 
