@@ -3,11 +3,11 @@
 //! No contract can say what a file gives or keeps, so those of [`Device`] say nothing of these: nothing is known of what a
 //! [`FileDevice`] holds. That a file is as a device has to be is the premise under which a store keeps its lines.
 
-ghost use Rattle.std.specs.Prelude.{◌≡◌, true, IsErrOf};
+ghost use Rattle.std.specs.Prelude.{◌≡◌, Some, IfErr};
 
 use path_store::{Device, DeviceFault};
 use std::alloc::Allocator;
-use std::fs::{File, Files, OpenOptions, TryLockError};
+use std::fs::{self, File, Files, OpenOptions, TryLockError};
 use std::io::{self, ErrorKind, Write};
 use std::os::unix::fs::FileExt;
 use std::path::Path;
@@ -37,16 +37,21 @@ impl From<io::Error> for FileFault {
 #[derive(Drop)]
 pub struct FileDevice {
     file: File,
-    failed: bool,
+    /// How the last call that failed did so.
+    fault: Option<DeviceFault>,
+    /// Its error.
     error: Option<io::Error>,
 }
 
 impl FileDevice {
     /// Opens the file at a path, or makes an empty one, and locks it until this is dropped or the process ends, however it ends. The
-    /// file and its entry in its folder are on the disk then.
+    /// file and its entry in its folder are on the disk then; where the path is a symbolic link, the folder is that of the file.
     ///
     /// Fails with `InUse` if the file is locked, and with `Io` if it can't be opened for reading and writing, locked or synced.
-    pub fn open<R: Files<File = File>>(rt: &R, path: &str) -> Result<FileDevice, FileFault> {
+    pub fn open<R: Files<File = File> + AllocGlobal>(
+        rt: &R,
+        path: &str,
+    ) -> Result<FileDevice, FileFault> {
         let file = OpenOptions::new()
             .read(true)
             .append(true)
@@ -61,7 +66,7 @@ impl FileDevice {
         sync_folder(rt, path)?;
         Ok(FileDevice {
             file,
-            failed: false,
+            fault: None,
             error: None,
         })
     }
@@ -73,26 +78,35 @@ impl FileDevice {
 
     // What a call answers whose result this is.
     fn given<T: Drop>(&mut self, outcome: io::Result<T>) -> Result<T, DeviceFault>
-        ensures failed { IsErrOf result DeviceFault.Failed → self.new.failed ≡ true }
+        ensures { IfErr result (λ fault. self.new.fault ≡ Some fault) }
     {
         match outcome {
             Ok(value) => Ok(value),
             Err(error) => {
-                self.failed = true;
+                let fault = fault_of(error);
+                self.fault = Some(fault);
                 self.error = Some(error);
-                Err(fault_of(error))
+                Err(fault)
             }
         }
     }
 }
 
-// Writes the entry of the file in its folder to the disk.
-fn sync_folder<R: Files<File = File>>(rt: &R, path: &str) -> io::Result<()> {
-    let folder = match Path::new(path).parent() {
+// Writes the folder of this path to the disk.
+fn sync_parent<R: Files<File = File>>(rt: &R, path: Path<'_>) -> io::Result<()> {
+    let folder = match path.parent() {
         Some(folder) if !folder.as_str().is_empty() => folder,
         _ => Path::new("."),
     };
     File::open(rt, folder)?.sync_all()
+}
+
+// Writes the entry of the file in its folder to the disk. A link has an entry of its own, and its file another.
+fn sync_folder<R: Files<File = File> + AllocGlobal>(rt: &R, path: &str) -> io::Result<()> {
+    if fs::symlink_metadata(rt, path)?.is_symlink() {
+        return sync_parent(rt, fs::canonicalize(rt, path)?.as_path());
+    }
+    sync_parent(rt, Path::new(path))
 }
 
 // The fault that an error is told as.
@@ -139,7 +153,7 @@ impl Device for FileDevice {
 
     ghost left_since = { λ f t c. Unit {0} };
 
-    ghost has_failed = { λ f. f.failed ≡ true };
+    ghost fails_with = { λ f fault. f.fault ≡ Some fault };
 
     ghost counts_now = { λ f t c le now. tt };
 
