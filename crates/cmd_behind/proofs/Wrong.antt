@@ -15,9 +15,13 @@ use Rattle.path_system.specs.Taken.{IsNext, IsTakeFault}
 use Rattle.path_system.specs.declared.fault.TakeFault.{TakeFault}
 use Rattle.path_system.specs.declared.fault.TakeFault.TheVariants.{NotOwed, DeviceFailed}
 use Rattle.cmd_base.specs.Own.{own_openings, own_states}
-use Rattle.cmd_audit.specs.Segments.{AreSegmentTexts, LackRoom}
+use Rattle.path_decl.specs.Text.{IsDeclarationText}
+use Rattle.path_audit.specs.declared.journals.SegmentsVerdict.TheVariants.{WrongLine}
+use Rattle.cmd_audit.specs.Segments.{AreAuditOf, AreSegmentTexts, LackRoom}
 use Rattle.cmd_behind.specs.declared.taking.Place.{Place}
-use Rattle.cmd_behind.specs.Behind.{HasWrongLine}
+use Rattle.cmd_behind.specs.declared.behind.BehindFault.{BehindFault}
+use Rattle.cmd_behind.specs.declared.behind.BehindFault.TheVariants as faults
+use Rattle.cmd_behind.specs.Behind.{NamesWrong, NamesWrongUnder}
 use Rattle.cmd_behind.specs.Inner.{HasTaken, IsFirstWrongOf}
 use Rattle.cmd_behind.proofs.Going.{Begins}
 
@@ -86,24 +90,27 @@ contents_own [] = refl
 contents_own (r ∷ rs) = ap (λ xs. opening_numbers r.law ∷ xs) (contents_own rs)
 
 -- what an audit finds, too
-pub has_wrong : (d : Declaration) (given room : ℕ) (texts : List (List ℕ)) (segments : List (List Line)) (states : List State) (system : Account) (place : Place) → states ≡ own_states d
-    → AreSegmentTexts d given texts room segments → IsRoom room → system ≡ account_of d room states → IsFirstWrongOf system segments place → HasWrongLine d given texts
-has_wrong d given room texts segments states system place own told good is wrong =
+pub audit_wrong : (d : Declaration) (given room : ℕ) (texts : List (List ℕ)) (segments : List (List Line)) (states : List State) (system : Account) (place : Place) → states ≡ own_states d
+    → AreSegmentTexts d given texts room segments → IsRoom room → system ≡ account_of d room states → IsFirstWrongOf system segments place → AreAuditOf d given texts (WrongLine place.file place.line)
+audit_wrong d given room texts segments states system place own told good is wrong =
     let opened : system ≡ account_of d room (own_states d) = is ∙ ap (account_of d room) own in
-    let here = subst (λ (a : Account). IsFirstWrongOf a segments place) opened wrong in (
-      place.file,
-      place.line,
-      record {
-        room = room;
-        segments = segments;
-        told = told;
-        in_range = good;
-        judged = (
-          here.0,
-          subst (λ os. IsFirstWrongBehind d room os (take place.file segments) (get_or segments place.file []) place.line) (contents_own d.resources) here.1,
-        );
-      },
-    )
+    let here = subst (λ (a : Account). IsFirstWrongOf a segments place) opened wrong in
+    record {
+      room = room;
+      segments = segments;
+      told = told;
+      in_range = good;
+      judged = (
+        here.0,
+        subst (λ os. IsFirstWrongBehind d room os (take place.file segments) (get_or segments place.file []) place.line) (contents_own d.resources) here.1,
+      );
+    }
+
+-- under the declaration in a text
+pub names_under : (declaration : List ℕ) (d : Declaration) (given : ℕ) (texts : List (List ℕ)) (fault : BehindFault) → IsDeclarationText declaration d → NamesWrong d given texts fault → NamesWrongUnder declaration given texts fault
+names_under declaration d given texts (faults.WrongLine place) declares named = (d, declares, named)
+names_under declaration d given texts (faults.Files fault) declares named = tt
+names_under declaration d given texts (faults.Other fault) declares named = tt
 
 -- texts whose room is refused name none
 pub lack_room : (d : Declaration) (given room : ℕ) (texts : List (List ℕ)) (segments : List (List Line)) → AreSegmentTexts d given texts room segments → IsBadRoom room → LackRoom d given texts

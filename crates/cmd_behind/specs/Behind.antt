@@ -8,6 +8,7 @@ use Rattle.cmd_base.specs.declared.status.Status.{Status}
 use Rattle.cmd_base.specs.declared.status.Status.TheVariants as statuses
 use Rattle.cmd_base.specs.Ends.{OfText, Refused, UnderText}
 use Rattle.cmd_base.specs.Own.{own_states}
+use Rattle.cmd_base.specs.Refusals.{Under}
 use Rattle.cmd_base.specs.Statuses.{status_of}
 use Rattle.cmd_audit.specs.Files.{fault_status}
 use Rattle.cmd_audit.specs.Segments.{AreAuditOf, AreNoSegments, AreSegmentTexts, LackRoom}
@@ -33,6 +34,10 @@ pub record IsBehind (d : Declaration) (given : ℕ) (texts : List (List ℕ)) (s
   pub told : AreSegmentTexts d given texts room segments
   pub answered : HasAnswered d room segments system
 
+-- these are the segments in the texts
+abbrev pub AreSegmentsIn : Declaration → ℕ → List (List ℕ) → List (List Line) → Type 0
+AreSegmentsIn d given texts segments = (room : ℕ) × AreSegmentTexts d given texts room segments
+
 -- the texts are those of segments, and an audit of them finds a wrong line
 abbrev pub HasWrongLine : Declaration → ℕ → List (List ℕ) → Type 0
 HasWrongLine d given texts = (s : ℕ) × (n : ℕ) × AreAuditOf d given texts (WrongLine s n)
@@ -51,6 +56,17 @@ OfBehind P bad d given texts =
 -- how it ends under the declaration in a text if no system goes on
 abbrev pub RefusesBehind : List ℕ → ℕ → List (List ℕ) → Status → List ℕ → Type 0
 RefusesBehind declaration given texts = UnderText declaration (λ d. OfBehind (λ out. ⊥) ⊥ d given texts)
+
+-- if a line is named as wrong, an audit of the texts names it, too
+abbrev pub NamesWrong : Declaration → ℕ → List (List ℕ) → BehindFault → Type 0
+NamesWrong d given texts (faults.WrongLine place) = AreAuditOf d given texts (WrongLine place.file place.line)
+NamesWrong d given texts fault = Unit {0}
+
+-- the same under the declaration in a text
+abbrev pub NamesWrongUnder : List ℕ → ℕ → List (List ℕ) → BehindFault → Type 0
+NamesWrongUnder declaration given texts (faults.WrongLine place) =
+    Under declaration (λ d. AreAuditOf d given texts (WrongLine place.file place.line))
+NamesWrongUnder declaration given texts fault = Unit {0}
 
 -- the status of what keeps a system from going on
 abbrev pub behind_status : BehindFault → Status

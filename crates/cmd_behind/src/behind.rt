@@ -5,7 +5,8 @@ ghost use Rattle.path_shelf.specs.Own.{own_state};
 ghost use Rattle.cmd_base.specs.Ends.{MayEnd};
 ghost use Rattle.cmd_base.specs.Own.{own_states};
 ghost use Rattle.cmd_base.specs.Refusals.{Under};
-ghost use Rattle.cmd_behind.specs.Behind.{IsBehind, OfBehind, RefusesBehind, behind_status};
+ghost use Rattle.cmd_behind.specs.Behind.{AreSegmentsIn, IsBehind, NamesWrong, NamesWrongUnder, OfBehind};
+ghost use Rattle.cmd_behind.specs.Behind.{RefusesBehind, behind_status};
 
 use crate::taking::{Place, take_segments};
 use cmd_audit::{FilesFault, JournalFile, name_of, read_segments, tell_of_file};
@@ -47,6 +48,9 @@ fn open_behind<A: Allocator + Copy>(
 ) -> Result<Behind<A>, BehindFault>
     requires { map own_state devices.items ≡ own_states decl.declaration }
     ensures ok { IfOk result (λ behind. IsBehind decl.declaration room (map (λ f. f.text.items) files.now) behind.system) }
+    ensures segments { IfOk result (λ behind. AreSegmentsIn decl.declaration room (map (λ f. f.text.items) files.now)
+        (map (λ lines. lines.items) behind.segments.items)) }
+    ensures wrong { IfErr result (λ fault. NamesWrong decl.declaration room (map (λ f. f.text.items) files.now) fault) }
     ensures err { IfErr result (λ fault. MayEnd
         (OfBehind (λ out. ⊥) ⊥ decl.declaration room (map (λ f. f.text.items) files.now)) (behind_status fault)) }
 {
@@ -89,6 +93,11 @@ pub fn read_behind<A: Allocator + Copy>(
     files: &[JournalFile<A>],
 ) -> Result<Behind<A>, BehindFault>
     ensures ok { IfOk result (λ behind. Under declaration.now (λ d. IsBehind d room (map (λ f. f.text.items) files.now) behind.system)) }
+    // The segments are those in the texts.
+    ensures segments { IfOk result (λ behind. Under declaration.now (λ d. AreSegmentsIn d room (map (λ f. f.text.items) files.now)
+        (map (λ lines. lines.items) behind.segments.items))) }
+    // The line that is named as wrong is the first one that an audit of the files finds wrong.
+    ensures wrong { IfErr result (λ fault. NamesWrongUnder declaration.now room (map (λ f. f.text.items) files.now) fault) }
     ensures err { IfErr result (λ fault.
         MayEnd (RefusesBehind declaration.now room (map (λ f. f.text.items) files.now)) (behind_status fault)) }
 {

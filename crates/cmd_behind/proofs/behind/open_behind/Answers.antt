@@ -9,7 +9,7 @@ use Rattle.cmd_audit.specs.Files.{fault_status}
 use Rattle.cmd_audit.specs.Segments.{AreNoSegments, LackRoom}
 use Rattle.cmd_behind.specs.Behind.{HasWrongLine, UnlessWrong}
 use Rattle.cmd_behind.proofs.Going.{all_answered}
-use Rattle.cmd_behind.proofs.Wrong.{has_wrong, lack_room}
+use Rattle.cmd_behind.proofs.Wrong.{audit_wrong, lack_room}
 use Rattle.cmd_behind.proofs.behind.open_behind.Goals as goal
 
 pub returns-in-Err-clause-err : goal.returns-in-Err-clause-err
@@ -43,8 +43,21 @@ returns-in-Some-clause-err g c =
     let texts : List (List ℕ) = map (λ f. f.text.items) c.args.files.now in
     record {
       may = (
-        has_wrong c.args.decl.declaration c.args.room c.in-Ok.segments.room texts _ (map own_state c.args.devices.items) c.in-Ok-open.system c.in-Some.place c.requires c.in-Ok.ensures.ok
-            c.in-Ok-open.ensures.good_room c.in-Ok-open.ensures.ok (rw c.deref.ensures.value at c.in-Some.ensures.wrong),
+        (
+          c.in-Some.place.file,
+          c.in-Some.place.line,
+          audit_wrong c.args.decl.declaration c.args.room c.in-Ok.segments.room texts _ (map own_state c.args.devices.items) c.in-Ok-open.system c.in-Some.place c.requires c.in-Ok.ensures.ok
+              c.in-Ok-open.ensures.good_room c.in-Ok-open.ensures.ok (rw c.deref.ensures.value at c.in-Some.ensures.wrong),
+        ),
         refl,
       );
     }
+
+pub returns-in-Some-clause-wrong : goal.returns-in-Some-clause-wrong
+returns-in-Some-clause-wrong g c =
+    let texts : List (List ℕ) = map (λ f. f.text.items) c.args.files.now in
+    audit_wrong c.args.decl.declaration c.args.room c.in-Ok.segments.room texts _ (map own_state c.args.devices.items) c.in-Ok-open.system c.in-Some.place c.requires c.in-Ok.ensures.ok
+    c.in-Ok-open.ensures.good_room c.in-Ok-open.ensures.ok (rw c.deref.ensures.value at c.in-Some.ensures.wrong)
+
+pub returns-in-None-clause-segments : goal.returns-in-None-clause-segments
+returns-in-None-clause-segments g c = (c.in-Ok.segments.room, c.in-Ok.ensures.ok)

@@ -4,6 +4,7 @@ use Rattle.std.proofs.lemmas.Result.{IfOk-weaker, IfErr-weaker}
 use Rattle.cmd_base.specs.Statuses.{status_of}
 use Rattle.cmd_base.proofs.CallerLemmas.{may_under, may_undeclared}
 use Rattle.cmd_behind.specs.Behind.{OfBehind, behind_status}
+use Rattle.cmd_behind.proofs.Wrong.{names_under}
 use Rattle.cmd_behind.proofs.behind.read_behind.Goals as goal
 
 pub returns-in-Ok-clause-ok : goal.returns-in-Ok-clause-ok
@@ -19,3 +20,11 @@ returns-in-Ok-clause-err g c =
 pub returns-in-Err-clause-err : goal.returns-in-Err-clause-err
 returns-in-Err-clause-err g c =
     may_undeclared _ (λ d. OfBehind (λ out. ⊥) ⊥ d c.args.room (map (λ f. f.text.items) c.args.files.now)) (status_of c.in-Err.fault) c.in-Err.ensures.err
+
+pub returns-in-Ok-clause-segments : goal.returns-in-Ok-clause-segments
+returns-in-Ok-clause-segments g c =
+    IfOk-weaker c.open_behind.result _ _ (λ behind are. (c.in-Ok.decl.declaration, c.in-Ok.ensures.declares, are)) c.open_behind.ensures.segments
+
+pub returns-in-Ok-clause-wrong : goal.returns-in-Ok-clause-wrong
+returns-in-Ok-clause-wrong g c =
+    IfErr-weaker c.open_behind.result _ _ (λ fault named. names_under _ c.in-Ok.decl.declaration c.args.room (map (λ f. f.text.items) c.args.files.now) fault c.in-Ok.ensures.declares named) c.open_behind.ensures.wrong
