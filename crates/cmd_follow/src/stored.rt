@@ -113,7 +113,7 @@ fn tell_store<E: Write>(err: &mut E, fault: StoreFault) -> Status
             return tell(err, Fault::OutOfMemory);
         }
         StoreFault::OtherHead => Status::TextRefused,
-        StoreFault::Device(_) | StoreFault::Broken => Status::StreamFailed,
+        StoreFault::Device(_) | StoreFault::Broken | StoreFault::TooLong => Status::StreamFailed,
     };
     match writeln!(err, "journal: {fault}") {
         Ok(()) => status,

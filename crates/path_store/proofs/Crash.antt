@@ -68,12 +68,15 @@ no_lines [] e = refl
 no_lines (k ∷ ks) e = cc
 
 module _ {D : Type 0} (holds may_leave : D → List ℕ → Type 0) (d : Declaration) (room : ℕ) where
-  pub left_found : (device : D) (synced fresh : List Line) → HasLines holds may_leave d room device synced fresh → (c : List ℕ) → may_leave device c → FindsSome d room synced fresh c
-  left_found device synced fresh h c left = finds_some d h.names room h.on_disk h.not_yet synced fresh c h.is_room h.are_synced h.are_fresh h.fits h.marked (h.left c left)
+  short_text : (device : D) (size : ℕ) (synced fresh : List Line) → (h : HasLines holds may_leave d room device size synced fresh) → length (front_of (Three room) ++ kept_text d (h.on_disk ++ h.not_yet)) ≤ 134217728
+  short_text device size synced fresh h = let counted = h.counted in let short = h.short in omega (arith, counted, short)
+
+  pub left_found : (device : D) (size : ℕ) (synced fresh : List Line) → HasLines holds may_leave d room device size synced fresh → (c : List ℕ) → may_leave device c → FindsSome d room synced fresh c
+  left_found device size synced fresh h c left = finds_some d h.names room h.on_disk h.not_yet synced fresh c h.is_room h.are_synced h.are_fresh h.fits h.marked (short_text device size synced fresh h) (h.left c left)
 
   -- one line more is left so
-  left_more : (old new : D) (synced fresh : List Line) (k : Kept) (bytes : List ℕ) → (h : HasLines holds may_leave d room old synced fresh) → bytes ≡ kept_line d k → ((b : List ℕ) → holds old b → Follows (Torn (length b) bytes) (may_leave old) (may_leave new)) → (c : List ℕ) → may_leave new c → IsLeft d room h.on_disk (h.not_yet ++ k ∷ []) c
-  left_more old new synced fresh k bytes h is crash c left =
+  left_more : (old new : D) (size : ℕ) (synced fresh : List Line) (k : Kept) (bytes : List ℕ) → (h : HasLines holds may_leave d room old size synced fresh) → bytes ≡ kept_line d k → ((b : List ℕ) → holds old b → Follows (Torn (length b) bytes) (may_leave old) (may_leave new)) → (c : List ℕ) → may_leave new c → IsLeft d room h.on_disk (h.not_yet ++ k ∷ []) c
+  left_more old new size synced fresh k bytes h is crash c left =
       let front = front_of (Three room) in
       let from = crash _ h.text c left in
       let cut = text_cut d front h.on_disk h.not_yet in
@@ -81,14 +84,25 @@ module _ {D : Type 0} (holds may_leave : D → List ℕ → Type 0) (d : Declara
       let p = torn_behind (front ++ kept_text d h.on_disk) (kept_text d h.not_yet) (kept_line d k) c from.0 (h.left from.0 from.1) torn in
       (p.0, p.1, subst (λ x. IsImage x p.0) (sym (text_more d h.not_yet k)) p.2)
 
+  whole_more : (ks ms : List Kept) (k : Kept) (bytes : List ℕ) → bytes ≡ kept_line d k → (front_of (Three room) ++ kept_text d (ks ++ ms)) ++ bytes ≡ front_of (Three room) ++ kept_text d (ks ++ (ms ++ k ∷ []))
+  whole_more ks ms k bytes is =
+      append_assoc (front_of (Three room)) (kept_text d (ks ++ ms)) bytes
+      ∙ ap (λ x. front_of (Three room) ++ x) (ap (λ x. kept_text d (ks ++ ms) ++ x) is ∙ sym (text_more d (ks ++ ms) k) ∙ ap (kept_text d) (append_assoc ks ms (k ∷ [])))
+
   mark_of : (flag : Bool) (fresh : List Line) (ms : List Kept) → lines_of ms ≡ fresh → (flag ≡ true → fresh ≡ []) → (marked : Bool) → (flag ≡ false → marked ≡ true) → (ms ≡ []) ⊎ (marked ≡ true)
   mark_of true fresh ms is none marked mark = inl (no_lines ms (is ∙ none refl))
   mark_of false fresh ms is none marked mark = inr (mark refl)
 
-  pub has_more : (old new : D) (synced fresh : List Line) (line : Line) (flag marked : Bool) (bytes : List ℕ) → HasLines holds may_leave d room old synced fresh → LineFits line → (flag ≡ true → fresh ≡ []) → (flag ≡ false → marked ≡ true) → bytes ≡ kept_line d (marked, line) → ((b : List ℕ) → holds old b → holds new (b ++ bytes)) → ((b : List ℕ) → holds old b → Follows (Torn (length b) bytes) (may_leave old) (may_leave new)) → HasLines holds may_leave d room new synced (fresh ++ line ∷ [])
-  has_more old new synced fresh line flag marked bytes h fits none mark is written crash =
+  -- how many bytes there are with one line more
+  size_more : (size : ℕ) (ks ms : List Kept) (k : Kept) (bytes : List ℕ) → size ≡ length (front_of (Three room) ++ kept_text d (ks ++ ms)) → bytes ≡ kept_line d k → size + length bytes ≡ length (front_of (Three room) ++ kept_text d (ks ++ (ms ++ k ∷ [])))
+  size_more size ks ms k bytes counted is =
+      let joined = length-append (front_of (Three room) ++ kept_text d (ks ++ ms)) bytes in
+      let same = ap length (whole_more ks ms k bytes is) in
+      omega (arith, counted, joined, same)
+
+  pub has_more : (old new : D) (size next : ℕ) (synced fresh : List Line) (line : Line) (flag marked : Bool) (bytes : List ℕ) → HasLines holds may_leave d room old size synced fresh → LineFits line → (flag ≡ true → fresh ≡ []) → (flag ≡ false → marked ≡ true) → bytes ≡ kept_line d (marked, line) → next ≡ size + length bytes → next ≤ 134217728 → ((b : List ℕ) → holds old b → holds new (b ++ bytes)) → ((b : List ℕ) → holds old b → Follows (Torn (length b) bytes) (may_leave old) (may_leave new)) → HasLines holds may_leave d room new next synced (fresh ++ line ∷ [])
+  has_more old new size next synced fresh line flag marked bytes h fits none mark is counts short written crash =
       let k : Kept = (marked, line) in
-      let front = front_of (Three room) in
       record {
         is_room = h.is_room;
         names = h.names;
@@ -98,17 +112,14 @@ module _ {D : Type 0} (holds may_leave : D → List ℕ → Type 0) (d : Declara
         are_fresh = map-append (λ (z : Kept). z.1) h.not_yet (k ∷ []) ∙ ap (λ x. x ++ line ∷ []) h.are_fresh;
         fits = subst (All (KeptFits true)) (append_assoc h.on_disk h.not_yet (k ∷ [])) (All-push (KeptFits true) (h.on_disk ++ h.not_yet) k h.fits (record { line = fits; marked = λ e. refl }));
         marked = marked_more h.not_yet k h.marked (mark_of flag fresh h.not_yet h.are_fresh none marked mark);
-        text = subst (holds new) (whole h.on_disk h.not_yet k bytes is) (written _ h.text);
-        left = left_more old new synced fresh k bytes h is crash;
+        text = subst (holds new) (whole_more h.on_disk h.not_yet k bytes is) (written _ h.text);
+        counted = counts ∙ size_more size h.on_disk h.not_yet k bytes h.counted is;
+        short = short;
+        left = left_more old new size synced fresh k bytes h is crash;
       }
-    where
-      whole : (ks ms : List Kept) (k : Kept) (bytes : List ℕ) → bytes ≡ kept_line d k → (front_of (Three room) ++ kept_text d (ks ++ ms)) ++ bytes ≡ front_of (Three room) ++ kept_text d (ks ++ (ms ++ k ∷ []))
-      whole ks ms k bytes is =
-          append_assoc (front_of (Three room)) (kept_text d (ks ++ ms)) bytes
-          ∙ ap (λ x. front_of (Three room) ++ x) (ap (λ x. kept_text d (ks ++ ms) ++ x) is ∙ sym (text_more d (ks ++ ms) k) ∙ ap (kept_text d) (append_assoc ks ms (k ∷ [])))
 
-  pub has_all : (old new : D) (synced fresh : List Line) → HasLines holds may_leave d room old synced fresh → ((b : List ℕ) → holds old b → holds new b) → ((b : List ℕ) → holds old b → Only b (may_leave new)) → HasLines holds may_leave d room new (synced ++ fresh) []
-  has_all old new synced fresh h same only =
+  pub has_all : (old new : D) (size : ℕ) (synced fresh : List Line) → HasLines holds may_leave d room old size synced fresh → ((b : List ℕ) → holds old b → holds new b) → ((b : List ℕ) → holds old b → Only b (may_leave new)) → HasLines holds may_leave d room new size (synced ++ fresh) []
+  has_all old new size synced fresh h same only =
       let ks = h.on_disk ++ h.not_yet in
       record {
         is_room = h.is_room;
@@ -120,31 +131,35 @@ module _ {D : Type 0} (holds may_leave : D → List ℕ → Type 0) (d : Declara
         fits = subst (All (KeptFits true)) (sym (append-nil ks)) h.fits;
         marked = tt;
         text = subst (λ x. holds new (front_of (Three room) ++ kept_text d x)) (sym (append-nil ks)) (same _ h.text);
+        counted = h.counted ∙ ap (λ x. length (front_of (Three room) ++ kept_text d x)) (sym (append-nil ks));
+        short = h.short;
         left = λ c left. ([], only _ h.text c left ∙ sym (append-nil (front_of (Three room) ++ kept_text d ks)), tt);
       }
 
   module _ (moment : D → ℕ) (left_since : D → ℕ → List ℕ → Type 0) (only_now : (file : D) (c : List ℕ) → left_since file (moment file) c → may_leave file c) where
-    pub at_start : (old : D) (synced fresh : List Line) → HasLines holds may_leave d room old synced fresh → LeavesOnly moment left_since old old (FindsSome d room synced fresh)
-    at_start old synced fresh h = started moment left_since old (FindsSome d room synced fresh) (λ c left. left_found old synced fresh h c (only_now old c left))
+    pub at_start : (old : D) (size : ℕ) (synced fresh : List Line) → HasLines holds may_leave d room old size synced fresh → LeavesOnly moment left_since old old (FindsSome d room synced fresh)
+    at_start old size synced fresh h = started moment left_since old (FindsSome d room synced fresh) (λ c left. left_found old size synced fresh h c (only_now old c left))
 
-    pub more_at_start : (old : D) (synced fresh : List Line) (line : Line) → HasLines holds may_leave d room old synced fresh → LeavesOnly moment left_since old old (FindsSome d room synced (fresh ++ line ∷ []))
-    more_at_start old synced fresh line h = started moment left_since old (FindsSome d room synced (fresh ++ line ∷ [])) (λ c left. found_more d room synced fresh line c (left_found old synced fresh h c (only_now old c left)))
+    pub more_at_start : (old : D) (size : ℕ) (synced fresh : List Line) (line : Line) → HasLines holds may_leave d room old size synced fresh → LeavesOnly moment left_since old old (FindsSome d room synced (fresh ++ line ∷ []))
+    more_at_start old size synced fresh line h = started moment left_since old (FindsSome d room synced (fresh ++ line ∷ [])) (λ c left. found_more d room synced fresh line c (left_found old size synced fresh h c (only_now old c left)))
 
     -- a crash in an append leaves some lines, with the new one or without
-    pub append_leaves : (old new : D) (synced fresh : List Line) (line : Line) (flag marked : Bool) (bytes : List ℕ) → HasLines holds may_leave d room old synced fresh → LineFits line → (flag ≡ true → fresh ≡ []) → (flag ≡ false → marked ≡ true) → bytes ≡ kept_line d (marked, line) → ((b : List ℕ) → holds old b → Follows (Torn (length b) bytes) (may_leave old) (may_leave new)) → Elapses (moment old) (moment new) (left_since old) (left_since new) (may_leave new) → LeavesOnly moment left_since old new (FindsSome d room synced (fresh ++ line ∷ []))
-    append_leaves old new synced fresh line flag marked bytes h fits none mark is crash time =
+    pub append_leaves : (old new : D) (size next : ℕ) (synced fresh : List Line) (line : Line) (flag marked : Bool) (bytes : List ℕ) → HasLines holds may_leave d room old size synced fresh → LineFits line → (flag ≡ true → fresh ≡ []) → (flag ≡ false → marked ≡ true) → bytes ≡ kept_line d (marked, line) → next ≡ size + length bytes → next ≤ 134217728 → ((b : List ℕ) → holds old b → Follows (Torn (length b) bytes) (may_leave old) (may_leave new)) → Elapses (moment old) (moment new) (left_since old) (left_since new) (may_leave new) → LeavesOnly moment left_since old new (FindsSome d room synced (fresh ++ line ∷ []))
+    append_leaves old new size next synced fresh line flag marked bytes h fits none mark is counts short crash time =
         let k : Kept = (marked, line) in
-        goes_on moment left_since old old new (FindsSome d room synced (fresh ++ line ∷ [])) (may_leave new) (more_at_start old synced fresh line h) time
+        let more = size_more size h.on_disk h.not_yet k bytes h.counted is in
+        goes_on moment left_since old old new (FindsSome d room synced (fresh ++ line ∷ [])) (may_leave new) (more_at_start old size synced fresh line h) time
         (λ c left. finds_some d h.names room h.on_disk (h.not_yet ++ k ∷ []) synced (fresh ++ line ∷ []) c h.is_room h.are_synced
         (map-append (λ (z : Kept). z.1) h.not_yet (k ∷ []) ∙ ap (λ x. x ++ line ∷ []) h.are_fresh)
         (subst (All (KeptFits true)) (append_assoc h.on_disk h.not_yet (k ∷ [])) (All-push (KeptFits true) (h.on_disk ++ h.not_yet) k h.fits (record { line = fits; marked = λ e. refl })))
         (marked_more h.not_yet k h.marked (mark_of flag fresh h.not_yet h.are_fresh none marked mark))
-        (left_more old new synced fresh k bytes h is crash c left))
+        (omega (arith, counts, short, more))
+        (left_more old new size synced fresh k bytes h is crash c left))
 
     -- a crash in a sync leaves some of the lines
-    pub sync_leaves : (old new : D) (synced fresh : List Line) → HasLines holds may_leave d room old synced fresh → ((c : List ℕ) → may_leave new c → may_leave old c) → Elapses (moment old) (moment new) (left_since old) (left_since new) (may_leave new) → LeavesOnly moment left_since old new (FindsSome d room synced fresh)
-    sync_leaves old new synced fresh h crash time =
-        goes_on moment left_since old old new (FindsSome d room synced fresh) (may_leave new) (at_start old synced fresh h) time (λ c left. left_found old synced fresh h c (crash c left))
+    pub sync_leaves : (old new : D) (size : ℕ) (synced fresh : List Line) → HasLines holds may_leave d room old size synced fresh → ((c : List ℕ) → may_leave new c → may_leave old c) → Elapses (moment old) (moment new) (left_since old) (left_since new) (may_leave new) → LeavesOnly moment left_since old new (FindsSome d room synced fresh)
+    sync_leaves old new size synced fresh h crash time =
+        goes_on moment left_since old old new (FindsSome d room synced fresh) (may_leave new) (at_start old size synced fresh h) time (λ c left. left_found old size synced fresh h c (crash c left))
 
     -- a run of appends goes on, and ends
     pub run_more : (old mid new : D) (synced fresh lines : List Line) (i other : ℕ) (x : Line) → other ≡ room → i < length lines → LeavesOnly moment left_since old mid (FindsSome d room synced (fresh ++ lines)) → LeavesOnly moment left_since mid new (FindsSome d other synced ((fresh ++ take i lines) ++ get_or lines i x ∷ [])) → LeavesOnly moment left_since old new (FindsSome d room synced (fresh ++ lines))
@@ -159,5 +174,5 @@ module _ {D : Type 0} (holds may_leave : D → List ℕ → Type 0) (d : Declara
         (weaker moment left_since mid new (FindsSome d other synced (fresh ++ take i lines)) (FindsSome d room synced (fresh ++ lines))
         (λ c found. found_longer d room synced (fresh ++ take i lines) (drop i lines) (fresh ++ lines) c (cut_lines fresh lines i) (subst (λ r. FindsSome d r synced (fresh ++ take i lines) c) is found)) second)
 
-    pub run_start : (old : D) (synced fresh lines : List Line) → HasLines holds may_leave d room old synced fresh → LeavesOnly moment left_since old old (FindsSome d room synced (fresh ++ lines))
-    run_start old synced fresh lines h = weaker moment left_since old old (FindsSome d room synced fresh) (FindsSome d room synced (fresh ++ lines)) (λ c found. found_longer d room synced fresh lines (fresh ++ lines) c refl found) (at_start old synced fresh h)
+    pub run_start : (old : D) (size : ℕ) (synced fresh lines : List Line) → HasLines holds may_leave d room old size synced fresh → LeavesOnly moment left_since old old (FindsSome d room synced (fresh ++ lines))
+    run_start old size synced fresh lines h = weaker moment left_since old old (FindsSome d room synced fresh) (FindsSome d room synced (fresh ++ lines)) (λ c found. found_longer d room synced fresh lines (fresh ++ lines) c refl found) (at_start old size synced fresh h)

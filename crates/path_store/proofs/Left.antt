@@ -17,8 +17,8 @@ use Rattle.path_journal.specs.JournalFaults.{IsUndeclared}
 use Rattle.path_journal.specs.CutTexts.{IsTornEnd, front_of}
 use Rattle.path_journal.proofs.CallerLemmas.{record_is_line, cut_before, undeclared_apart, undeclared_is_line, undeclared_no_plus, no_plus, one_whole}
 use Rattle.path_store.specs.Devices.{IsImage}
-use Rattle.path_store.specs.Stores.{FindsSome, AreMarked, IsLeft}
-use Rattle.path_store.proofs.Images.{image_behind, image_split, image_same, begins_or, length_joined}
+use Rattle.path_store.specs.Stores.{FindsSome, HasSome, AreMarked, IsLeft}
+use Rattle.path_store.proofs.Images.{image_behind, image_short, image_split, image_same, begins_or, length_joined}
 use Rattle.path_store.proofs.NoZeros.{line_clean, kept_clean, undeclared_clean}
 
 tail_one : {x y : ℕ} {xs ys : List ℕ} → x ∷ xs ≡ y ∷ ys → xs ≡ ys
@@ -170,8 +170,8 @@ module _ (d : Declaration) (names : AreDistinctNames (operation_names d)) where
   length_lines [] = refl
   length_lines (k ∷ ks) = omega (arith, length_lines ks)
 
-  pub finds_some : (room : ℕ) (ks ms : List Kept) (synced fresh : List Line) (c : List ℕ) → IsRoom room → lines_of ks ≡ synced → lines_of ms ≡ fresh → All (KeptFits true) (ks ++ ms) → AreMarked ms → IsLeft d room ks ms c → FindsSome d room synced fresh c
-  finds_some room ks ms synced fresh c is s f fits marked left =
+  pub has_some : (room : ℕ) (ks ms : List Kept) (synced fresh : List Line) (c : List ℕ) → IsRoom room → lines_of ks ≡ synced → lines_of ms ≡ fresh → All (KeptFits true) (ks ++ ms) → AreMarked ms → IsLeft d room ks ms c → HasSome d room synced fresh c
+  has_some room ks ms synced fresh c is s f fits marked left =
       let q = some_lines ms left.0 (last_fits ks ms fits) marked left.2 in
       let front = front_of (Three room) in
       let some = ks ++ take q.count ms in
@@ -186,20 +186,35 @@ module _ (d : Declaration) (names : AreDistinctNames (operation_names d)) where
       let size : length c ≡ length front + (length (kept_text d some) + length q.rest) = ap length parts ∙ length_joined front body ∙ ap (λ x. length front + x) (length_joined (kept_text d some) q.rest) in (
         q.count,
         omega (arith, few, n, m),
-        inr (
-          length front + length (kept_text d some),
-          record {
-            kept = some;
-            rest = q.rest;
-            cut = record {
-              version_fits = is;
-              no_head = λ e. cc;
-              body = body;
-              parts = parts;
-              lines = record { fits = joined_fits ks ms q.count fits; parts = refl; torn = q.torn };
-            };
-            lines = map-append (λ (z : Kept). z.1) ks (take q.count ms) ∙ ap (λ x. x ++ lines_of (take q.count ms)) s ∙ ap (λ x. synced ++ x) (take_lines q.count ms ∙ ap (take q.count) f);
-            counted = omega (arith, size);
-          },
-        ),
+        length front + length (kept_text d some),
+        record {
+          kept = some;
+          rest = q.rest;
+          cut = record {
+            version_fits = is;
+            no_head = λ e. cc;
+            body = body;
+            parts = parts;
+            lines = record { fits = joined_fits ks ms q.count fits; parts = refl; torn = q.torn };
+          };
+          lines = map-append (λ (z : Kept). z.1) ks (take q.count ms) ∙ ap (λ x. x ++ lines_of (take q.count ms)) s ∙ ap (λ x. synced ++ x) (take_lines q.count ms ∙ ap (take q.count) f);
+          counted = omega (arith, size);
+        },
       )
+
+  -- what is left is no longer than what was written
+  left_short : (room : ℕ) (ks ms : List Kept) (c : List ℕ) → IsLeft d room ks ms c → length c ≤ length (front_of (Three room) ++ kept_text d (ks ++ ms))
+  left_short room ks ms c left =
+      let front = front_of (Three room) in
+      let size = ap length left.1 ∙ length_joined (front ++ kept_text d ks) left.0 in
+      let synced = length_joined front (kept_text d ks) in
+      let all = length_joined front (kept_text d (ks ++ ms)) in
+      let both = ap length (flat_map-append (kept_line d) ks ms) ∙ length_joined (kept_text d ks) (kept_text d ms) in
+      let short = image_short (kept_text d ms) left.0 left.2 in
+      omega (arith, size, synced, all, both, short)
+
+  pub finds_some : (room : ℕ) (ks ms : List Kept) (synced fresh : List Line) (c : List ℕ) → IsRoom room → lines_of ks ≡ synced → lines_of ms ≡ fresh → All (KeptFits true) (ks ++ ms) → AreMarked ms → length (front_of (Three room) ++ kept_text d (ks ++ ms)) ≤ 134217728 → IsLeft d room ks ms c → FindsSome d room synced fresh c
+  finds_some room ks ms synced fresh c is s f fits marked short left =
+      let p = has_some room ks ms synced fresh c is s f fits marked left in
+      let few = left_short room ks ms c left in
+      (p.0, p.1, inr (p.2, p.3, omega (arith, few, short)))

@@ -5,3 +5,4 @@ mod Left
 mod Crash
 mod Repairs
 mod OneSync
+mod Broken

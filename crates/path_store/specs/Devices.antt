@@ -43,3 +43,11 @@ pub record LeavesOnly {D : Type 0} (moment : D → ℕ) (left_since : D → ℕ 
   pub each : (c : List ℕ) → left_since new (moment old) c → P c
   -- for a run that began earlier
   pub before : (t : ℕ) (c : List ℕ) → t ≤ moment old → left_since new t c → left_since old t c ⊎ P c
+
+-- the file is as it was, at each moment from the old state up to the new one: whatever a read returned it returns, and a crash leaves nothing
+-- else
+pub record IsUntouched {D : Type 0} (holds may_leave : D → List ℕ → Type 0) (moment : D → ℕ) (left_since : D → ℕ → List ℕ → Type 0)
+    (old new : D) : Type 0 where
+  pub read : (b : List ℕ) → holds old b → holds new b
+  pub left : (c : List ℕ) → may_leave new c → may_leave old c
+  pub any_moment : LeavesOnly moment left_since old new (may_leave old)

@@ -1,6 +1,7 @@
 //! A file as a store sees it.
 
-ghost use Rattle.std.specs.Prelude.{◌≡◌, ◌≤◌, ◌++◌, List, ℕ, length, take, IfOk, OnOk, IsErrOf};
+ghost use Rattle.std.specs.Prelude.{◌≡◌, ◌≤◌, ◌++◌, List, ℕ, length, take, IfOk, IfErr, OnOk};
+ghost use Rattle.path_store.specs.declared.device.DeviceFault.{DeviceFault};
 ghost use Rattle.path_store.specs.declared.device.DeviceFault.TheVariants.{OutOfMemory};
 ghost use Rattle.path_store.specs.Devices.{Torn, Cut, Follows, Only, Elapses};
 
@@ -53,8 +54,8 @@ pub trait Device {
     /// What a crash at some moment from that one on might have left, during a call or between two.
     ghost left_since: { Self → ℕ → List ℕ → Type 0 };
 
-    /// Whether it has failed.
-    ghost has_failed: { Self → Type 0 };
+    /// Whether the last call that failed ended with this fault.
+    ghost fails_with: { Self → DeviceFault → Type 0 };
 
     /// All the bytes.
     fn read<B: Allocator + Copy>(&mut self, alloc: B) -> Result<Vec<u8, B>, DeviceFault>
@@ -62,7 +63,7 @@ pub trait Device {
         ensures holds { (b : List ℕ) → holds self.old b → holds self.new b }
         ensures crash { (c : List ℕ) → may_leave self.new c → may_leave self.old c }
         ensures time { Elapses (moment self.old) (moment self.new) (left_since self.old) (left_since self.new) (may_leave self.new) }
-        ensures cause { IsErrOf result DeviceFault.Failed → has_failed self.new };
+        ensures cause { IfErr result (λ fault. fails_with self.new fault) };
 
     /// The first bytes, so many, or all if there are fewer.
     fn front<B: Allocator + Copy>(
@@ -74,21 +75,21 @@ pub trait Device {
         ensures holds { (b : List ℕ) → holds self.old b → holds self.new b }
         ensures crash { (c : List ℕ) → may_leave self.new c → may_leave self.old c }
         ensures time { Elapses (moment self.old) (moment self.new) (left_since self.old) (left_since self.new) (may_leave self.new) }
-        ensures cause { IsErrOf result DeviceFault.Failed → has_failed self.new };
+        ensures cause { IfErr result (λ fault. fails_with self.new fault) };
 
     /// Writes bytes behind the last one. After an error a part of them may stand there.
     fn append(&mut self, bytes: &[u8]) -> Result<(), DeviceFault>
         ensures written { (b : List ℕ) → holds self.old b → OnOk result (holds self.new (b ++ bytes.now)) }
         ensures crash { (b : List ℕ) → holds self.old b → Follows (Torn (length b) bytes.now) (may_leave self.old) (may_leave self.new) }
         ensures time { Elapses (moment self.old) (moment self.new) (left_since self.old) (left_since self.new) (may_leave self.new) }
-        ensures cause { IsErrOf result DeviceFault.Failed → has_failed self.new };
+        ensures cause { IfErr result (λ fault. fails_with self.new fault) };
 
     /// Cuts the file to its first bytes, so many. It must have as many.
     fn cut(&mut self, size: usize) -> Result<(), DeviceFault>
         ensures cut { (b : List ℕ) → holds self.old b → size ≤ length b → OnOk result (holds self.new (take size b)) }
         ensures crash { (b : List ℕ) → holds self.old b → size ≤ length b → Follows (Cut size) (may_leave self.old) (may_leave self.new) }
         ensures time { Elapses (moment self.old) (moment self.new) (left_since self.old) (left_since self.new) (may_leave self.new) }
-        ensures cause { IsErrOf result DeviceFault.Failed → has_failed self.new };
+        ensures cause { IfErr result (λ fault. fails_with self.new fault) };
 
     /// Waits until all bytes are on the disk.
     fn sync(&mut self) -> Result<(), DeviceFault>
@@ -96,7 +97,7 @@ pub trait Device {
         ensures holds { (b : List ℕ) → holds self.old b → holds self.new b }
         ensures crash { (c : List ℕ) → may_leave self.new c → may_leave self.old c }
         ensures time { Elapses (moment self.old) (moment self.new) (left_since self.old) (left_since self.new) (may_leave self.new) }
-        ensures cause { IsErrOf result DeviceFault.Failed → has_failed self.new };
+        ensures cause { IfErr result (λ fault. fails_with self.new fault) };
 
     /// This moment is one of those since an earlier one.
     ghost counts_now: { (file : Self) (t : ℕ) (c : List ℕ) → t ≤ moment file → may_leave file c → left_since file t c };

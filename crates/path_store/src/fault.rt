@@ -24,6 +24,9 @@ pub enum StoreFault {
     /// An earlier call failed, so what stands at the end of the file isn't known. Open it again.
     #[error("an earlier call failed")]
     Broken,
+    /// With this line the file would be longer than one that can be opened. Nothing was written.
+    #[error("too long to be opened again")]
+    TooLong,
     /// There was no memory to spell a line.
     #[error("out of memory")]
     OutOfMemory,

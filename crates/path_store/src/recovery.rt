@@ -1,15 +1,15 @@
 //! What a crash has left of a file, and how its end is repaired.
 
-ghost use Rattle.std.specs.Prelude.{◌≡◌, ◌⊎◌, ◌≤◌, ◌++◌, [], List, ℕ, take, length, OnOk, IfOk, IfErr, IsErrOf};
+ghost use Rattle.std.specs.Prelude.{◌≡◌, ◌≢◌, ◌⊎◌, ◌≤◌, ◌++◌, [], List, ℕ, take, length, OnOk, IfOk, IfErr};
 ghost use Rattle.std.specs.Bool.{OnTrue, OnFalse};
 ghost use Rattle.std.specs.String.{string_bytes};
 ghost use Rattle.path_model.specs.declared.journal.Line.{Line};
 ghost use Rattle.path_model.specs.Rooms.{IsRoom};
 ghost use Rattle.path_journal.specs.declared.version.Version.TheVariants.{Three};
 ghost use Rattle.path_journal.specs.CutTexts.{front_of};
-ghost use Rattle.path_store.specs.Devices.{IsImage, Cut, Only, LeavesOnly};
-ghost use Rattle.path_store.specs.Stores.{Finds, FindsSome, IsFile, IsRecovered};
-ghost use Rattle.path_store.specs.Faults.{IsOpenFault, IsRefusal};
+ghost use Rattle.path_store.specs.Devices.{IsImage, Cut, Only, LeavesOnly, IsUntouched};
+ghost use Rattle.path_store.specs.Stores.{Finds, FindsSome, IsTornBy, IsFile, IsRecovered};
+ghost use Rattle.path_store.specs.Faults.{IsNoStore, IsOpenFault, IsRefusal};
 
 use crate::device::{Device, DeviceFault};
 use crate::fault::StoreFault;
@@ -44,6 +44,14 @@ fn is_image(written: &[u8], left: &[u8]) -> bool
     true
 }
 
+/// Whether a crash may have left these bytes of what was written, and not all of them.
+fn is_torn(written: &[u8], left: &[u8]) -> bool
+    ensures yes { OnTrue result (IsImage written.now left.now × (left.now ≢ written.now)) }
+    ensures no { OnFalse result (IsImage written.now left.now → left.now ≡ written.now) }
+{
+    left != written && is_image(written, left)
+}
+
 /// Whether this is the version of a store, with this room.
 fn is_of_room(version: Version, room: u32) -> bool
     ensures yes { OnTrue result (version ≡ Three room) }
@@ -55,25 +63,28 @@ fn is_of_room(version: Version, room: u32) -> bool
     }
 }
 
-/// Leaves the first bytes of a file, so many, all of them on the disk.
-fn repair<D: Device>(device: &mut D, size: usize) -> Result<(), DeviceFault>
-    ensures holds { (b : List ℕ) → D.holds device.old b → size ≤ length b → OnOk result (D.holds device.new (take size b)) }
-    ensures only { (b : List ℕ) → D.holds device.old b → size ≤ length b → OnOk result (Only (take size b) (D.may_leave device.new)) }
-    ensures cause { IsErrOf result DeviceFault.Failed → D.has_failed device.new }
-    ensures any_moment { (b : List ℕ) → D.holds device.old b → size ≤ length b
+/// Leaves the first `size` bytes of a file that has `count`, all of them on the disk.
+fn repair<D: Device>(device: &mut D, count: usize, size: usize) -> Result<(), DeviceFault>
+    ensures holds { (b : List ℕ) → D.holds device.old b → count ≡ length b → size ≤ count → OnOk result (D.holds device.new (take size b)) }
+    ensures only { (b : List ℕ) → D.holds device.old b → count ≡ length b → size ≤ count → OnOk result (Only (take size b) (D.may_leave device.new)) }
+    ensures cause { IfErr result (λ fault. D.fails_with device.new fault) }
+    ensures any_moment { (b : List ℕ) → D.holds device.old b → count ≡ length b → size ≤ count
         → LeavesOnly D.moment D.left_since device.old device.new (λ c. D.may_leave device.old c ⊎ Cut size b c) }
 {
     // What was read may not be on the disk yet.
     device.sync()?;
-    device.cut(size)?;
-    device.sync()
+    if size < count {
+        device.cut(size)?;
+        device.sync()?;
+    }
+    Ok(())
 }
 
 /// Writes the first line of a file that is empty.
 fn begin<D: Device>(device: &mut D, front: &[u8]) -> Result<(), DeviceFault>
     ensures holds { D.holds device.old [] → OnOk result (D.holds device.new front.now) }
     ensures only { D.holds device.old [] → OnOk result (Only front.now (D.may_leave device.new)) }
-    ensures cause { IsErrOf result DeviceFault.Failed → D.has_failed device.new }
+    ensures cause { IfErr result (λ fault. D.fails_with device.new fault) }
     ensures any_moment { D.holds device.old [] → Only [] (D.may_leave device.old)
         → LeavesOnly D.moment D.left_since device.old device.new (IsImage front.now) }
 {
@@ -81,36 +92,58 @@ fn begin<D: Device>(device: &mut D, front: &[u8]) -> Result<(), DeviceFault>
     device.sync()
 }
 
-/// Reads the lines of a file that a crash may have left, and repairs its end. How many bytes were cut off is told too.
+/// What was found in a file.
+#[derive(Drop)]
+pub struct Recovered<B: Allocator + Copy> {
+    /// Its lines.
+    pub lines: Vec<Line, B>,
+    /// How many bytes it has now.
+    pub length: usize,
+    /// How many bytes were cut off.
+    pub cut: usize,
+}
+
+/// Reads the lines of a file that a crash may have left, and repairs its end.
 pub fn recover<A: Allocator + Copy, B: Allocator + Copy, D: Device>(
     alloc: B,
     decl: &Decl<A>,
     room: u32,
     device: &mut D,
-) -> Result<(Vec<Line, B>, usize), StoreFault>
+) -> Result<Recovered<B>, StoreFault>
     requires { IsRoom room }
-    ensures found { (b : List ℕ) → D.holds device.old b → IfOk result (λ p. Finds decl.now.declaration room b p.0.items) }
+    ensures found { (b : List ℕ) → D.holds device.old b → IfOk result (λ r. Finds decl.now.declaration room b r.lines.items) }
+    ensures cut { (b : List ℕ) → D.holds device.old b → IfOk result (λ r. IsTornBy decl.now.declaration room b r.lines.items r.cut) }
     ensures fault { (b : List ℕ) → D.holds device.old b
-        → IfErr result (λ e. IsOpenFault decl.now.declaration room b (D.has_failed device.new) e) }
-    ensures unchanged { (b : List ℕ) → D.holds device.old b → IfErr result (λ e. IsRefusal e → D.holds device.new b) }
+        → IfErr result (λ e. IsOpenFault decl.now.declaration room b (D.fails_with device.new) e) }
+    ensures refused { IfErr result (λ e. IsRefusal e → IsUntouched D.holds D.may_leave D.moment D.left_since device.old device.new) }
+    ensures other { (b : List ℕ) → D.holds device.old b → IsNoStore decl.now.declaration room b
+        → IsUntouched D.holds D.may_leave D.moment D.left_since device.old device.new }
     ensures lines { (synced fresh : List Line) → IsFile D.holds D.may_leave decl.now.declaration room device.old synced fresh
-        → IfOk result (λ p. p.0.items ≡ synced ++ fresh) }
+        → IfOk result (λ r. r.lines.items ≡ synced ++ fresh) }
     ensures recovered { (synced fresh : List Line) → IsFile D.holds D.may_leave decl.now.declaration room device.old synced fresh
-        → OnOk result (IsRecovered D.holds D.may_leave decl.now.declaration room device.new (synced ++ fresh)) }
+        → IfOk result (λ r. IsRecovered D.holds D.may_leave decl.now.declaration room device.new (synced ++ fresh) r.length) }
     ensures any_moment { (synced fresh : List Line) → IsFile D.holds D.may_leave decl.now.declaration room device.old synced fresh
         → LeavesOnly D.moment D.left_since device.old device.new (FindsSome decl.now.declaration room synced fresh) }
 {
     let text = device.read(alloc)?;
     let front = front(alloc, room)?;
-    if is_image(front.as_bytes(), &text) {
-        repair(device, 0)?;
+    if is_torn(front.as_bytes(), &text) {
+        repair(device, text.len(), 0)?;
         begin(device, front.as_bytes())?;
-        return Ok((Vec::new(alloc), 0));
+        return Ok(Recovered {
+            lines: Vec::new(alloc),
+            length: front.len(),
+            cut: text.len(),
+        });
     }
     let journal = read_cut(alloc, decl, &text)?;
     if !is_of_room(journal.version, room) {
         return Err(StoreFault::OtherHead);
     }
-    repair(device, journal.bytes)?;
-    Ok((journal.lines, text.len() - journal.bytes))
+    repair(device, text.len(), journal.bytes)?;
+    Ok(Recovered {
+        lines: journal.lines,
+        length: journal.bytes,
+        cut: text.len() - journal.bytes,
+    })
 }

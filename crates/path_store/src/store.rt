@@ -1,19 +1,21 @@
 //! A journal that stands in a file.
 
-ghost use Rattle.std.specs.Prelude.{◌≡◌, ◌⊎◌, ◌++◌, [], ◌∷◌, List, ℕ, true, false, OnOk, OnErr, IfOk, IfErr, IsErrOf};
+ghost use Rattle.std.specs.Prelude.{◌≡◌, ◌⊎◌, ◌↔◌, ◌≤◌, ◌+◌, ◌++◌, [], ◌∷◌, List, ℕ, true, false, map, not, length, take};
+ghost use Rattle.std.specs.Prelude.{OnOk, OnErr, IfOk, IfErr, IsErrOf};
 ghost use Rattle.path_model.specs.declared.journal.Line.{Line};
 ghost use Rattle.path_model.specs.Declarations.{Declaration};
 ghost use Rattle.path_model.specs.Rooms.{IsRoom};
-ghost use Rattle.path_journal.specs.JournalTexts.{LineFits};
-ghost use Rattle.path_store.specs.Devices.{LeavesOnly};
-ghost use Rattle.path_store.specs.Stores.{Finds, FindsSome, IsFile, IsStored};
-ghost use Rattle.path_store.specs.Faults.{IsOpenFault, IsRefusal, IsStepFault};
+ghost use Rattle.path_journal.specs.JournalTexts.{LineFits, kept_line, kept_text};
+ghost use Rattle.path_store.specs.Devices.{LeavesOnly, IsUntouched};
+ghost use Rattle.path_store.specs.Stores.{Finds, FindsSome, IsFile, IsStored, IsTornBy};
+ghost use Rattle.path_store.specs.Faults.{BreaksBy, IsLeftAt, IsNoStore, IsOpenFault, IsPastLimit, IsRefusal, IsSame, IsStepFault};
 
 use crate::device::Device;
 use crate::fault::StoreFault;
 use crate::recovery::recover;
 use path_decl::Decl;
 use path_journal::push_kept_line;
+use path_lines::LIMIT;
 use path_model::Line;
 use std::alloc::{Allocator, Global};
 
@@ -23,6 +25,8 @@ use std::alloc::{Allocator, Global};
 pub struct Store<D: Device + Drop, B: Allocator + Copy = Global> {
     device: D,
     room: u32,
+    /// How many bytes its lines have, with the first line that names the room.
+    length: usize,
     /// Whether all lines are on the disk.
     synced: bool,
     /// Whether a call failed.
@@ -38,7 +42,8 @@ pub struct Opened<D: Device + Drop, B: Allocator + Copy = Global> {
     pub store: Store<D, B>,
     /// The lines that were found, in order.
     pub lines: Vec<Line, B>,
-    /// How many bytes behind them a crash had left, which were cut off.
+    /// How many bytes behind them a crash had left, which were cut off. Where it had left only a part of the first line, that was cut off,
+    /// and written again.
     pub cut: usize,
 }
 
@@ -47,10 +52,12 @@ impl<D: Device + Drop, B: Allocator + Copy> Store<D, B> {
     /// moment. Reads its lines, and cuts off what a crash has left behind the last one. It may crash itself.
     ///
     /// The room is 1 to [`MOST_LINES`](path_model::MOST_LINES); an empty file gets a first line that names it. An error gives the device
-    /// back: `Text` where a line is broken that no crash leaves so, `OtherHead` where the file isn't a store's of this room; then the file
-    /// is unchanged. Else the device failed, or memory ran out, and the file has the same lines as before.
+    /// back: `Text` where a line is broken that no crash leaves so, or where the file has more than [`LIMIT`] bytes; `OtherHead` where it
+    /// isn't a store's of this room; `OutOfMemory`, or `Text` with that, for want of memory. Nothing was written then, at no moment of the
+    /// call, whatever the file is. Else it is `Device`, with the device's fault: a store's file has the same lines as before, and any other
+    /// is as it was.
     ///
-    /// Reads the file once into memory, and syncs it once, or more often where its end is repaired.
+    /// Reads the file once into memory, and syncs it once, or twice where its end is repaired or its first line is written.
     pub fn open<A: Allocator + Copy>(
         alloc: B,
         decl: &Decl<A>,
@@ -58,11 +65,16 @@ impl<D: Device + Drop, B: Allocator + Copy> Store<D, B> {
         device: D,
     ) -> Result<Opened<D, B>, (StoreFault, D)>
         requires { IsRoom room }
-        // The lines are those of the file, and without an error they are all.
+        // The lines are those of the file, and without an error they are all. What stood behind them was cut off, and counted.
         ensures found { (b : List ℕ) → D.holds device b → IfOk result (λ o. Finds decl.now.declaration room b o.lines.items) }
+        ensures cut { (b : List ℕ) → D.holds device b → IfOk result (λ o. IsTornBy decl.now.declaration room b o.lines.items o.cut) }
         ensures fault { (b : List ℕ) → D.holds device b
-            → IfErr result (λ e. IsOpenFault decl.now.declaration room b (D.has_failed e.1) e.0) }
-        ensures unchanged { (b : List ℕ) → D.holds device b → IfErr result (λ e. IsRefusal e.0 → D.holds e.1 b) }
+            → IfErr result (λ e. IsOpenFault decl.now.declaration room b (D.fails_with e.1) e.0) }
+        // A file that is refused isn't touched at any moment, whatever it is; nor is one without a store, whatever the error.
+        ensures refused { IfErr result (λ e. IsRefusal e.0
+            → IsUntouched D.holds D.may_leave D.moment D.left_since device e.1) }
+        ensures other { (b : List ℕ) → D.holds device b → IsNoStore decl.now.declaration room b
+            → IfErr result (λ e. IsUntouched D.holds D.may_leave D.moment D.left_since device e.1) }
         ensures new { IfOk result (λ o. (o.store.room ≡ room) × (o.store.broken ≡ false)) }
         // In what a store or a crash has left, all lines that were synced are found, and of the fresh ones those up to one of them.
         ensures lines { (synced fresh : List Line) → IsFile D.holds D.may_leave decl.now.declaration room device synced fresh
@@ -77,36 +89,56 @@ impl<D: Device + Drop, B: Allocator + Copy> Store<D, B> {
     {
         let mut device = device;
         match recover(alloc, decl, room, &mut device) {
-            Ok((lines, cut)) => {
+            Ok(found) => {
                 let store = Store {
                     device,
                     room,
+                    length: found.length,
                     synced: true,
                     broken: false,
                     text: String::new(alloc),
                 };
-                Ok(Opened { store, lines, cut })
+                Ok(Opened {
+                    store,
+                    lines: found.lines,
+                    cut: found.cut,
+                })
             }
             Err(fault) => Err((fault, device)),
         }
     }
 
+    /// Fails with `Broken` if an earlier call failed.
+    fn check_whole(&self) -> Result<(), StoreFault>
+        ensures whole { OnOk result (self.now.broken ≡ false) }
+        ensures broken { IfErr result (λ e. (e ≡ StoreFault.Broken) × (self.now.broken ≡ true)) }
+    {
+        if self.broken {
+            return Err(StoreFault::Broken);
+        }
+        Ok(())
+    }
+
     /// Writes a line behind the last one. It is on the disk only after a `sync`; until then a crash may leave the file with it or without.
-    /// Lines that were written one after the other are found up to one of them.
+    /// Lines that were written one after the other are found up to one of them. The declaration has to be the one that the store was opened
+    /// under: of lines under another nothing is promised.
     ///
-    /// Fails with `OutOfMemory` and changes nothing, or with `Device`: then what stands behind the lines isn't known, and each further call
-    /// fails with `Broken`. One write; no memory once lines have been written that are as long.
+    /// Fails with `TooLong` where the file would have more than [`LIMIT`] bytes, and with `OutOfMemory`; then nothing is written, and the
+    /// store is as it was. Fails with `Device`, and the device's fault: then what stands behind the lines isn't known, and each further call
+    /// fails with `Broken`, and does nothing. One write; no memory once lines have been written that are as long.
     pub fn append<A: Allocator + Copy>(
         &mut self,
         decl: &Decl<A>,
         line: Line,
     ) -> Result<(), StoreFault>
-        ensures fault { IfErr result (λ e. IsStepFault self.old.broken (D.has_failed self.new.device) e) }
-        ensures memory { IsErrOf result StoreFault.OutOfMemory
-            → (self.new.device ≡ self.old.device) × (self.new.synced ≡ self.old.synced) × (self.new.broken ≡ self.old.broken) }
-        ensures broken { IfErr result (λ e. (e ≡ StoreFault.OutOfMemory) ⊎ (self.new.broken ≡ true)) }
+        ensures was_broken { IsErrOf result StoreFault.Broken ↔ (self.old.broken ≡ true) }
+        ensures fault { IfErr result (λ e. IsStepFault self.old.broken
+            (IsPastLimit self.old.length (kept_line decl.now.declaration (not self.old.synced, line))) (D.fails_with self.new.device) e) }
+        ensures left { IfErr result (λ e. IsLeftAt self.old self.new e) }
         ensures going_on { OnOk result (self.new.broken ≡ false) }
         ensures room { self.new.room ≡ self.old.room }
+        ensures length { OnOk result (self.new.length
+            ≡ self.old.length + length (kept_line decl.now.declaration (not self.old.synced, line))) }
         ensures stored { (synced fresh : List Line) → IsStored D.holds D.may_leave decl.now.declaration self.old synced fresh
             → OnOk result (IsStored D.holds D.may_leave decl.now.declaration self.new synced (fresh ++ line ∷ [])) }
         // A crash at any moment of the call leaves the lines from before it, with the new one or without.
@@ -114,24 +146,28 @@ impl<D: Device + Drop, B: Allocator + Copy> Store<D, B> {
             → LeavesOnly D.moment D.left_since self.old.device self.new.device
             (FindsSome decl.now.declaration self.old.room synced (fresh ++ line ∷ [])) }
     {
-        if self.broken {
-            return Err(StoreFault::Broken);
-        }
+        self.check_whole()?;
         self.text.clear();
         push_kept_line(&mut self.text, decl, !self.synced, &line)?;
+        let length = self.length.saturating_add(self.text.len());
+        if length > LIMIT {
+            return Err(StoreFault::TooLong);
+        }
         self.broken = true;
         self.device.append(self.text.as_bytes())?;
         self.broken = false;
+        self.length = length;
         self.synced = false;
         Ok(())
     }
 
     /// Waits until all lines are on the disk. At `Ok` each of them is found after a crash at any moment from now on.
     ///
-    /// Fails if the device failed; then each further call fails with `Broken`: open the file again.
+    /// Fails with `Device` if the device failed; then each further call fails with `Broken`, and does nothing: open the file again.
     pub fn sync(&mut self) -> Result<(), StoreFault>
-        ensures fault { IfErr result (λ e. IsStepFault self.old.broken (D.has_failed self.new.device) e) }
-        ensures broken { OnErr result (self.new.broken ≡ true) }
+        ensures was_broken { IsErrOf result StoreFault.Broken ↔ (self.old.broken ≡ true) }
+        ensures fault { IfErr result (λ e. IsStepFault self.old.broken ⊥ (D.fails_with self.new.device) e) }
+        ensures left { IfErr result (λ e. IsLeftAt self.old self.new e) }
         ensures going_on { OnOk result (self.new.broken ≡ false) }
         ensures room { self.new.room ≡ self.old.room }
         ensures stored { (d : Declaration) (synced fresh : List Line) → IsStored D.holds D.may_leave d self.old synced fresh
@@ -139,9 +175,7 @@ impl<D: Device + Drop, B: Allocator + Copy> Store<D, B> {
         ensures any_moment { (d : Declaration) (synced fresh : List Line) → IsStored D.holds D.may_leave d self.old synced fresh
             → LeavesOnly D.moment D.left_since self.old.device self.new.device (FindsSome d self.old.room synced fresh) }
     {
-        if self.broken {
-            return Err(StoreFault::Broken);
-        }
+        self.check_whole()?;
         self.broken = true;
         self.device.sync()?;
         self.broken = false;
@@ -151,12 +185,24 @@ impl<D: Device + Drop, B: Allocator + Copy> Store<D, B> {
 
     /// Writes lines behind the last one, each as `append` does, and then syncs once.
     ///
-    /// Fails as `append` and `sync` do; the lines before the one that failed are written.
+    /// Fails as `append` and `sync` do; the lines before the one that failed are written. After `TooLong` and `OutOfMemory` the store goes
+    /// on behind these, which aren't synced yet; after `Device` each further call fails with `Broken`.
     pub fn commit<A: Allocator + Copy>(
         &mut self,
         decl: &Decl<A>,
         lines: &[Line],
     ) -> Result<(), StoreFault>
+        ensures was_broken { IsErrOf result StoreFault.Broken ↔ (self.old.broken ≡ true) }
+        ensures fault { IfErr result (λ e. IsStepFault self.old.broken
+            (IsPastLimit self.old.length (kept_text decl.now.declaration (map (λ line. (true, line)) lines.now)))
+            (D.fails_with self.new.device) e) }
+        // A fault of the device breaks the store. After any other it goes on behind the lines that were written.
+        ensures left { IfErr result (λ e. BreaksBy self.old.broken self.new.broken e) }
+        ensures written { (synced fresh : List Line) → IsStored D.holds D.may_leave decl.now.declaration self.old synced fresh
+            → IfErr result (λ e. IsRefusal e → (n : ℕ) × (n ≤ length lines.now)
+            × IsStored D.holds D.may_leave decl.now.declaration self.new synced (fresh ++ take n lines.now)) }
+        ensures going_on { OnOk result (self.new.broken ≡ false) }
+        ensures room { self.new.room ≡ self.old.room }
         ensures stored { (synced fresh : List Line) → IsStored D.holds D.may_leave decl.now.declaration self.old synced fresh
             → OnOk result (IsStored D.holds D.may_leave decl.now.declaration self.new (synced ++ (fresh ++ lines.now)) []) }
         // A crash at any moment of the call leaves all that were synced, and of the others those up to one of them.

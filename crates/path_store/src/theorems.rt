@@ -8,7 +8,7 @@ ghost use Rattle.path_decl.specs.Lawful.{AreDistinctNames};
 ghost use Rattle.path_lines.specs.LineTexts.{operation_names};
 ghost use Rattle.path_journal.specs.JournalTexts.{Kept, KeptFits, lines_of};
 ghost use Rattle.path_store.specs.AnyBytes.{LeavesAny};
-ghost use Rattle.path_store.specs.Stores.{AreMarked, IsLeft, FindsSome};
+ghost use Rattle.path_store.specs.Stores.{AreMarked, HasSome, IsLeft};
 
 /// Where a crash may leave any bytes of a write that it cuts short, no format can do with one sync for a line, whatever is read of a
 /// file and however lines are spelled, with a checksum or without: where two lines could be written behind the same file, and are as
@@ -24,5 +24,5 @@ pub fn one_sync_is_too_few()
 pub fn lines_need_no_checksum()
     ensures { (d : Declaration) (room : ℕ) (synced fresh : List Kept) (left : List ℕ) → AreDistinctNames (operation_names d) → IsRoom room
         → All (KeptFits true) (synced ++ fresh) → AreMarked fresh → IsLeft d room synced fresh left
-        → FindsSome d room (lines_of synced) (lines_of fresh) left }
+        → HasSome d room (lines_of synced) (lines_of fresh) left }
 {}

@@ -1,7 +1,9 @@
 -- What a crash leaves of a file in memory, and of one that has had other contents.
-use Rattle.std.specs.Prelude.{◌≡◌, ◌⊎◌, ℕ, List, [], ◌∷◌, ◌++◌, length, drop}
+use Rattle.std.specs.Prelude.{◌≡◌, ◌⊎◌, ℕ, Bool, true, List, [], ◌∷◌, ◌++◌, length, drop}
 use mathlib.Core.Logic.{inl, inr}
 use Rattle.path_store.specs.Devices.{IsImage}
+use Rattle.path_store.specs.declared.device.DeviceFault.{DeviceFault}
+use Rattle.path_store.specs.declared.device.DeviceFault.TheVariants.{OutOfMemory, Failed}
 use Rattle.tests_store.specs.declared.memory.State.{State}
 
 -- all bytes on the disk, and an image of those that were written since
@@ -22,3 +24,9 @@ pub only_left : (past : List State) (kept fresh c : List ℕ) → IsLeftOf kept 
     → IsLeftOf kept fresh c
 only_left past kept fresh c (inl now) = now
 only_left past kept fresh c (inr had) = absurd (none_left past c had)
+
+-- a file in memory may lack memory at any time, and fails where it does so after so many calls; it is never full
+abbrev pub FailsWith : Bool → DeviceFault → Type 0
+FailsWith failed OutOfMemory = Unit {0}
+FailsWith failed Failed = failed ≡ true
+FailsWith failed other = ⊥

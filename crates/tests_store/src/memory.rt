@@ -1,8 +1,8 @@
 //! A file in memory, on a disk that may crash.
 
-ghost use Rattle.std.specs.Prelude.{◌≡◌, ◌⊎◌, true, [], ◌∷◌, ◌++◌, length, drop, OnOk, OnErr, IfOk, IfErr, IsErrOf};
+ghost use Rattle.std.specs.Prelude.{◌≡◌, ◌⊎◌, true, [], ◌∷◌, ◌++◌, length, drop, OnOk, OnErr, IfOk, IfErr};
 ghost use Rattle.std.proofs.Common.{inl};
-ghost use Rattle.tests_store.specs.Memory.{IsLeftOf, HadBeen, only_left};
+ghost use Rattle.tests_store.specs.Memory.{FailsWith, IsLeftOf, HadBeen, only_left};
 
 use path_store::{Device, DeviceFault};
 use std::alloc::{Allocator, Global};
@@ -49,11 +49,16 @@ impl MemoryFile {
         &self.state.fresh
     }
 
+    /// How often it was changed.
+    pub fn changes(&self) -> usize {
+        self.past.len()
+    }
+
     // Counts a call, or fails.
     fn called(&mut self) -> Result<(), DeviceFault>
         ensures now { self.new.state ≡ self.old.state }
         ensures past { self.new.past ≡ self.old.past }
-        ensures failed { IsErrOf result DeviceFault.Failed → self.new.failed ≡ true }
+        ensures failed { IfErr result (λ fault. FailsWith self.new.failed fault) }
     {
         if self.calls == 0 {
             self.failed = true;
@@ -80,7 +85,7 @@ impl MemoryFile {
         ensures past { OnOk result ((s : _) × (s.kept.items ≡ self.old.state.kept.items) × (s.fresh.items ≡ self.old.state.fresh.items)
             × (self.new.past.items ≡ self.old.past.items ++ s ∷ [])) }
         ensures same { OnErr result ((self.new.state ≡ self.old.state) × (self.new.past.items ≡ self.old.past.items)) }
-        ensures failed { IsErrOf result DeviceFault.Failed → self.new.failed ≡ true }
+        ensures failed { IfErr result (λ fault. FailsWith self.new.failed fault) }
     {
         let last = State {
             kept: self.state.kept.to_vec(self.alloc)?,
@@ -102,7 +107,7 @@ impl Device for MemoryFile {
 
     ghost left_since = { λ m t c. IsLeftOf m.state.kept.items m.state.fresh.items c ⊎ HadBeen (drop t m.past.items) c };
 
-    ghost has_failed = { λ m. m.failed ≡ true };
+    ghost fails_with = { λ m fault. FailsWith m.failed fault };
 
     ghost counts_now = { λ m t c le now. inl now };
 

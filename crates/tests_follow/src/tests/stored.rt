@@ -231,7 +231,7 @@ impl Device for Failing {
 
     ghost left_since = { λ f t c. Unit {0} };
 
-    ghost has_failed = { λ f. Unit {0} };
+    ghost fails_with = { λ f fault. Unit {0} };
 
     ghost counts_now = { λ f t c le now. tt };
 
@@ -268,16 +268,16 @@ fn feeds(text: &[u8]) -> usize {
     text.iter().filter(|byte| **byte == b'\n').count()
 }
 
-/// Opening an empty file takes seven calls: two reads, and five that write its head. Then each line takes two.
+/// Opening an empty file takes five calls: two reads, and three that write its head. Then each line takes two.
 #[test]
 fn what_is_not_kept_is_not_answered(rt: HostRuntime) {
     let input = "1 start deposit\n2 start remove\n1 use 0 put 7\n";
-    for calls in 0..14u32 {
+    for calls in 0..12u32 {
         let device = Failing { calls };
         let (status, out, err) = followed(rt.alloc(), Syncing::Each, device, input);
-        let answered = (calls.saturating_sub(7) / 2).min(3);
+        let answered = (calls.saturating_sub(5) / 2).min(3);
         assert_eq!(rt; feeds(&out), answered as usize, "{calls}");
-        let want = if calls < 13 {
+        let want = if calls < 11 {
             Status::StreamFailed
         } else {
             Status::Done

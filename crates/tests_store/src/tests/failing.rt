@@ -56,8 +56,8 @@ fn no_line_that_was_answered_is_lost(rt: HostRuntime) {
 fn a_store_that_failed_is_broken(rt: HostRuntime) {
     let heap = rt.alloc();
     let decl = slot(&rt, heap);
-    // Six calls open a new file; the seventh writes.
-    let file = MemoryFile::new(heap, Vec::new(heap), 6);
+    // Four calls open a new file; the fifth writes.
+    let file = MemoryFile::new(heap, Vec::new(heap), 4);
     let mut store = opened(&rt, heap, &decl, file).store;
     assert_eq!(rt;
         store.append(&decl, LINES[0]),
@@ -65,4 +65,31 @@ fn a_store_that_failed_is_broken(rt: HostRuntime) {
     );
     assert_eq!(rt; store.append(&decl, LINES[0]), Err(StoreFault::Broken));
     assert_eq!(rt; store.sync(), Err(StoreFault::Broken));
+}
+
+#[test]
+fn a_commit_whose_sync_failed_is_broken(rt: HostRuntime) {
+    let heap = rt.alloc();
+    let decl = slot(&rt, heap);
+    // Two lines are written; the sync fails.
+    let file = MemoryFile::new(heap, Vec::new(heap), 6);
+    let mut store = opened(&rt, heap, &decl, file).store;
+    assert_eq!(rt;
+        store.commit(&decl, &LINES[..2]),
+        Err(StoreFault::Device(DeviceFault::Failed))
+    );
+    assert_eq!(rt; store.commit(&decl, &[]), Err(StoreFault::Broken));
+    assert_eq!(rt; store.append(&decl, LINES[2]), Err(StoreFault::Broken));
+}
+
+/// A file that has its lines whole is read and synced, and nothing else.
+#[test]
+fn a_whole_file_is_synced_once(rt: HostRuntime) {
+    let heap = rt.alloc();
+    let decl = slot(&rt, heap);
+    let text = b"journal 3 room 7\n1 start deposit: started 0\n".to_vec(heap);
+    let file = MemoryFile::new(heap, text.expect(&rt, "memory"), 2);
+    let opened = opened(&rt, heap, &decl, file);
+    assert_eq!(rt; opened.lines.as_slice(), &LINES[..1]);
+    assert_eq!(rt; opened.store.into_device().changes(), 1);
 }

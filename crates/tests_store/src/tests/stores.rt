@@ -74,6 +74,8 @@ fn refused(rt: &impl Abort, heap: Global, room: u32, text: &[u8]) -> Option<Stor
         Ok(_) => None,
         Err((fault, file)) => {
             assert_eq!(rt; file.kept(), kept.as_slice());
+            // Nor was it ever changed and put back.
+            assert_eq!(rt; file.changes(), 0);
             Some(fault)
         }
     }
@@ -112,6 +114,7 @@ fn a_torn_head_is_written_again(rt: HostRuntime) {
         let file = MemoryFile::new(heap, text, u64::MAX);
         let opened = opened(&rt, heap, &decl, file);
         assert!(rt; opened.lines.is_empty());
+        assert_eq!(rt; opened.cut, if left < 17 { left } else { 0 });
         assert_eq!(rt;
             opened.store.into_device().kept(),
             b"journal 3 room 7\n".as_slice()
