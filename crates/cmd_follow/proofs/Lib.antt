@@ -5,3 +5,5 @@ pub mod Stopping
 pub mod Reading
 pub mod Ending
 pub mod Behind
+mod Opening
+mod Closing

@@ -39,8 +39,8 @@ fn followed<D: Device, A: Allocator + Copy, K: Keeper, R: Read, O: Write, E: Wri
     requires { follower.old.system.earlier ≡ [] }
     ensures ok { IfOk result (λ _. GaveAll (R.remaining input.old) (λ text. Through (MayFail D.state) follower.old.system text
         follower.old.refused follower.new.refused follower.new.system.journal (O.contents out.old) (O.contents out.new))) }
-    ensures kept { K.keeps keeper.old follower.old.system.declaration follower.old.system.journal
-        → OnOk result (K.keeps keeper.new follower.old.system.declaration follower.new.system.journal) }
+    ensures kept { (first : K) → K.keeps first keeper.old follower.old.system.declaration follower.old.system.journal
+        → OnOk result (K.keeps first keeper.new follower.old.system.declaration follower.new.system.journal) }
     ensures err { IfErr result (λ stop. UnlessWriting stop (GaveFirst (R.remaining input.old) (λ text. Stopped (MayFail D.state)
         follower.old.system text follower.old.refused (O.contents out.old) (O.contents out.new)))) }
 {
@@ -76,11 +76,11 @@ pub fn follow_kept<D: Device, A: Allocator + Copy, K: Keeper, R: Read, O: Write,
     ensures done { result ≡ Status.Done → (end : List Line)
         × GaveAll (R.remaining input.old) (λ text.
         Through (MayFail D.state) system text false false end (O.contents out.old) (O.contents out.new))
-        × (K.keeps keeper.old system.declaration system.journal → K.keeps keeper.new system.declaration end) }
+        × ((first : K) → K.keeps first keeper.old system.declaration system.journal → K.keeps first keeper.new system.declaration end) }
     ensures refused { result ≡ Status.TextRefused → (end : List Line)
         × GaveAll (R.remaining input.old) (λ text.
         Through (MayFail D.state) system text false true end (O.contents out.old) (O.contents out.new))
-        × (K.keeps keeper.old system.declaration system.journal → K.keeps keeper.new system.declaration end) }
+        × ((first : K) → K.keeps first keeper.old system.declaration system.journal → K.keeps first keeper.new system.declaration end) }
     ensures memory { result ≡ Status.NoMemory → GaveFirst (R.remaining input.old) (λ text. Stopped (MayFail D.state)
         system text false (O.contents out.old) (O.contents out.new)) }
     ensures statuses { IsEnding result }

@@ -118,10 +118,12 @@ impl<D: Device, A: Allocator + Copy> Follower<D, A> {
         requires one { HasNone 10 line.now }
         ensures ok { OnOk result (Takes (MayFail D.state) self.old.system self.new.system line.now self.old.refused self.new.refused
             (O.contents out.old) (O.contents out.new)) }
-        // What can't be kept isn't answered.
+        // What can't be kept isn't answered, and where a write failed the line is kept.
         ensures err { IfErr result (λ stop. UnlessWriting stop (Keeps (O.contents out.old) (O.contents out.new))) }
-        ensures kept { K.keeps keeper.old self.old.system.declaration self.old.system.journal
-            → OnOk result (K.keeps keeper.new self.old.system.declaration self.new.system.journal) }
+        ensures writing { (first : K) → K.keeps first keeper.old self.old.system.declaration self.old.system.journal
+            → IfErr result (λ stop. IsWriting stop → K.keeps first keeper.new self.old.system.declaration self.new.system.journal) }
+        ensures kept { (first : K) → K.keeps first keeper.old self.old.system.declaration self.old.system.journal
+            → OnOk result (K.keeps first keeper.new self.old.system.declaration self.new.system.journal) }
     {
         let number = self.number;
         self.number = number.saturating_add(1);
@@ -156,8 +158,8 @@ impl<D: Device, A: Allocator + Copy> Follower<D, A> {
             pending.new.items self.old.refused self.new.refused (O.contents out.old) (O.contents out.new)) }
         ensures err { IfErr result (λ stop. UnlessWriting stop (Stopped (MayFail D.state) self.old.system
             (pending.old.items ++ block.now) self.old.refused (O.contents out.old) (O.contents out.new))) }
-        ensures kept { K.keeps keeper.old self.old.system.declaration self.old.system.journal
-            → OnOk result (K.keeps keeper.new self.old.system.declaration self.new.system.journal) }
+        ensures kept { (first : K) → K.keeps first keeper.old self.old.system.declaration self.old.system.journal
+            → OnOk result (K.keeps first keeper.new self.old.system.declaration self.new.system.journal) }
     {
         let mut rest = block;
         while let Some((line, after)) = cut(rest, b'\n') {

@@ -19,13 +19,14 @@ pub enum KeepFault {
 
 /// What keeps the lines of a follow, each before its answer is written.
 pub trait Keeper {
-    /// Whether it has kept these lines of a journal under this declaration, and no others.
-    ghost keeps: { Self → Declaration → List Line → Type 0 };
+    /// Whether it has kept these lines of a journal under this declaration, and no others, as the first keeper was to: that is what it was
+    /// at the beginning of a follow.
+    ghost keeps: { (first now : Self) → Declaration → List Line → Type 0 };
 
     /// Keeps a line behind the others.
     fn keep<A: Allocator + Copy>(&mut self, decl: &Decl<A>, line: Line) -> Result<(), KeepFault>
-        ensures { (ls : List Line) → keeps self.old decl.now.declaration ls
-            → OnOk result (keeps self.new decl.now.declaration (ls ++ line ∷ [])) };
+        ensures { (first : Self) (ls : List Line) → keeps first self.old decl.now.declaration ls
+            → OnOk result (keeps first self.new decl.now.declaration (ls ++ line ∷ [])) };
 }
 
 /// Keeps no lines.
@@ -33,7 +34,7 @@ pub trait Keeper {
 pub struct Forgetful;
 
 impl Keeper for Forgetful {
-    ghost keeps = { λ keeper d ls. Unit {0} };
+    ghost keeps = { λ first now d ls. Unit {0} };
 
     fn keep<A: Allocator + Copy>(&mut self, _decl: &Decl<A>, _line: Line) -> Result<(), KeepFault> {
         Ok(())

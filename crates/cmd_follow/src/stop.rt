@@ -52,18 +52,24 @@ impl Stop {
 }
 
 impl From<OutOfMemory> for Stop {
+    ghost from_gives = { λ _ stop. IsWriting stop → ⊥ };
+
     fn from(_error: OutOfMemory) -> Stop {
         Stop::OutOfMemory
     }
 }
 
 impl From<AllocError> for Stop {
+    ghost from_gives = { λ _ stop. IsWriting stop → ⊥ };
+
     fn from(_error: AllocError) -> Stop {
         Stop::OutOfMemory
     }
 }
 
 impl From<KeepFault> for Stop {
+    ghost from_gives = { λ _ stop. IsWriting stop → ⊥ };
+
     fn from(fault: KeepFault) -> Stop {
         match fault {
             KeepFault::Unkept => Stop::Unkept,

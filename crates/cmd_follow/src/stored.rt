@@ -1,12 +1,14 @@
 //! Follows whose lines stand in a file.
 
-ghost use Rattle.std.specs.Prelude.{◌≡◌, ◌⊎◌, ◌++◌, ◌∷◌, [], true, false, List, ℕ, IfNone, IfOk, IfErr, OnOk};
+ghost use Rattle.std.specs.Prelude.{◌≡◌, ◌≢◌, ◌⊎◌, ◌++◌, ◌∷◌, [], true, false, List, ℕ, IfNone, IfOk, IfErr, OnOk};
 ghost use Rattle.std.specs.Io.KnownBytes.{Keeps};
 ghost use Rattle.path_model.specs.declared.journal.Line.{Line};
 ghost use Rattle.path_model.specs.Rooms.{IsRoom};
-ghost use Rattle.path_store.specs.Stores.{Finds};
+ghost use Rattle.path_model.specs.Declarations.{Declaration};
+ghost use Rattle.path_store.specs.Stores.{Finds, IsFile, IsStored};
 ghost use Rattle.cmd_base.specs.Refusals.{IsNoDeclaration};
-ghost use Rattle.cmd_follow.specs.Stored.{EndsUnopened, KeepsLines, WroteBehind};
+ghost use Rattle.cmd_follow.specs.Follows.{LacksRoom};
+ghost use Rattle.cmd_follow.specs.Stored.{EndsUnopened, HasKept, IsToldUnopened, IsUnroomed, KeepsLines, WroteBehind};
 ghost use Rattle.cmd_follow.specs.Inner.Taken.{GoesOn};
 
 use crate::follow::follow_kept;
@@ -16,7 +18,7 @@ use path_decl::Decl;
 use path_journal::version_in;
 use path_model::{Line, is_room};
 use path_store::{Device, DeviceFault, Opened, Store, StoreFault};
-use path_system::{Controller, TakeFault};
+use path_system::{Controller, OpenFault, TakeFault};
 use std::alloc::Allocator;
 use std::io::{Read, Write};
 
@@ -46,8 +48,9 @@ pub struct StoreKeeper<D: Device + Drop, B: Allocator + Copy> {
 impl<D: Device + Drop, B: Allocator + Copy> StoreKeeper<D, B> {
     /// Writes a line, and syncs if each line is to be.
     fn write<A: Allocator + Copy>(&mut self, decl: &Decl<A>, line: Line) -> Result<(), StoreFault>
-        ensures { (ls : List Line) → KeepsLines D.holds D.may_leave self.old decl.now.declaration ls
-            → OnOk result (KeepsLines D.holds D.may_leave self.new decl.now.declaration (ls ++ line ∷ [])) }
+        ensures { (first : StoreKeeper D B) (ls : List Line)
+            → KeepsLines D.holds D.may_leave first self.old decl.now.declaration ls
+            → OnOk result (KeepsLines D.holds D.may_leave first self.new decl.now.declaration (ls ++ line ∷ [])) }
     {
         self.store.append(decl, line)?;
         let Syncing::Each = self.syncing else {
@@ -56,12 +59,15 @@ impl<D: Device + Drop, B: Allocator + Copy> StoreKeeper<D, B> {
         self.store.sync()
     }
 
-    /// Syncs at the end of a follow, unless the operating system is to do it.
-    fn close(&mut self) -> Result<(), StoreFault> {
-        if self.syncing == Syncing::Close {
-            self.store.sync()?;
+    /// Syncs at the end of a follow, unless each line is on the disk, or the operating system is to do it.
+    fn close(&mut self) -> Result<(), StoreFault>
+        ensures { (first : StoreKeeper D B) (d : Declaration) (ls : List Line) → KeepsLines D.holds D.may_leave first self.old d ls
+            → OnOk result (HasKept D.holds D.may_leave d first.store.room self.new.store.device first.syncing ls) }
+    {
+        match self.syncing {
+            Syncing::Close => self.store.sync(),
+            Syncing::Each | Syncing::Never => Ok(()),
         }
-        Ok(())
     }
 }
 
@@ -75,7 +81,7 @@ fn keep_fault(fault: StoreFault) -> KeepFault {
 }
 
 impl<D: Device + Drop, B: Allocator + Copy> Keeper for StoreKeeper<D, B> {
-    ghost keeps = { λ keeper d ls. KeepsLines D.holds D.may_leave keeper d ls };
+    ghost keeps = { λ first now d ls. KeepsLines D.holds D.may_leave first now d ls };
 
     fn keep<A: Allocator + Copy>(&mut self, decl: &Decl<A>, line: Line) -> Result<(), KeepFault> {
         match self.write(decl, line) {
@@ -159,29 +165,48 @@ fn own_room<D: Device, A: Allocator + Copy>(
     device: &mut D,
     room: u32,
 ) -> Result<u32, StoreFault>
-    ensures { (b : List ℕ) → D.holds device.old b → D.holds device.new b }
+    ensures room { IfOk result (λ own. (own ≡ room) ⊎ IsRoom own) }
+    ensures read { (b : List ℕ) → D.holds device.old b → D.holds device.new b }
+    ensures crash { (c : List ℕ) → D.may_leave device.new c → D.may_leave device.old c }
 {
     let front = device.front(alloc, MOST_HEAD)?;
     Ok(version_in(&front).room().unwrap_or(room))
 }
 
-/// Opens the store of a file. Its room is the one that the file names, or else this one.
+/// Why the store of a file isn't opened.
+#[derive(Clone, Copy)]
+enum Unopened {
+    /// The file names no room, and no journal can have the one that was given for it.
+    BadRoom,
+    /// The store has this fault.
+    Store(StoreFault),
+}
+
+/// Opens the store of a file. Its room is the one that the file names, or else this one. An error gives the device back.
 fn open_store<D: Device + Drop, A: Allocator + Copy>(
     alloc: A,
     decl: &Decl<A>,
     room: u32,
     device: D,
-) -> Result<(u32, Opened<D, A>), StoreFault>
-    ensures ok { IfOk result (λ p. IsRoom p.0 × ((b : List ℕ) → D.holds device b → Finds decl.now.declaration p.0 b p.1.lines.items)) }
+) -> Result<(u32, Opened<D, A>), (Unopened, D)>
+    ensures ok { IfOk result (λ p. IsRoom p.0 × (p.0 ≡ p.1.store.room)
+        × ((b : List ℕ) → D.holds device b → Finds decl.now.declaration p.0 b p.1.lines.items)) }
+    ensures stored { (synced fresh : List Line) → IfOk result (λ p.
+        IsFile D.holds D.may_leave decl.now.declaration p.0 device synced fresh → (p.1.lines.items ≡ synced ++ fresh)
+        × IsStored D.holds D.may_leave decl.now.declaration p.1.store (synced ++ fresh) []) }
+    ensures bad_room { IfErr result (λ p. IsUnroomed room p.0) }
 {
     let mut device = device;
-    let room = own_room(alloc, &mut device, room)?;
+    let room = match own_room(alloc, &mut device, room) {
+        Ok(room) => room,
+        Err(fault) => return Err((Unopened::Store(fault), device)),
+    };
     if !is_room(room) {
-        return Err(StoreFault::OtherHead);
+        return Err((Unopened::BadRoom, device));
     }
     match Store::open(alloc, decl, room, device) {
         Ok(opened) => Ok((room, opened)),
-        Err((fault, _device)) => Err(fault),
+        Err((fault, device)) => Err((Unopened::Store(fault), device)),
     }
 }
 
@@ -195,33 +220,52 @@ fn tell_wrong<E: Write>(err: &mut E, line: usize) -> Status
     }
 }
 
-/// Ends a follow whose lines are kept: syncs them if that is left to its end, and tells why a line wasn't kept.
+/// Tells in one line on `err` why the store of a file can't be opened, and returns the status.
+fn tell_unopened<E: Write>(err: &mut E, unopened: Unopened) -> Status
+    ensures { IsToldUnopened unopened result }
+{
+    match unopened {
+        Unopened::BadRoom => tell(err, Fault::Open(OpenFault::BadRoom)),
+        Unopened::Store(fault) => tell_store(err, fault),
+    }
+}
+
+/// Ends a follow whose lines are kept: syncs them if that is left to its end, and tells why a line wasn't kept. Gives the device back.
 fn closed<D: Device + Drop, B: Allocator + Copy, E: Write>(
     keeper: StoreKeeper<D, B>,
     status: Status,
     err: &mut E,
-) -> Status
-    ensures { (result ≡ status) ⊎ (result ≡ Status.NoMemory) ⊎ (result ≡ Status.StreamFailed) }
+) -> (Status, D)
+    ensures status { (result.0 ≡ status) ⊎ (result.0 ≡ Status.NoMemory) ⊎ (result.0 ≡ Status.StreamFailed) }
+    ensures kept { (first : StoreKeeper D B) (d : Declaration) (ls : List Line) → KeepsLines D.holds D.may_leave first keeper d ls
+        → (result.0 ≢ Status.NoMemory) → (result.0 ≢ Status.StreamFailed)
+        → HasKept D.holds D.may_leave d first.store.room result.1 first.syncing ls }
 {
     let mut keeper = keeper;
     if let Some(fault) = keeper.fault {
-        return tell_unkept(err, fault);
+        let status = tell_unkept(err, fault);
+        return (status, keeper.store.into_device());
     }
-    match keeper.close() {
+    let status = match keeper.close() {
         Ok(()) => status,
         Err(fault) => tell_unkept(err, fault),
-    }
+    };
+    (status, keeper.store.into_device())
 }
 
 /// Answers the lines of the input as [`follow_bytes`](crate::follow_bytes) does, and keeps each line of the journal in a file, before its
-/// answer is written. If the file has lines, it goes on behind them: what is in progress there is in progress. With `Syncing::Each` whoever
-/// was answered finds the line after a crash at any moment. What was found is told on `err` in one line.
+/// answer is written. If the file has lines, it goes on behind them: what is in progress there is in progress. With `Syncing::Each` each
+/// line is also synced before its answer is written, so whoever was answered finds it after a crash at any moment; with `Syncing::Close`
+/// all are synced at the end of the input, and with `Syncing::Never` when the operating system does it. What was found is told on `err` in
+/// one line. The device comes back.
 ///
 /// The room is the one that the file names; this one is that of a file that is begun.
 ///
-/// `TextRefused`: also if the file isn't a journal of version 3, with the fault of [`read_cut`](path_journal::read_cut). `Unsound`: a line
-/// of the file has a reply that the lines before it don't owe. `StreamFailed`: also if the file can't be read or written; what wasn't kept
-/// isn't answered. The other statuses are those of [`follow_bytes`](crate::follow_bytes).
+/// `TextRefused`: also if the file isn't a journal of version 3, with the fault of [`read_cut`](path_journal::read_cut); it is unchanged
+/// then. `CommandRefused`: the file is to be begun, and the room is 0 or above [`MOST_LINES`](path_model::MOST_LINES). `Unsound`: a line
+/// of the file has a reply that the lines before it don't owe. `StreamFailed`: also if the file can't be read or written, or would be
+/// longer than one that can be opened; what wasn't kept isn't answered. The other statuses are those of
+/// [`follow_bytes`](crate::follow_bytes).
 pub fn follow_stored<D: Device + Drop, A: Allocator + Copy, R: Read, O: Write, E: Write>(
     alloc: A,
     declaration: &[u8],
@@ -231,35 +275,42 @@ pub fn follow_stored<D: Device + Drop, A: Allocator + Copy, R: Read, O: Write, E
     input: &mut R,
     out: &mut O,
     err: &mut E,
-) -> Status
+) -> (Status, D)
     // Each line of the input was an attempt or asked for the report, and its answer was written, and nothing else. The system went on
-    // behind the lines of the file.
-    ensures done { result ≡ Status.Done → WroteBehind (D.holds device) (R.remaining input.old) (O.contents out.old) (O.contents out.new)
-        declaration.now false }
+    // behind the lines of the file, and the file has the lines of its journal, and no others. Unless that was left to the operating system,
+    // they are on the disk.
+    ensures done { result.0 ≡ Status.Done → WroteBehind D.holds D.may_leave device result.1 syncing (R.remaining input.old)
+        (O.contents out.old) (O.contents out.new) declaration.now false }
     // The file was refused and nothing written, or a line of the input was refused.
-    ensures refused { result ≡ Status.TextRefused → Keeps (O.contents out.old) (O.contents out.new)
-        ⊎ WroteBehind (D.holds device) (R.remaining input.old) (O.contents out.old) (O.contents out.new) declaration.now true }
+    ensures refused { result.0 ≡ Status.TextRefused → Keeps (O.contents out.old) (O.contents out.new)
+        ⊎ WroteBehind D.holds D.may_leave device result.1 syncing (R.remaining input.old)
+        (O.contents out.old) (O.contents out.new) declaration.now true }
     // The text isn't a declaration, and nothing was written.
-    ensures undeclared { result ≡ Status.DeclarationRefused
-        → Keeps (O.contents out.old) (O.contents out.new) × IsNoDeclaration declaration.now }
+    ensures undeclared { result.0 ≡ Status.DeclarationRefused
+        → Keeps (O.contents out.old) (O.contents out.new) × IsNoDeclaration declaration.now × (result.1 ≡ device) }
+    // No journal can have the room; nothing was written.
+    ensures bad_room { result.0 ≡ Status.CommandRefused
+        → Keeps (O.contents out.old) (O.contents out.new) × LacksRoom declaration.now room }
 {
     let (decl, devices) = match read_own(alloc, declaration) {
         Ok(own) => own,
-        Err(fault) => return tell(err, fault),
+        Err(fault) => return (tell(err, fault), device),
     };
     let (room, opened) = match open_store(alloc, &decl, room, device) {
         Ok(opened) => opened,
-        Err(fault) => return tell_store(err, fault),
+        Err((unopened, device)) => return (tell_unopened(err, unopened), device),
     };
     if let Err(status) = tell_found(err, opened.lines.len(), opened.cut) {
-        return status;
+        return (status, opened.store.into_device());
     }
     let mut system = match Controller::open(alloc, decl, devices, room) {
         Ok(system) => system,
-        Err((fault, _devices)) => return tell(err, Fault::Open(fault)),
+        Err((fault, _devices)) => {
+            return (tell(err, Fault::Open(fault)), opened.store.into_device());
+        }
     };
     if let Some((line, _fault)) = go_on(&mut system, &opened.lines) {
-        return tell_wrong(err, line);
+        return (tell_wrong(err, line), opened.store.into_device());
     }
     drop(opened.lines);
     let mut keeper = StoreKeeper {

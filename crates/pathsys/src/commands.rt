@@ -202,7 +202,7 @@ impl<'a, R: Files<File = File> + Input + AllocGlobal, O: Write, E: Write> Reques
         let (alloc, room, syncing) = (self.alloc(), self.room(), self.syncing());
         let mut input = self.rt.reader();
         let (out, err) = (&mut *self.out, &mut *self.err);
-        follow_stored(
+        let (status, _device) = follow_stored(
             alloc,
             declaration,
             room,
@@ -211,7 +211,8 @@ impl<'a, R: Files<File = File> + Input + AllocGlobal, O: Write, E: Write> Reques
             &mut input,
             out,
             err,
-        )
+        );
+        status
     }
 
     /// Answers attempts from standard input under the declaration of a file.

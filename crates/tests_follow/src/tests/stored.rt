@@ -20,20 +20,32 @@ fn path<R: Env + AllocGlobal + Abort>(rt: &R, id: u32, name: &str) -> String {
 /// How a follow ended, and what it wrote.
 type Ended = (Status, Vec<u8>, Vec<u8>);
 
-// Follows this input over a device.
-fn followed<D: Device + Drop>(heap: Global, syncing: Syncing, device: D, input: &str) -> Ended {
+// Follows this input over a device, with this room for a file that is begun; the device comes back.
+fn followed_in<D: Device + Drop>(
+    heap: Global,
+    room: u32,
+    syncing: Syncing,
+    device: D,
+    input: &str,
+) -> (Ended, D) {
     let (mut out, mut err) = (Vec::new(heap), Vec::new(heap));
-    let status = follow_stored(
+    let (status, device) = follow_stored(
         heap,
         SLOT.as_bytes(),
-        ROOM,
+        room,
         syncing,
         device,
         &mut input.as_bytes(),
         &mut out,
         &mut err,
     );
-    (status, out, err)
+    ((status, out, err), device)
+}
+
+// Follows this input over a device.
+fn followed<D: Device + Drop>(heap: Global, syncing: Syncing, device: D, input: &str) -> Ended {
+    let (ended, _device) = followed_in(heap, ROOM, syncing, device, input);
+    ended
 }
 
 // Follows this input over the file at a path.
@@ -205,10 +217,11 @@ fn other_files_are_refused(rt: HostRuntime) {
     );
 }
 
-/// A file that takes nothing more after so many calls.
+/// A file that takes nothing more after so many calls, and counts its syncs.
 #[derive(Drop)]
 struct Failing {
     calls: u32,
+    syncs: u32,
 }
 
 impl Failing {
@@ -259,6 +272,7 @@ impl Device for Failing {
     }
 
     fn sync(&mut self) -> Result<(), DeviceFault> {
+        self.syncs = self.syncs.saturating_add(1);
         self.called()
     }
 }
@@ -273,7 +287,7 @@ fn feeds(text: &[u8]) -> usize {
 fn what_is_not_kept_is_not_answered(rt: HostRuntime) {
     let input = "1 start deposit\n2 start remove\n1 use 0 put 7\n";
     for calls in 0..12u32 {
-        let device = Failing { calls };
+        let device = Failing { calls, syncs: 0 };
         let (status, out, err) = followed(rt.alloc(), Syncing::Each, device, input);
         let answered = (calls.saturating_sub(5) / 2).min(3);
         assert_eq!(rt; feeds(&out), answered as usize, "{calls}");
@@ -288,4 +302,53 @@ fn what_is_not_kept_is_not_answered(rt: HostRuntime) {
             "{calls}"
         );
     }
+}
+
+/// Opening an empty file syncs it twice: before its head is written, and behind that.
+#[test]
+fn lines_are_synced_when_they_are_to_be(rt: HostRuntime) {
+    let input = "1 start deposit\n2 start remove\n1 use 0 put 7\n";
+    for (syncing, syncs) in [
+        (Syncing::Each, 5u32),
+        (Syncing::Close, 3),
+        (Syncing::Never, 2),
+    ] {
+        let device = Failing {
+            calls: u32::MAX,
+            syncs: 0,
+        };
+        let (ended, device) = followed_in(rt.alloc(), ROOM, syncing, device, input);
+        assert_eq!(rt; ended.0, Status::Done);
+        assert_eq!(rt; device.syncs, syncs, "{syncing:?}");
+    }
+}
+
+/// The command line is at fault, and the file stays empty.
+#[test]
+fn a_room_that_no_journal_can_have_is_refused(rt: HostRuntime) {
+    for room in [0u32, 1_048_577] {
+        let device = Failing { calls: 2, syncs: 0 };
+        let (ended, device) = followed_in(rt.alloc(), room, Syncing::Each, device, FIRST);
+        check(&rt, &ended, Status::CommandRefused, "", "open: bad room\n");
+        assert_eq!(rt; (device.calls, device.syncs), (1, 0));
+    }
+}
+
+/// A torn head is cut off and told, and then written again.
+#[test]
+fn a_torn_head_is_told(rt: HostRuntime) {
+    let path = path(&rt, process::id(rt.process()), "head");
+    fs::write(&rt, path.as_str(), b"journal 3 ro".as_slice()).expect(&rt, "it is written");
+    let ended = in_file(&rt, path.as_str(), Syncing::Each, "");
+    check(
+        &rt,
+        &ended,
+        Status::Done,
+        "",
+        "journal: 0 lines found, and 12 bytes of a torn end cut off\n",
+    );
+    assert_eq!(rt;
+        taken(&rt, path.as_str()).as_slice(),
+        b"journal 3 room 100\n".as_slice()
+    );
 }

@@ -24,7 +24,7 @@ returns-in-Ok-clause-refused g c = λ e. (
   c.followed-ended.new.follower.system.journal,
   began (MayFail g.D.Device.state) (g.R.Read.remaining c.args.input.now) (g.O.Write.contents c.args.out.now) _ c.new-follower.result.system c.args.system c.new-follower.result.refused c.followed-ended.new.follower.refused true _
       c.new-follower.ensures.system c.new-follower.ensures.none c.if-refused.true c.in-Ok.ensures.ok,
-  keeps_from g.K.Keeper.keeps c.args.keeper.now c.followed-ended.new.keeper c.new-follower.result.system c.args.system _ c.new-follower.ensures.system c.in-Ok.ensures.kept,
+  λ first. keeps_from (g.K.Keeper.keeps first) c.args.keeper.now c.followed-ended.new.keeper c.new-follower.result.system c.args.system _ c.new-follower.ensures.system (c.in-Ok.ensures.kept first),
 )
 
 pub returns-in-Ok-2-clause-done : goal.returns-in-Ok-2-clause-done
@@ -32,5 +32,5 @@ returns-in-Ok-2-clause-done g c = λ e. (
   c.followed-ended.new.follower.system.journal,
   began (MayFail g.D.Device.state) (g.R.Read.remaining c.args.input.now) (g.O.Write.contents c.args.out.now) _ c.new-follower.result.system c.args.system c.new-follower.result.refused c.followed-ended.new.follower.refused false _
       c.new-follower.ensures.system c.new-follower.ensures.none c.if-refused.false c.in-Ok.ensures.ok,
-  keeps_from g.K.Keeper.keeps c.args.keeper.now c.followed-ended.new.keeper c.new-follower.result.system c.args.system _ c.new-follower.ensures.system c.in-Ok.ensures.kept,
+  λ first. keeps_from (g.K.Keeper.keeps first) c.args.keeper.now c.followed-ended.new.keeper c.new-follower.result.system c.args.system _ c.new-follower.ensures.system (c.in-Ok.ensures.kept first),
 )

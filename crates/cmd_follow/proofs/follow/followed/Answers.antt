@@ -15,7 +15,7 @@ returns-in_err-block-clause-err g c =
 
 pub loop-init : goal.loop-init
 loop-init g c = record {
-  kept = λ k. k;
+  kept = λ first k. k;
   passes = read_nothing (MayFail g.D.Device.state) c.args.follower.now.system (g.R.Read.remaining c.args.input.now) c.new-pending.result.items c.args.follower.now.refused (g.O.Write.contents c.args.out.now) c.new-pending.ensures.items;
   one = rw c.new-pending.ensures.items tt;
   some = let n = c.in_ok-block.ensures.len in omega (arith, n);
@@ -45,9 +45,9 @@ returns-then-count-eq0-clause-ok g c =
     c.take_line.ensures.ok
 
 pub returns-then-count-eq0-clause-kept : goal.returns-then-count-eq0-clause-kept
-returns-then-count-eq0-clause-kept g c = λ k.
-    keeps_ok g.K.Keeper.keeps c.take_line.result c.loop.keeper c.take_line.new.keeper c.args.follower.now.system c.loop.follower.system c.take_line.new.self.system.journal c.loop.invariant.passes.2.goes_on
-    c.take_line.ensures.kept (c.loop.invariant.kept k)
+returns-then-count-eq0-clause-kept g c = λ first k.
+    keeps_ok (g.K.Keeper.keeps first) c.take_line.result c.loop.keeper c.take_line.new.keeper c.args.follower.now.system c.loop.follower.system c.take_line.new.self.system.journal c.loop.invariant.passes.2.goes_on
+    (c.take_line.ensures.kept first) (c.loop.invariant.kept first k)
 
 pub returns-then-count-eq0-clause-err : goal.returns-then-count-eq0-clause-err
 returns-then-count-eq0-clause-err g c =
@@ -67,7 +67,7 @@ returns-in_err-take_block-clause-err g c =
 
 pub loop-preserved : goal.loop-preserved
 loop-preserved g c = record {
-  kept = λ k. keeps_on g.K.Keeper.keeps c.loop.keeper c.take_block.new.keeper c.args.follower.now.system c.loop.follower.system c.take_block.new.self.system.journal c.loop.invariant.passes.2.goes_on c.in_ok-take_block.ensures.kept (c.loop.invariant.kept k);
+  kept = λ first k. keeps_on (g.K.Keeper.keeps first) c.loop.keeper c.take_block.new.keeper c.args.follower.now.system c.loop.follower.system c.take_block.new.self.system.journal c.loop.invariant.passes.2.goes_on (c.in_ok-take_block.ensures.kept first) (c.loop.invariant.kept first k);
   passes = read_more (MayFail g.D.Device.state) c.args.follower.now.system c.loop.follower.system (g.R.Read.remaining c.args.input.now) (g.R.Read.remaining c.loop.input) c.loop.pending.items c.args.follower.now.refused c.loop.follower.refused (g.O.Write.contents c.args.out.now) (g.O.Write.contents c.loop.out)
       c.loop.invariant.passes c.take_block.new.self.system (g.R.Read.remaining c.read_block.new.input) _ c.take_block.new.pending.items c.take_block.new.self.refused (g.O.Write.contents c.take_block.new.out) (read_part (g.R.Read.remaining c.loop.input) (g.R.Read.remaining c.read_block.new.input) c.in_ok-count.count c.loop.block.len _ _ _ c.deref-in-loop.ensures.value c.in_ok-count.ensures.within
       (omega (arith, c.read_block.auto.block, c.deref_mut.ensures.len, c.in_ok-count.ensures.within)) c.in_ok-count.ensures.bytes) c.in_ok-take_block.ensures.ok;

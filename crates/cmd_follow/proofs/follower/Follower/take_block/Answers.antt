@@ -22,7 +22,7 @@ returns-in_err-take_line-clause-err g c =
 
 pub loop-line-preserved : goal.loop-line-preserved
 loop-line-preserved g c = record {
-  kept = λ k. keeps_on g.K.Keeper.keeps c.loop-line.keeper c.take_line.new.keeper c.args.self.now.system c.loop-line.self.system c.take_line.new.self.system.journal c.loop-line.invariant.passes.goes_on c.in_ok-take_line.ensures.kept (c.loop-line.invariant.kept k);
+  kept = λ first k. keeps_on (g.K.Keeper.keeps first) c.loop-line.keeper c.take_line.new.keeper c.args.self.now.system c.loop-line.self.system c.take_line.new.self.system.journal c.loop-line.invariant.passes.goes_on (c.in_ok-take_line.ensures.kept first) (c.loop-line.invariant.kept first k);
   passes = passes_pending (MayFail g.D.Device.state) c.args.self.now.system c.loop-line.self.system c.take_line.new.self.system (c.args.pending.now.items ++ c.args.block.now)
       c.loop-line.pending.items c.loop-line.rest.now c.in-Some.line.now c.extend_from_slice.new.self.items c.deref.result.now c.in-Some.after.now c.clear.new.self.items
       c.args.self.now.refused c.loop-line.self.refused c.take_line.new.self.refused

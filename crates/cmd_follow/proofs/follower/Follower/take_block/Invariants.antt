@@ -9,8 +9,8 @@ abbrev pub invariant-loop-line : goal.invariant-loop-line
 invariant-loop-line g l = record {
   passes : Passes (MayFail g.D.Device.state) l.initial.self.system l.self.system (l.initial.pending.items ++ l.block)
       (l.pending.items ++ l.rest) l.initial.self.refused l.self.refused (g.O.Write.contents l.initial.out) (g.O.Write.contents l.out);
-  kept : g.K.Keeper.keeps l.initial.keeper l.initial.self.system.declaration l.initial.self.system.journal
-      → g.K.Keeper.keeps l.keeper l.initial.self.system.declaration l.self.system.journal;
+  kept : (first : g.row.K.Denot) → g.K.Keeper.keeps first l.initial.keeper l.initial.self.system.declaration l.initial.self.system.journal
+      → g.K.Keeper.keeps first l.keeper l.initial.self.system.declaration l.self.system.journal;
   one : HasNone 10 l.pending.items;
 }
 

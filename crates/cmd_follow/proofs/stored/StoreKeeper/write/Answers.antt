@@ -5,7 +5,9 @@ use Rattle.std.proofs.lemmas.Result.{on_ok_weaker}
 use Rattle.cmd_follow.proofs.stored.StoreKeeper.write.Goals as goal
 
 pub returns-in_default : goal.returns-in_default
-returns-in_default g c = λ ls k. record {
+returns-in_default g c = λ first ls k. record {
+  room = c.append.ensures.room ∙ k.room;
+  syncing = k.syncing;
   synced = k.synced;
   fresh = k.fresh ++ c.args.line ∷ [];
   whole = sym (append_assoc k.synced k.fresh (c.args.line ∷ [])) ∙ ap (λ x. x ++ c.args.line ∷ []) k.whole;
@@ -14,9 +16,11 @@ returns-in_default g c = λ ls k. record {
 }
 
 pub returns : goal.returns
-returns g c = λ ls k.
+returns g c = λ first ls k.
     on_ok_weaker c.sync.result
     (λ stored. record {
+      room = c.sync.ensures.room ∙ c.append.ensures.room ∙ k.room;
+      syncing = k.syncing;
       synced = k.synced ++ (k.fresh ++ c.args.line ∷ []);
       fresh = [];
       whole = append-nil (k.synced ++ (k.fresh ++ c.args.line ∷ [])) ∙ sym (append_assoc k.synced k.fresh (c.args.line ∷ [])) ∙ ap (λ x. x ++ c.args.line ∷ []) k.whole;
