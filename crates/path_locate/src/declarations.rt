@@ -6,7 +6,7 @@ ghost use Rattle.path_locate.specs.Places.{IsDeclarationSpot, IsSpotAt, offset_o
 
 use crate::finding::Finding;
 use crate::likely::{Likely, likely_at};
-use crate::near::nearest_name;
+use crate::near::{is_misspelled, nearest_name};
 use crate::places::{Spot, spot_at};
 use crate::wording::Wrong;
 use path_lex::{DeclFault, Reserved, Token, tokens};
@@ -35,6 +35,17 @@ const KINDS: &[(&str, &[u8])] = &[
     ("`)`", b")"),
     ("`{`", b"{"),
     ("`}`", b"}"),
+];
+
+/// The reserved words.
+const RESERVED: &[&str] = &[
+    "resource",
+    "operation",
+    "path",
+    "end",
+    "cell",
+    "tally",
+    "queue",
 ];
 
 /// These bytes, a space and a token.
@@ -248,29 +259,62 @@ fn place(text: &[u8], offset: u32) -> Spot<'_>
 
 /// Whether this can be the cause of a declaration's fault: white space has no meaning there.
 fn matters(likely: Likely) -> bool {
-    match likely {
-        Likely::ByteOrderMark
-        | Likely::UpperCase
-        | Likely::LeadingZero
-        | Likely::PastAscii
-        | Likely::Comment
-        | Likely::Sign => true,
-        Likely::CarriageReturn | Likely::Tab | Likely::BlankLine | Likely::Space => false,
+    !matches!(
+        likely,
+        Likely::CarriageReturn | Likely::Tab | Likely::BlankLine | Likely::Space
+    )
+}
+
+/// The reserved word that is misspelled here, if it could stand behind these bytes.
+fn misspelled_word<A: Allocator + Copy>(
+    alloc: A,
+    before: &[u8],
+    token: &[u8],
+) -> Result<Option<Likely>, OutOfMemory> {
+    for word in RESERVED {
+        if is_misspelled(alloc, token, *word)? && goes_on(alloc, before, word.as_bytes())? {
+            return Ok(Some(Likely::Misspelled(*word)));
+        }
+    }
+    Ok(None)
+}
+
+/// The likely cause of a token that can't stand behind these bytes.
+fn likely_token<A: Allocator + Copy>(
+    alloc: A,
+    before: &[u8],
+    token: &[u8],
+) -> Result<Option<Likely>, OutOfMemory> {
+    match token {
+        b"path" | b"operation" if goes_on(alloc, before, b"resource")? => {
+            Ok(Some(Likely::OutsideResource))
+        }
+        _ => misspelled_word(alloc, before, token),
     }
 }
 
 /// The likely cause of a declaration's fault at this place.
-fn likely_cause(spot: &Spot<'_>) -> Option<Likely> {
-    let likely = likely_at(spot)?;
-    matters(likely).then_some(likely)
+fn likely_cause<A: Allocator + Copy>(
+    alloc: A,
+    text: &[u8],
+    fault: DeclFault,
+    spot: &Spot<'_>,
+) -> Result<Option<Likely>, OutOfMemory> {
+    let told = likely_at(spot).filter(|likely| matters(*likely));
+    match (told, fault) {
+        (None, DeclFault::Unexpected(at)) => {
+            likely_token(alloc, text.get(..at as usize).unwrap_or(text), spot.token())
+        }
+        _ => Ok(told),
+    }
 }
 
 /// Where a text has this fault, which [`read`](path_read::read) found in it; `None` if memory was wanting then. At the end of the text
 /// the place is the end of the last token. Where no token can stand there, or none of its kind, all kinds of tokens are told that the
 /// grammar allows behind those before; where a rule is broken, what the rule asks for.
 ///
-/// Fails only if allocation fails. The cost is at most that of reading what is before the place once for each of the 16 kinds of tokens,
-/// and of a few passes over the text.
+/// Fails only if allocation fails. The cost is at most that of reading what is before the place once for each of the 16 kinds of tokens
+/// and of the seven reserved words, and of a few passes over the text.
 pub fn declaration_finding<A: Allocator + Copy>(
     alloc: A,
     text: &[u8],
@@ -288,6 +332,6 @@ pub fn declaration_finding<A: Allocator + Copy>(
         wrong: Wrong::Declaration(fault),
         wanted: wanted(alloc, text, fault)?,
         nearest: nearest_to(alloc, text, fault)?,
-        likely: likely_cause(&spot),
+        likely: likely_cause(alloc, text, fault, &spot)?,
     }))
 }

@@ -20,7 +20,7 @@ pub struct Finding<'a, A: Allocator + Copy = Global> {
     pub wanted: String<A>,
     /// The declared name that is nearest to an undeclared one; empty if none is near.
     pub nearest: String<A>,
-    /// The likely cause, if a byte tells it.
+    /// The likely cause, if what stands there tells it.
     pub likely: Option<Likely>,
 }
 
@@ -132,7 +132,7 @@ pub fn push_finding<A: Allocator + Copy>(
     push_told(out, "expected ", &finding.wanted)?;
     push_told(out, "nearest name: ", &finding.nearest)?;
     match finding.likely {
-        Some(likely) => push_told(out, "likely: ", likely.words()),
+        Some(likely) => Ok(writeln!(out, "likely: {likely}")?),
         None => Ok(()),
     }
 }

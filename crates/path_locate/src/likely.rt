@@ -28,12 +28,17 @@ pub enum Likely {
     Comment,
     /// A name has a sign in it that names don't have.
     Sign,
+    /// An operation or a path stands outside of a resource.
+    OutsideResource,
+    /// This word of the language is misspelled.
+    Misspelled(&'static str),
 }
 
-impl Likely {
-    /// The cause, and what to do about it.
-    pub fn words(self) -> &'static str {
-        match self {
+/// The cause, and what to do about it.
+impl Display for Likely {
+    fn fmt<W: fmt::Write>(&self, f: &mut fmt::Formatter<W>) -> fmt::Result {
+        let words = match *self {
+            Likely::Misspelled(word) => return write!(f, "a misspelled `{word}`"),
             Likely::ByteOrderMark => "the file begins with a byte order mark; save it without one",
             Likely::CarriageReturn => "a carriage return; save the file with line feeds alone",
             Likely::Tab => "a tab; write one space",
@@ -44,13 +49,11 @@ impl Likely {
             Likely::PastAscii => "a character that isn't ASCII",
             Likely::Comment => "a comment; there are none, so take it out",
             Likely::Sign => "a name has letters, digits and _, and begins with a letter",
-        }
-    }
-}
-
-impl Display for Likely {
-    fn fmt<W: fmt::Write>(&self, f: &mut fmt::Formatter<W>) -> fmt::Result {
-        f.write_str(self.words())
+            Likely::OutsideResource => {
+                "a path stands in a resource, as in `resource r cell operation a, b path a ; b end end`"
+            }
+        };
+        f.write_str(words)
     }
 }
 
@@ -136,7 +139,7 @@ fn told_by(byte: u8) -> Option<Likely> {
 /// The likely cause of a fault at this place, if a byte there tells it. One pass over the line.
 pub fn likely_at(spot: &Spot<'_>) -> Option<Likely> {
     let rest = spot.text.get(spot.at..).unwrap_or(&[]);
-    let token = rest.get(..spot.width).unwrap_or(rest);
+    let token = spot.token();
     if spot.line == 1 && spot.at < 3 && spot.text.starts_with(b"\xef\xbb\xbf") {
         return Some(Likely::ByteOrderMark);
     }

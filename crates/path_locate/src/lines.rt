@@ -5,10 +5,10 @@ ghost use Rattle.path_fields.specs.Splits.{HasNone};
 ghost use Rattle.path_locate.specs.Places.{IsSpotBehind};
 
 use crate::finding::Finding;
-use crate::likely::likely_at;
-use crate::near::nearest_name;
+use crate::likely::{Likely, likely_at};
+use crate::near::{misspelled, nearest_name};
 use crate::places::{Spot, behind, spot_at, spot_behind};
-use crate::wording::Wrong;
+use crate::wording::{Wrong, words_of};
 use path_decl::{Decl, counts, op_name};
 use path_fields::until;
 use path_lines::{Stop, Wanted, word};
@@ -50,6 +50,18 @@ fn nearest_at<A: Allocator + Copy>(
     }
 }
 
+/// The likely cause of a stop at this place: what a byte tells, or a word that is misspelled.
+fn likely_cause<A: Allocator + Copy>(
+    alloc: A,
+    spot: &Spot<'_>,
+    wanted: Wanted,
+) -> Result<Option<Likely>, OutOfMemory> {
+    match likely_at(spot) {
+        Some(likely) => Ok(Some(likely)),
+        None => Ok(misspelled(alloc, spot.token(), words_of(wanted))?.map(Likely::Misspelled)),
+    }
+}
+
 /// The finding of a stop in the line of this number, counted from 0. The words say what could stand there.
 pub fn found<'a, A: Allocator + Copy>(
     alloc: A,
@@ -73,7 +85,7 @@ pub fn found<'a, A: Allocator + Copy>(
         wrong,
         wanted,
         nearest,
-        likely: likely_at(&spot),
+        likely: likely_cause(alloc, &spot, stop.wanted)?,
     })
 }
 

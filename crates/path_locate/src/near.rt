@@ -1,4 +1,4 @@
-//! The nearest of some names.
+//! The nearest of some names, and misspelled words.
 
 use path_model::OutOfMemory;
 use std::alloc::Allocator;
@@ -37,4 +37,33 @@ pub fn nearest_name<A: Allocator + Copy>(
 ) -> Result<String<A>, OutOfMemory> {
     let near = nearest(alloc, name, names)?.unwrap_or("");
     Ok(String::from_str(alloc, near)?)
+}
+
+/// Whether these bytes are this word misspelled: other than it, and at most an edit away for each three letters of it.
+pub fn is_misspelled<A: Allocator + Copy>(
+    alloc: A,
+    token: &[u8],
+    word: &str,
+) -> Result<bool, OutOfMemory> {
+    match std::str::from_utf8(token) {
+        Ok(token) if token.len() > 1 => {
+            let apart = osa_distance(alloc, token, word)?;
+            Ok(0 < apart && apart <= word.len() / 3)
+        }
+        _ => Ok(false),
+    }
+}
+
+/// The first of these words that the bytes are misspelled, as [`is_misspelled`] says it.
+pub fn misspelled<A: Allocator + Copy>(
+    alloc: A,
+    token: &[u8],
+    words: &[&'static str],
+) -> Result<Option<&'static str>, OutOfMemory> {
+    for word in words {
+        if is_misspelled(alloc, token, *word)? {
+            return Ok(Some(*word));
+        }
+    }
+    Ok(None)
 }

@@ -116,7 +116,13 @@ pub fn columns(bytes: &[u8]) -> usize {
     bytes.iter().filter(|byte| !goes_on(**byte)).count()
 }
 
-impl Spot<'_> {
+impl<'a> Spot<'a> {
+    /// The bytes of the token.
+    pub fn token(&self) -> &'a [u8] {
+        let end = self.at.saturating_add(self.width);
+        self.text.get(self.at..end).unwrap_or(&[])
+    }
+
     /// The column, from 1, in characters.
     pub fn column(&self) -> usize {
         let before = self.text.get(..self.at).unwrap_or(self.text);
@@ -125,8 +131,6 @@ impl Spot<'_> {
 
     /// How many characters the token has, at least 1.
     pub fn carets(&self) -> usize {
-        let end = self.at.saturating_add(self.width);
-        let token = self.text.get(self.at..end).unwrap_or(&[]);
-        columns(token).max(1)
+        columns(self.token()).max(1)
     }
 }

@@ -15,14 +15,33 @@ use path_model::OutOfMemory;
 use path_script::{Form, LIMIT, ScriptFault, read_form};
 use std::alloc::Allocator;
 
+/// Whether the line of this number, counted from 0, stands outside of a process: it is the first, or the one before it ends a process.
+fn is_outside(text: &[u8], number: u32) -> bool {
+    match number.checked_sub(1) {
+        Some(before) => matches!(read_form(line_of(text, before)), Ok(Form::End)),
+        None => true,
+    }
+}
+
+/// Where a line stops that has none of the forms; outside of a process only one can stand there.
+fn stop_outside(stop: Stop, is_outside: bool) -> Stop {
+    match stop.wanted {
+        Wanted::Step if is_outside => Stop {
+            wanted: Wanted::Process,
+            ..stop
+        },
+        _ => stop,
+    }
+}
+
 /// Where a line stops that has this fault. One that is right by itself can't stand where it does: to end a process, what is entered must
 /// be left first, and to use or leave, something must be entered.
-fn stop_of(line: &[u8], fault: ScriptFault) -> Stop
+fn stop_of(line: &[u8], fault: ScriptFault, is_outside: bool) -> Stop
     requires { HasNone 10 line.now }
 {
     let form = match read_form(line) {
         Ok(form) => form,
-        Err(stop) => return stop,
+        Err(stop) => return stop_outside(stop, is_outside),
     };
     let wanted = match (fault, form) {
         (ScriptFault::Undeclared(_), Form::Enter(name)) => return stop_at(name, Wanted::Operation),
@@ -59,7 +78,7 @@ fn line_finding<'a, A: Allocator + Copy>(
     let stop = if ends {
         stop_at(b"", Wanted::ProcessEnd)
     } else {
-        stop_of(line_of(text, number), fault)
+        stop_of(line_of(text, number), fault, is_outside(text, number))
     };
     let (wrong, words) = (Wrong::Script(fault), wanted_words(stop.wanted));
     let mut finding = found(alloc, decl, text, number, stop, wrong, words)?;
@@ -71,7 +90,7 @@ fn line_finding<'a, A: Allocator + Copy>(
 }
 
 /// Where the text of a script has this fault, which [`read_script`](path_script::read_script) found in it; `None` if memory was wanting
-/// then. Fails only if allocation fails. The cost is two passes over the text up to the end of the fault's line, and a look at each
+/// then. Fails only if allocation fails. The cost is three passes over the text up to the end of the fault's line, and a look at each
 /// declared name.
 pub fn script_finding<'a, A: Allocator + Copy>(
     alloc: A,

@@ -84,6 +84,17 @@ pub fn wanted_words(wanted: Wanted) -> &'static str {
     }
 }
 
+/// The words of which one could stand in a line, where it is one of few.
+pub fn words_of(wanted: Wanted) -> &'static [&'static str] {
+    match wanted {
+        Wanted::Attempt => &["start", "use", "finish"],
+        Wanted::Verb => &["put", "take", "look", "add"],
+        Wanted::Process => &["process"],
+        Wanted::Step => &["enter", "use", "leave", "end"],
+        _ => &[],
+    }
+}
+
 impl Display for Wrong {
     fn fmt<W: fmt::Write>(&self, f: &mut fmt::Formatter<W>) -> fmt::Result {
         f.write_str(match self {

@@ -75,6 +75,48 @@ const GRAMMAR: &[Row<'static>] = &[
          expected `path` or `end` or `,`\nlikely: capital letters; write the word in small ones\n",
     ),
     (
+        "a path alone",
+        "path a ; b end",
+        "F:1:1: this can't stand here\npath a ; b end\n^^^^\nexpected `resource`\n\
+         likely: a path stands in a resource, as in `resource r cell operation a, b path a ; b end end`\n",
+    ),
+    (
+        "a path behind a resource",
+        "resource r cell operation a, b end\npath a ; b end",
+        "F:2:1: this can't stand here\npath a ; b end\n^^^^\nexpected `resource`\n\
+         likely: a path stands in a resource, as in `resource r cell operation a, b path a ; b end end`\n",
+    ),
+    (
+        "operations alone",
+        "operation a, b path a ; b end",
+        "F:1:1: this can't stand here\noperation a, b path a ; b end\n^^^^^^^^^\nexpected `resource`\n\
+         likely: a path stands in a resource, as in `resource r cell operation a, b path a ; b end end`\n",
+    ),
+    (
+        "operations twice in a resource",
+        "resource r cell operation a operation b end",
+        "F:1:29: this can't stand here\nresource r cell operation a operation b end\n                            ^^^^^^^^^\n\
+         expected `path` or `end` or `,`\n",
+    ),
+    (
+        "a misspelled word that could stand there",
+        "resource r cell operation a pth a end end",
+        "F:1:29: this can't stand here\nresource r cell operation a pth a end end\n                            ^^^\n\
+         expected `path` or `end` or `,`\nlikely: a misspelled `path`\n",
+    ),
+    (
+        "a misspelled word with two letters changed",
+        "resuorce r cell operation a end",
+        "F:1:1: this can't stand here\nresuorce r cell operation a end\n^^^^^^^^\n\
+         expected `resource`\nlikely: a misspelled `resource`\n",
+    ),
+    (
+        "a misspelled word that couldn't stand there",
+        "resource r opertion a cel end",
+        "F:1:12: this can't stand here\nresource r opertion a cel end\n           ^^^^^^^^\n\
+         expected `cell` or `tally` or `queue`\n",
+    ),
+    (
         "the end of the text",
         "resource r cell\n  operation a\n\n",
         "F:2:14: this can't stand here\n  operation a\n             ^\nexpected `path` or `end` or `,`\n",

@@ -40,7 +40,8 @@ const ATTEMPTS: &[Row<'static>] = &[
     (
         "a misspelled verb",
         "1 strat deposit",
-        "F:1:3: this line can't be read\n1 strat deposit\n  ^^^^^\nexpected `start NAME`, `use A VERB` or `finish A`\n",
+        "F:1:3: this line can't be read\n1 strat deposit\n  ^^^^^\nexpected `start NAME`, `use A VERB` or `finish A`\n\
+         likely: a misspelled `start`\n",
     ),
     (
         "a leading zero",
@@ -97,6 +98,12 @@ const ATTEMPTS: &[Row<'static>] = &[
         "a verb that no device has",
         "1 use 0 get",
         "F:1:9: this line can't be read\n1 use 0 get\n        ^^^\nexpected `put N`, `take`, `look` or `add N`\n",
+    ),
+    (
+        "a misspelled use",
+        "1 use 0 lok",
+        "F:1:9: this line can't be read\n1 use 0 lok\n        ^^^\nexpected `put N`, `take`, `look` or `add N`\n\
+         likely: a misspelled `look`\n",
     ),
     (
         "a worker's number too large",
@@ -195,6 +202,38 @@ const SCRIPTS: &[Row<'static>] = &[
         "F:1:1: this line can't stand here\nenter deposit\n^^^^^\nexpected `process NAME`\n",
     ),
     (
+        "a misspelled process",
+        "proces p\nenter deposit\nleave\nend\n",
+        "F:1:1: this line can't stand here\nproces p\n^^^^^^\nexpected `process NAME`\nlikely: a misspelled `process`\n",
+    ),
+    (
+        "another behind a process",
+        "process p\nend\nprocces q\nend\n",
+        "F:3:1: this line can't stand here\nprocces q\n^^^^^^^\nexpected `process NAME`\nlikely: a misspelled `process`\n",
+    ),
+    (
+        "another within a process, where no process can stand",
+        "process p\nenter deposit\nproces q\nend\n",
+        "F:3:1: this line can't stand here\nproces q\n^^^^^^\nexpected `enter NAME`, `use VERB`, `leave` or `end`\n",
+    ),
+    (
+        "a misspelled step",
+        "process p\nentre deposit\nleave\nend\n",
+        "F:2:1: this line can't stand here\nentre deposit\n^^^^^\nexpected `enter NAME`, `use VERB`, `leave` or `end`\n\
+         likely: a misspelled `enter`\n",
+    ),
+    (
+        "a line of no form outside a process",
+        "begin\n",
+        "F:1:1: this line can't stand here\nbegin\n^^^^^\nexpected `process NAME`\n",
+    ),
+    (
+        "a process with a carriage return",
+        "process p\r\nend\n",
+        "F:1:10: this line can't stand here\nprocess p\u{240d}\n         ^\nexpected the end of the line\n\
+         likely: a carriage return; save the file with line feeds alone\n",
+    ),
+    (
         "an undeclared name",
         "process p\nenter remov\nleave\nend\n",
         "F:2:7: this isn't a declared operation\nenter remov\n      ^^^^^\nexpected the name of a declared operation\n\
@@ -242,6 +281,20 @@ fn each_request_is_refused(rt: HostRuntime) {
         let has_refused = refusing.has_refused();
         assert!(rt;
             is_right(told, has_refused, "nearest name: remove\n") && (has_refused || number > 1),
+            "{number}"
+        );
+    }
+}
+
+#[test]
+fn each_request_for_a_misspelled_word_is_refused(rt: HostRuntime) {
+    for number in 1..ENOUGH {
+        let refusing = Refusing::new(rt.alloc(), number);
+        let told = told_of(&refusing, Kind::Script, b"proces p");
+        let has_refused = refusing.has_refused();
+        assert!(rt;
+            is_right(told, has_refused, "likely: a misspelled `process`\n")
+                && (has_refused || number > 1),
             "{number}"
         );
     }
