@@ -3,6 +3,7 @@
 ghost use Rattle.std.specs.Prelude.{◌≡◌, ℕ, ◌<◌, ◌≤◌, [], length, vec_len, vec_capacity, slice_index_or, IfOk};
 ghost use Rattle.path_script.specs.Scripts.{IsBalanced, LawfulScript};
 ghost use Rattle.path_run.specs.Runs.{IsRun};
+ghost use Rattle.path_run.specs.Stopped.{IsStoppedBy};
 
 use crate::monitor::Monitor;
 use crate::outcome::End;
@@ -91,6 +92,7 @@ fn work_there<L: DeskName, S: Steps, T: Turnstile, A: Allocator + Copy, R: Wait>
     requires few { length steps.now ≤ 4096 }
     ensures worker { result.pass.worker ≡ worker }
     ensures run { IsRun steps.now [] result.pass.receipts result.end }
+    ensures stopped { IsStoppedBy (T.may_stop turnstile.now) worker (length steps.now) result.end }
 {
     let mut pass = Pass::new(alloc, worker);
     let end = work(rt, monitor, turnstile, &mut pass, steps);

@@ -1,12 +1,13 @@
 //! Enters, which wait while a path blocks them.
 
-ghost use Rattle.std.specs.Prelude.{◌≡◌, ◌∷◌, ◌++◌, List, MatchResult};
+ghost use Rattle.std.specs.Prelude.{◌≡◌, ◌∷◌, ◌++◌, List, MatchResult, IfErr};
 ghost use Rattle.path_model.specs.declared.ids.ActId.{ActId as Act};
 ghost use Rattle.path_script.specs.declared.script.Step.TheVariants as steps;
 ghost use Rattle.path_workers.specs.declared.answer.Receipt.{Receipt as Note};
-ghost use Rattle.path_run.specs.Inner.Parts.{Adds, Closes, HasTried};
+ghost use Rattle.path_run.specs.Stopped.{IsUnstopped};
+ghost use Rattle.path_run.specs.Inner.Parts.{Adds, Closes, HasTried, IsUnstoppedTry};
 
-use crate::monitor::{Admission, Monitor};
+use crate::monitor::{Admission, Monitor, Outlook};
 use crate::outcome::End;
 use path_model::{ActId, OpId};
 use path_workers::{DeskName, Pass, Steps};
@@ -32,6 +33,7 @@ fn try_once<L: DeskName, S: Steps, A: Allocator + Copy, R: Wait>(
 ) -> Tried
     ensures worker { pass.new.worker ≡ pass.old.worker }
     ensures run { (gained : List Note) × (pass.new.receipts ≡ pass.old.receipts ++ gained) × HasTried op gained result }
+    ensures unstopped { IsUnstoppedTry result }
 {
     let mut state = monitor.state.lock(rt);
     let seen = match state.start(pass, op) {
@@ -44,11 +46,11 @@ fn try_once<L: DeskName, S: Steps, A: Allocator + Copy, R: Wait>(
     }
     let state = monitor
         .freed
-        .wait_while(rt, state, |s| s.finishes == seen && !s.stalled);
-    if state.finishes == seen {
-        Tried::Ended(End::Stalled(op))
-    } else {
-        Tried::Freed
+        .wait_while(rt, state, |s| s.outlook(seen) == Outlook::Waits);
+    match state.outlook(seen) {
+        Outlook::Freed => Tried::Freed,
+        Outlook::Stalled => Tried::Ended(End::Stalled(op)),
+        Outlook::Waits => unreachable!(),
     }
 }
 
@@ -63,6 +65,7 @@ pub fn enter<L: DeskName, S: Steps, A: Allocator + Copy, R: Wait>(
     ensures run { (gained : List Note) × (pass.new.receipts ≡ pass.old.receipts ++ gained)
         × MatchResult result (λ act. (held : List Act) → Adds (steps.Enter op) held (act ∷ held) gained)
         (λ end. (held : List Act) → Closes (steps.Enter op) held end gained) }
+    ensures unstopped { IfErr result (λ end. IsUnstopped end) }
 {
     for _ in rt.forever() {
         match try_once(rt, monitor, pass, op) {

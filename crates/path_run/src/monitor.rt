@@ -3,7 +3,7 @@
 ghost use Rattle.std.specs.Prelude.{◌≡◌, ◌≢◌, ◌+◌, ◌-◌, ◌++◌, List, min, true, false, IsOk};
 ghost use Rattle.path_workers.specs.declared.answer.Receipt.{Receipt as Note};
 ghost use Rattle.path_workers.specs.Attempts.{finishes_open};
-ghost use Rattle.path_run.specs.Inner.Parts.{HasBegun, HasGained, IsCountedBy, IsMarkedBy};
+ghost use Rattle.path_run.specs.Inner.Parts.{HasBegun, HasGained, IsCountedBy, IsMarkedBy, IsOutlook, IsUnstoppedStart};
 ghost use Rattle.path_run.specs.Waiting.{IsMarked};
 
 use crate::outcome::End;
@@ -22,12 +22,23 @@ pub enum Admission {
     Ended(End),
 }
 
+/// What a process that a path blocked learns of the others.
+#[derive(Clone, Copy, Debug, PartialEq, Eq)]
+pub enum Outlook {
+    /// No finish has been admitted since, and somebody can still finish.
+    Waits,
+    /// A finish has been admitted since.
+    Freed,
+    /// No finish has been admitted since, and none will be: everybody waits.
+    Stalled,
+}
+
 /// What is under the lock: the system, and how many processes wait.
 #[derive(Drop)]
 pub struct RunState<L: DeskName, S: Steps> {
     shared: SharedSystem<L, S>,
     /// How many finishes were admitted.
-    pub finishes: u64,
+    finishes: u64,
     /// How many processes wait; each has tried since the last admitted finish.
     waiting: u64,
     /// How many processes haven't ended.
@@ -94,6 +105,7 @@ impl<L: DeskName, S: Steps> RunState<L, S> {
         ensures same { (self.new.finishes ≡ self.old.finishes) × (self.new.left ≡ self.old.left) }
         ensures worker { pass.new.worker ≡ pass.old.worker }
         ensures run { (gained : List Note) × (pass.new.receipts ≡ pass.old.receipts ++ gained) × HasBegun op gained result }
+        ensures unstopped { IsUnstoppedStart result }
     {
         let Ok(reply) = self.make_attempt(pass, Attempt::Start(op)) else {
             return Admission::Ended(End::NoMemory);
@@ -106,6 +118,19 @@ impl<L: DeskName, S: Steps> RunState<L, S> {
             }
             Reply::NoRoom => Admission::Ended(End::NoRoom),
             other => Admission::Ended(End::Faulted(other)),
+        }
+    }
+
+    /// The outlook of a process that was blocked when `seen` finishes had been admitted.
+    pub fn outlook(&self, seen: u64) -> Outlook
+        ensures { IsOutlook seen self.now.finishes self.now.stalled result }
+    {
+        if self.finishes != seen {
+            Outlook::Freed
+        } else if self.stalled {
+            Outlook::Stalled
+        } else {
+            Outlook::Waits
         }
     }
 

@@ -1,11 +1,12 @@
 //! One step of a process.
 
-ghost use Rattle.std.specs.Prelude.{◌≡◌, ◌∷◌, ◌++◌, List, length, true, IsOk, MatchResult, OnOk, OnErr};
+ghost use Rattle.std.specs.Prelude.{◌≡◌, ◌∷◌, ◌++◌, List, length, true, IsOk, MatchResult, OnOk, OnErr, IfErr};
 ghost use Rattle.path_workers.specs.Attempts.{finishes_open};
 ghost use Rattle.path_model.specs.declared.ids.ActId.{ActId as Act};
 ghost use Rattle.path_script.specs.declared.script.Step.TheVariants as steps;
 ghost use Rattle.path_script.specs.Scripts.{MayStep, entered_after};
 ghost use Rattle.path_workers.specs.declared.answer.Receipt.{Receipt as Note};
+ghost use Rattle.path_run.specs.Stopped.{IsUnstopped};
 ghost use Rattle.path_run.specs.Inner.Parts.{Adds, Closes, HasGained};
 
 use crate::enter::enter;
@@ -49,6 +50,7 @@ fn apply<L: DeskName, S: Steps, A: Allocator + Copy, R: Wait>(
     ensures run { (gained : List Note) × (pass.new.receipts ≡ pass.old.receipts ++ gained)
         × MatchResult result (λ _. (held : List Act) → Adds (steps.Apply verb) (act ∷ held) (act ∷ held) gained)
         (λ end. (held : List Act) → Closes (steps.Apply verb) (act ∷ held) end gained) }
+    ensures unstopped { IfErr result (λ end. IsUnstopped end) }
 {
     let Ok(reply) = attempt(rt, monitor, pass, Attempt::Apply(act, verb)) else {
         return Err(End::NoMemory);
@@ -71,6 +73,7 @@ fn leave<L: DeskName, S: Steps, A: Allocator + Copy, R: Wait>(
     ensures run { (gained : List Note) × (pass.new.receipts ≡ pass.old.receipts ++ gained)
         × MatchResult result (λ _. (held : List Act) → Adds steps.Leave (act ∷ held) held gained)
         (λ end. (held : List Act) → Closes steps.Leave (act ∷ held) end gained) }
+    ensures unstopped { IfErr result (λ end. IsUnstopped end) }
 {
     let Ok(reply) = attempt(rt, monitor, pass, Attempt::Finish(act)) else {
         return Err(End::NoMemory);
@@ -96,6 +99,7 @@ pub fn take<L: DeskName, S: Steps, A: Allocator + Copy, R: Wait>(
         × MatchResult result (λ _. Adds step entered.old entered.new gained) (λ end. Closes step entered.new end gained) }
     ensures ok { OnOk result (length entered.new ≡ entered_after (length entered.old) step) }
     ensures err { OnErr result (entered.new ≡ entered.old) }
+    ensures unstopped { IfErr result (λ end. IsUnstopped end) }
 {
     match step {
         Step::Enter(op) => {

@@ -5,6 +5,7 @@ ghost use Rattle.path_model.specs.declared.ids.ActId.{ActId as Act};
 ghost use Rattle.path_script.specs.Scripts.{IsBalanced};
 ghost use Rattle.path_workers.specs.declared.answer.Receipt.{Receipt as Note};
 ghost use Rattle.path_run.specs.Runs.{Finishes, IsRun};
+ghost use Rattle.path_run.specs.Stopped.{IsStoppedBy};
 ghost use Rattle.path_run.specs.Inner.Parts.{After};
 
 use crate::entered::Entered;
@@ -32,6 +33,7 @@ fn take_steps<L: DeskName, S: Steps, T: Turnstile, A: Allocator + Copy, R: Wait>
     requires few { length steps.now ≤ 4096 }
     ensures worker { pass.new.worker ≡ pass.old.worker }
     ensures run { (rs : List Note) → After result entered.new rs → IsRun steps.now [] (pass.new.receipts ++ rs) result }
+    ensures stopped { IsStoppedBy (T.may_stop turnstile.now) pass.old.worker (length steps.now) result }
 {
     for place in 0..steps.len() as u32 {
         if !turnstile.before(pass.worker(), place) {
@@ -86,6 +88,7 @@ pub fn work<L: DeskName, S: Steps, T: Turnstile, A: Allocator + Copy, R: Wait>(
     requires few { length steps.now ≤ 4096 }
     ensures worker { pass.new.worker ≡ pass.old.worker }
     ensures run { IsRun steps.now [] pass.new.receipts result }
+    ensures stopped { IsStoppedBy (T.may_stop turnstile.now) pass.old.worker (length steps.now) result }
 {
     let mut entered = Entered::none();
     let end = take_steps(rt, monitor, turnstile, pass, &mut entered, steps);

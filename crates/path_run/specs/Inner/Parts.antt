@@ -1,5 +1,5 @@
 -- What one step adds to the receipts of a process.
-use Rattle.std.specs.Prelude.{◌≡◌, ◌≢◌, ◌⊎◌, ℕ, ◌+◌, min, Bool, true, List, [], ◌∷◌, ◌++◌, Result, Ok, MatchResult}
+use Rattle.std.specs.Prelude.{◌≡◌, ◌≢◌, ◌⊎◌, ℕ, ◌+◌, min, Bool, true, false, List, [], ◌∷◌, ◌++◌, Result, Ok, MatchResult}
 use Rattle.path_model.specs.declared.ids.OpId.{OpId}
 use Rattle.path_model.specs.declared.ids.ActId.{ActId}
 use Rattle.path_model.specs.declared.journal.Attempt.{Attempt}
@@ -13,10 +13,13 @@ use Rattle.path_run.specs.declared.outcome.End.{End}
 use Rattle.path_run.specs.declared.outcome.End.TheVariants as ends
 use Rattle.path_run.specs.declared.monitor.Admission.{Admission}
 use Rattle.path_run.specs.declared.monitor.Admission.TheVariants as admissions
+use Rattle.path_run.specs.declared.monitor.Outlook.{Outlook}
+use Rattle.path_run.specs.declared.monitor.Outlook.TheVariants as outlooks
 use Rattle.path_run.specs.declared.enter.Tried.{Tried}
 use Rattle.path_run.specs.declared.enter.Tried.TheVariants as tries
 use Rattle.path_run.specs.Runs.{note, Finishes, IsRun}
 use Rattle.path_run.specs.Waiting.{IsMarked}
+use Rattle.path_run.specs.Stopped.{IsUnstopped}
 
 -- the receipts that an attempt with this reply gains: one, or none for NoRoom
 abbrev pub Gains : Attempt → Reply → List Receipt → Type 0
@@ -65,6 +68,15 @@ HasBegun op gained (admissions.Entered act) = (held : List ActId) → Adds (Ente
 HasBegun op gained (admissions.Blocked seen) = AreTries op gained × ((held : List ActId) → Closes (Enter op) held (ends.Stalled op) gained)
 HasBegun op gained (admissions.Ended end) = (held : List ActId) → Closes (Enter op) held end gained
 
+-- neither of them is stopped by the turnstile, which is asked before
+abbrev pub IsUnstoppedTry : Tried → Type 0
+IsUnstoppedTry (tries.Ended end) = IsUnstopped end
+IsUnstoppedTry tried = Unit {0}
+
+abbrev pub IsUnstoppedStart : Admission → Type 0
+IsUnstoppedStart (admissions.Ended end) = IsUnstopped end
+IsUnstoppedStart admission = Unit {0}
+
 -- a blocked process is marked as waiting, with the finishes that it has seen; nothing else is marked
 abbrev pub IsMarkedBy : Admission → ℕ → ℕ → ℕ → ℕ → Bool → Bool → Type 0
 IsMarkedBy (admissions.Blocked seen) finishes before waiting left stalled now =
@@ -75,3 +87,10 @@ IsMarkedBy admission finishes before waiting left stalled now = (waiting ≡ bef
 abbrev pub IsCountedBy : {E : Type 0} → Result Reply E → ℕ → ℕ → ℕ → ℕ → Type 0
 IsCountedBy (Ok Finished) before finishes waited waiting = (finishes ≢ before) × (waiting ≡ 0)
 IsCountedBy result before finishes waited waiting = (finishes ≡ before) × (waiting ≡ waited)
+
+-- the outlook of a process that was blocked at so many finishes: it is freed exactly if there are others now, and stalled exactly if there
+-- are none and the run is marked
+abbrev pub IsOutlook : ℕ → ℕ → Bool → Outlook → Type 0
+IsOutlook seen finishes stalled outlooks.Freed = finishes ≢ seen
+IsOutlook seen finishes stalled outlooks.Stalled = (finishes ≡ seen) × (stalled ≡ true)
+IsOutlook seen finishes stalled outlooks.Waits = (finishes ≡ seen) × (stalled ≡ false)

@@ -24,5 +24,6 @@ pub returns-in_default-reply : goal.returns-in_default-reply
 returns-in_default-reply g c =
     let t = c.in-Ok.ensures.run in record {
       worker = c.attempt.ensures.worker;
+      unstopped = tt;
       run = (t.0, t.1, leave_fault c.args.act c.in-Ok.reply t.0 t.2 c.in_default-reply.not-NoRoom c.in_default-reply.not-Finished);
     }
