@@ -1,12 +1,14 @@
 //! Places of faults.
 
-ghost use Rattle.std.specs.Prelude.{◌≡◌, ◌≤◌, IfSome};
+ghost use Rattle.std.specs.Prelude.{◌≡◌, ◌≤◌, IfNone, IfOk, IfSome};
+ghost use Rattle.cmd_audit.specs.Audits.{IsSoundText};
+ghost use Rattle.cmd_refusals.specs.Places.{AreAttempts, IsDeclared, IsJournal, IsScript};
 ghost use Rattle.cmd_refusals.specs.Places.{IsAttemptsPlace, IsDeclarationPlace, IsJournalPlace, IsScriptPlace, IsWrongNumber};
 ghost use Rattle.cmd_refusals.specs.Places.{lines_before};
 
 use crate::source::{Source, Subject};
 use cmd_audit::verdict_on;
-use cmd_base::Status;
+use cmd_base::{Fault, Status};
 use path_audit::Verdict;
 use path_decl::Decl;
 use path_journal::read_journal;
@@ -15,6 +17,7 @@ use path_lines::{TextFault, read_attempts};
 use path_locate::{
     Finding, TextKind, declaration_finding, push_finding, script_finding, text_finding,
 };
+use path_model::OutOfMemory;
 use path_read::read;
 use path_script::{ScriptFault, read_script};
 use std::alloc::Allocator;
@@ -33,55 +36,66 @@ fn lines_of<A: Allocator + Copy>(
     Some(lines)
 }
 
-/// Where a declaration is at fault; `None` if it isn't, or if there is no memory to say it.
-fn in_declaration<A: Allocator + Copy>(alloc: A, text: &[u8]) -> Option<Finding<'_, A>>
-    ensures { IfSome result (λ finding. IsDeclarationPlace text.now finding.spot) }
+/// Where a declaration is at fault; `None` if it isn't. Fails only if allocation fails.
+fn in_declaration<A: Allocator + Copy>(
+    alloc: A,
+    text: &[u8],
+) -> Result<Option<Finding<'_, A>>, OutOfMemory>
+    ensures some { IfOk result (λ found. IfSome found (λ finding. IsDeclarationPlace text.now finding.spot)) }
+    ensures none { IfOk result (λ found. IfNone found (IsDeclared text.now)) }
 {
     match read(alloc, text) {
-        Ok(_) | Err(DeclFault::OutOfMemory) => None,
-        Err(fault) => declaration_finding(alloc, text, fault).ok()?,
+        Ok(_) => Ok(None),
+        Err(DeclFault::OutOfMemory) => Err(OutOfMemory),
+        Err(fault) => declaration_finding(alloc, text, fault),
     }
 }
 
-/// Where attempts are at fault; `None` as above.
+/// Where attempts are at fault, in the same way.
 fn in_attempts<'a, A: Allocator + Copy>(
     alloc: A,
     decl: &Decl<A>,
     text: &'a [u8],
-) -> Option<Finding<'a, A>>
-    ensures { IfSome result (λ finding. IsAttemptsPlace decl.now.declaration text.now finding.spot) }
+) -> Result<Option<Finding<'a, A>>, OutOfMemory>
+    ensures some { IfOk result (λ found. IfSome found (λ finding. IsAttemptsPlace decl.now.declaration text.now finding.spot)) }
+    ensures none { IfOk result (λ found. IfNone found (AreAttempts decl.now.declaration text.now)) }
 {
     match read_attempts(alloc, decl, text) {
-        Ok(_) | Err(TextFault::OutOfMemory) => None,
-        Err(fault) => text_finding(alloc, decl, TextKind::Attempts, text, fault).ok()?,
+        Ok(_) => Ok(None),
+        Err(TextFault::OutOfMemory) => Err(OutOfMemory),
+        Err(fault) => text_finding(alloc, decl, TextKind::Attempts, text, fault),
     }
 }
 
-/// Where a journal is at fault; `None` as above.
+/// Where a journal is at fault, in the same way.
 fn in_journal<'a, A: Allocator + Copy>(
     alloc: A,
     decl: &Decl<A>,
     text: &'a [u8],
-) -> Option<Finding<'a, A>>
-    ensures { IfSome result (λ finding. IsJournalPlace decl.now.declaration text.now finding.spot) }
+) -> Result<Option<Finding<'a, A>>, OutOfMemory>
+    ensures some { IfOk result (λ found. IfSome found (λ finding. IsJournalPlace decl.now.declaration text.now finding.spot)) }
+    ensures none { IfOk result (λ found. IfNone found (IsJournal decl.now.declaration text.now)) }
 {
     match read_journal(alloc, decl, text) {
-        Ok(_) | Err(TextFault::OutOfMemory) => None,
-        Err(fault) => text_finding(alloc, decl, TextKind::Journal, text, fault).ok()?,
+        Ok(_) => Ok(None),
+        Err(TextFault::OutOfMemory) => Err(OutOfMemory),
+        Err(fault) => text_finding(alloc, decl, TextKind::Journal, text, fault),
     }
 }
 
-/// Where a script is at fault; `None` as above.
+/// Where a script is at fault, in the same way.
 fn in_script<'a, A: Allocator + Copy>(
     alloc: A,
     decl: &Decl<A>,
     text: &'a [u8],
-) -> Option<Finding<'a, A>>
-    ensures { IfSome result (λ finding. IsScriptPlace decl.now.declaration text.now finding.spot) }
+) -> Result<Option<Finding<'a, A>>, OutOfMemory>
+    ensures some { IfOk result (λ found. IfSome found (λ finding. IsScriptPlace decl.now.declaration text.now finding.spot)) }
+    ensures none { IfOk result (λ found. IfNone found (IsScript decl.now.declaration text.now)) }
 {
     match read_script(alloc, decl, text) {
-        Ok(_) | Err(ScriptFault::OutOfMemory) => None,
-        Err(fault) => script_finding(alloc, decl, text, fault).ok()?,
+        Ok(_) => Ok(None),
+        Err(ScriptFault::OutOfMemory) => Err(OutOfMemory),
+        Err(fault) => script_finding(alloc, decl, text, fault),
     }
 }
 
@@ -96,18 +110,19 @@ fn head_of(text: &[u8]) -> usize
     }
 }
 
-/// The number of a journal's first wrong line in its text, from 1; `None` if none is wrong, or if there is no memory to say it.
+/// The number of a journal's first wrong line in its text, from 1; `None` if none is wrong. Fails as [`verdict_on`] does.
 fn wrong_number<A: Allocator + Copy>(
     alloc: A,
     decl: &Decl<A>,
     room: u32,
     text: &[u8],
-) -> Option<usize>
-    ensures { IfSome result (IsWrongNumber decl.now.declaration room text.now) }
+) -> Result<Option<usize>, Fault<'static>>
+    ensures some { IfOk result (λ found. IfSome found (IsWrongNumber decl.now.declaration room text.now)) }
+    ensures none { IfOk result (λ found. IfNone found (IsSoundText decl.now.declaration room text.now)) }
 {
-    match verdict_on(alloc, decl, room, text) {
-        Ok(Verdict::WrongLine(number)) => Some(number as usize + head_of(text) + 1),
-        _ => None,
+    match verdict_on(alloc, decl, room, text)? {
+        Verdict::WrongLine(number) => Ok(Some(number as usize + head_of(text) + 1)),
+        Verdict::Sound => Ok(None),
     }
 }
 
@@ -118,7 +133,7 @@ fn wrong_line<A: Allocator + Copy>(
     source: Source<'_>,
     room: u32,
 ) -> Option<String<A>> {
-    let number = wrong_number(alloc, decl, room, source.text)?;
+    let number = wrong_number(alloc, decl, room, source.text).ok()??;
     let (name, line) = (source.name, number.saturating_add(source.lines_before));
     format!(in alloc;
         "{name}:{line}: this reply isn't the one that the lines before it give\n"
@@ -134,13 +149,13 @@ fn in_subject<A: Allocator + Copy>(
 ) -> Option<String<A>> {
     match (status, subject) {
         (Status::TextRefused, Subject::Attempts(source)) => {
-            lines_of(alloc, source, in_attempts(alloc, decl, source.text)?)
+            lines_of(alloc, source, in_attempts(alloc, decl, source.text).ok()??)
         }
         (Status::TextRefused, Subject::Journal(source, _)) => {
-            lines_of(alloc, source, in_journal(alloc, decl, source.text)?)
+            lines_of(alloc, source, in_journal(alloc, decl, source.text).ok()??)
         }
         (Status::TextRefused, Subject::Script(source)) => {
-            lines_of(alloc, source, in_script(alloc, decl, source.text)?)
+            lines_of(alloc, source, in_script(alloc, decl, source.text).ok()??)
         }
         (Status::Unsound, Subject::Journal(source, room)) => {
             wrong_line(alloc, decl, source, room)
@@ -158,7 +173,11 @@ fn place<A: Allocator + Copy>(
 ) -> Option<String<A>> {
     match status {
         Status::DeclarationRefused => {
-            lines_of(alloc, declaration, in_declaration(alloc, declaration.text)?)
+            lines_of(
+                alloc,
+                declaration,
+                in_declaration(alloc, declaration.text).ok()??,
+            )
         }
         Status::TextRefused | Status::Unsound => {
             let decl = read(alloc, declaration.text).ok()?;
