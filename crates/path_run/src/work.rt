@@ -36,7 +36,8 @@ fn take_steps<L: DeskName, S: Steps, T: Turnstile, A: Allocator + Copy, R: Wait>
     ensures stopped { IsStoppedBy (T.may_stop turnstile.now) pass.old.worker (length steps.now) result }
 {
     for place in 0..steps.len() as u32 {
-        if !turnstile.before(pass.worker(), place) {
+        let may_step = turnstile.before(pass.worker(), place);
+        if !may_step {
             return End::Stopped;
         }
         if let Err(end) = take(rt, monitor, pass, entered, steps[place as usize]) {
