@@ -14,6 +14,7 @@ ghost use Rattle.cmd_explain.specs.Judgements.{Begins, IsJudgedText, JudgementEn
 
 use crate::faults::{FileNames, Subject, tell_place};
 use crate::held::{Lines, push_held};
+use crate::room::room_hint;
 use crate::standing::{Moment, push_standing};
 use crate::why::push_why;
 use cmd_base::{Fault, Status, own_openings, put_ending};
@@ -22,7 +23,7 @@ use path_decl::Decl;
 use path_journal::read_journal;
 use path_lines::{push_line, push_reply};
 use path_locate::TextKind;
-use path_model::{JournalText, Line, MOST_LINES, OutOfMemory, Reply};
+use path_model::{JournalText, Line, OutOfMemory, Reply};
 use path_read::read;
 use std::alloc::Allocator;
 use std::io::Write;
@@ -49,7 +50,7 @@ fn push_owed<A: Allocator + Copy>(
 }
 
 /// Replays the lines of a journal, in a room of so many lines if its text names none.
-fn examined<A: Allocator + Copy>(
+pub fn examined<A: Allocator + Copy>(
     alloc: A,
     decl: &Decl<A>,
     room: u32,
@@ -100,86 +101,6 @@ fn behind<A: Allocator + Copy>(
         last: owed,
     };
     push_held(alloc, &mut text, decl, lines, &live)?;
-    Ok(text)
-}
-
-/// How many of the lines are right.
-fn right_lines<A: Allocator + Copy>(examined: &Examined<A>, lines: &[Line]) -> usize {
-    match examined.wrong() {
-        Some(wrong) => wrong.line as usize,
-        None => lines.len(),
-    }
-}
-
-/// How far the lines of a journal are right in a room.
-#[derive(Clone, Copy)]
-struct Reach {
-    /// How many of the lines are right.
-    right: usize,
-    /// How many places these take, with one for each activation that is live behind them.
-    places: usize,
-}
-
-/// How far these lines are right in this room.
-fn reach_in<A: Allocator + Copy>(
-    alloc: A,
-    decl: &Decl<A>,
-    lines: &[Line],
-    room: u32,
-) -> Result<Reach, OutOfMemory> {
-    let Ok(tried) = examined(alloc, decl, room, lines) else {
-        return Err(OutOfMemory);
-    };
-    let right = right_lines(&tried, lines);
-    let live = tried.live(alloc)?.len();
-    Ok(Reach {
-        right,
-        places: right.saturating_add(live),
-    })
-}
-
-/// The least room in which more than `right` lines are right, and as many as in the largest; `None` if there is none.
-///
-/// It has a place for each of these lines and for each activation that is live behind them, and one more if the last line that wanted
-/// places is a refused start, which wants two and takes one. The replay has gone on past the first wrong line, where one activation more
-/// or less may be live. So there are four rooms to try.
-fn least_room<A: Allocator + Copy>(
-    alloc: A,
-    decl: &Decl<A>,
-    lines: &[Line],
-    right: usize,
-) -> Result<Option<u32>, OutOfMemory> {
-    let largest = reach_in(alloc, decl, lines, MOST_LINES)?;
-    if largest.right <= right {
-        return Ok(None);
-    }
-    let taken = u32::try_from(largest.places).unwrap_or(MOST_LINES);
-    let least = taken.saturating_sub(1).max(1);
-    for room in least..MOST_LINES.min(taken.saturating_add(3)) {
-        if reach_in(alloc, decl, lines, room)?.right == largest.right {
-            return Ok(Some(room));
-        }
-    }
-    Ok(Some(MOST_LINES))
-}
-
-/// In which room a wrong line that lacked a place would be right; nothing of any other line.
-fn room_hint<A: Allocator + Copy>(
-    alloc: A,
-    decl: &Decl<A>,
-    lines: &[Line],
-    wrong: Wrong,
-) -> Result<String<A>, OutOfMemory> {
-    let mut text = String::new(alloc);
-    if let Reply::NoRoom = wrong.owed {
-        match least_room(alloc, decl, lines, wrong.line as usize)? {
-            Some(room) => writeln!(
-                text,
-                "   right with --room {room}, or with that room in its head"
-            )?,
-            None => text.push_str("   wrong in any room\n")?,
-        }
-    }
     Ok(text)
 }
 

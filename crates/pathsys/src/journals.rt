@@ -4,6 +4,7 @@ use crate::files::{STDIN, read_named};
 use crate::request::Request;
 use cmd_audit::{JournalFile, audit_bytes, audit_files};
 use cmd_base::{Fault, Status};
+use cmd_explain::{FullJournal, full_journal};
 use cmd_refusals::{Source, Subject, tell_place};
 use std::io::Write;
 use std::rt::Files;
@@ -58,12 +59,39 @@ impl<'a, R: Files + Input + AllocGlobal, O: Write, E: Write> Request<'_, 'a, R, 
         said
     }
 
-    /// Says on standard error which line of a journal in one file is wrong, as editors count, and which command shows why. Of a journal in
-    /// several files nothing is said.
+    /// Says on standard error where the journal of this source is full, and in which room it isn't.
+    fn tell_full(&mut self, source: Source<'_>, full: FullJournal) {
+        let FullJournal {
+            line,
+            room,
+            is_named,
+            enough,
+        } = full;
+        let (name, whose) = (
+            source.name,
+            if is_named {
+                "a head with room"
+            } else {
+                "--room"
+            },
+        );
+        drop(writeln!(
+            self.err,
+            "{name}:{line}: the room of {room} is used up here; {whose} {enough} would do"
+        ));
+    }
+
+    /// Says on standard error which line of a journal in one file is wrong, as editors count, and which command shows why; if only room
+    /// lacks, in which room the line is right. Of a journal in several files nothing is said.
     pub fn tell_wrong(&mut self, declaration: &[u8], files: &[JournalFile]) {
         if let [file] = files {
-            let subject = Subject::Journal(source_of(file), self.room());
-            self.ended(declaration, subject, Status::Unsound);
+            let (source, room) = (source_of(file), self.room());
+            match full_journal(self.alloc(), declaration, room, &file.text) {
+                Some(full) => self.tell_full(source, full),
+                None => {
+                    self.ended(declaration, Subject::Journal(source, room), Status::Unsound);
+                }
+            }
             self.hint_at_explain(&file.name);
         }
     }

@@ -7,3 +7,4 @@ mod endings;
 mod hostile;
 mod journals;
 mod refusals;
+mod rooms;
