@@ -124,6 +124,24 @@ class Sharing(OnServer, unittest.TestCase):
         self.assertEqual(a.journal().count("\n"), 6)
         self.assertTrue(a.audit() and a.audit(a.journal()))
 
+    def test_why_says_what_may_begin_next(self):
+        a, b = self.open(SLOT), self.open(SLOT)
+
+        async def enters(paths, operation):
+            async with paths.aio(operation, timeout=0.01):
+                pass
+
+        for paths, operation, next_one in ((a, "remove", "deposit"), (b, "deposit", "remove")):
+            told = "{} is blocked: path 0 of slot: deposit ; remove; in progress: nothing of it; may begin next: {}".format(operation, next_one)
+            why = paths.why(operation)
+            self.assertEqual((why.may_begin, str(why)), ((next_one,), told))
+            for enter in (lambda: paths.enter(operation, timeout=0.01), lambda: asyncio.run(enters(paths, operation))):
+                with self.assertRaisesRegex(Timeout, "; may begin next: {}$".format(next_one)) as caught:
+                    enter()
+                self.assertEqual(caught.exception.may_begin, (next_one,))
+            paths.enter(next_one).leave()
+        self.assertIsNone(a.why("deposit"))
+
     def test_devices_are_shared(self):
         a, b = self.open(LINE), self.open(LINE)
         for number in (7, 8):

@@ -52,6 +52,13 @@ class Commands(OnServer, unittest.TestCase):
             told = "process {} {} {}\n".format(paths.worker.split()[-1], os.getpid(), socket.gethostname())
             self.assertEqual(self.runs("status")[0].partition("frozen no\n")[2], told)
 
+    def test_a_conflict_says_what_may_begin_next(self):
+        with open(self.declaration, "w") as file:
+            file.write(SLOT)
+        told, why, status = self.runs("exec", "--declaration", self.declaration, "--nonblock", "remove", "--", "echo", "hello")
+        self.assertEqual((told, status), ("", 1))
+        self.assertRegex(why, "^wanzoche: remove is blocked: .* in progress: nothing of it; may begin next: deposit\n$")
+
     def test_a_command_outlives_who_runs_it(self):
         """Then its operation is in progress until it ends, too."""
         words = self.words("exec", "--declaration", self.declaration, "write", "--", "sh", "-c", "echo ready; read line")
