@@ -253,14 +253,30 @@ class Rights(Faulty, unittest.TestCase):
         self.assertTrue(self.a.audit())
 
 
+    def test_it_is_asked_later_and_later(self):
+        """What nobody leaves is finished when that can be, and until then few calls are made."""
+        entry, session, calls = self.a.enter("write"), self.a._served._log.session, []
+        call = session.call
+        self.server.run("revoke insert on wanzoche.line from app")
+        try:
+            with mock.patch.object(session, "call", lambda *given: (calls.append(1), call(*given))[1]):
+                del entry
+                gc.collect()
+                time.sleep(2)
+            self.assertIn(len(calls), range(6, 80))
+        finally:
+            self.server.run("grant insert on wanzoche.line to app")
+        self.enters_soon(self.b, self.a)
+
     def test_a_close_that_is_refused(self):
-        self.a.enter("write")
+        kept = self.a.enter("write")
         self.server.run("revoke insert on wanzoche.line from app")
         try:
             begun = time.monotonic()
             with self.assertRaisesRegex(StoreError, "permission denied for table line"):
                 self.a.close()
             self.assertLess(time.monotonic() - begun, SOON)
+            self.assertTrue(kept)
         finally:
             self.server.run("grant insert on wanzoche.line to app")
         self.enters_soon(self.b)
@@ -604,13 +620,12 @@ class Cancellations(unittest.TestCase):
         self.assertEqual((wrong, round.lost), ([], 0), wrong)
 
     def test_a_statement_that_takes_too_long(self):
-        """While somebody has locked the tables."""
+        """While somebody has locked a table."""
         url = the_server().url + "&options=-c%20statement_timeout%3D1s"
-        tables = "wanzoche.line, wanzoche.segment, wanzoche.waiting, wanzoche.worker, wanzoche.log"
 
         def locks(chance):
-            for _ in range(2):
-                the_server().run("begin; lock table {}; select pg_sleep(1.4); commit".format(tables))
+            for table in ("line", "waiting"):
+                the_server().run("begin; lock table wanzoche.{}; select pg_sleep(1.4); commit".format(table))
                 time.sleep(chance.random() * 0.3)
 
         self.is_right(locks, url=url)

@@ -920,12 +920,11 @@ class Clerk:
         """The worker was taken for dead, and this is another: what was in progress is others'."""
         self.held.clear()
         self._done.clear()
-        self._is_unsure = False
+        self._is_unsure = True
         self._take_flight_back()
         self._unknown.clear()
         self._registered.clear()
         self._doubtful.clear()
-        self.log.forget()
 
     def _begin_anew(self) -> None:
         """Follows the log from its begin: what this process holds is what stands in it."""
