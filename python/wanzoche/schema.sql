@@ -230,7 +230,7 @@ begin
 end $$;
 
 -- Wakes who has waited longest for each of these operations: a notification with the operation's number on the worker's channel. The caller
--- needs none. One whose session is gone doesn't wait any more.
+-- needs none. One whose session is gone doesn't wait any more. Anybody in the database may notify: who gets one looks, and trusts no text.
 create or replace function wanzoche.wake(l int, w int, operations int[]) returns void
 language plpgsql set search_path = pg_catalog, pg_temp as $$
 declare x record; woken int[] := '{}';
