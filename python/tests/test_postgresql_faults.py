@@ -193,6 +193,28 @@ class Refusals(Faulty, unittest.TestCase):
             self.each(behind, NO_RIGHT, NO_RIGHT, NO_RIGHT)
         self.assertGreater(self.told, 20)
 
+    def statements_behind(self, code, step):
+        """What a step gives, and the statements that are called behind the first, which goes wrong though it was done."""
+        session, names = self.a._served._log.session, []
+        failing = Failing(session, 1, 1, [code])
+
+        def noted(calls, until):
+            found = failing(calls, until)
+            names.extend(call.name for call in calls)
+            return found
+
+        with mock.patch.object(session, "call", noted):
+            return step(), set(names)
+
+    def test_who_is_answered_finds_the_line_on_the_disk(self):
+        """Also where the wait for the disk was cancelled, or its session cut."""
+        for code in (CANCELLED, CUT):
+            self.a.enter("read").leave()
+            entry, names = self.statements_behind(code, lambda: self.a.enter("write", timeout=20))
+            self.assertTrue(names & {b"lasts", b"line_lasts"}, names)
+            _, names = self.statements_behind(code, entry.leave)
+            self.assertTrue(names & {b"lasts", b"line_lasts"}, names)
+
     def test_a_session_that_is_cut_as_well(self):
         for behind in PLACES[1:]:
             self.each(behind, CANCELLED, CUT)
