@@ -305,6 +305,23 @@ class Rights(Faulty, unittest.TestCase):
 
 
 @needs_server
+class Odd(Faulty, unittest.TestCase):
+    def test_an_error_that_nobody_foresaw(self):
+        """Who asks is told, and nobody enters beside the process that has it."""
+        a, b = self.open(BOOK), self.open(BOOK)
+        entry = a.enter("write")
+        with mock.patch.object(a._served._log, "follow", side_effect=ValueError("odd")):
+            for call in (a.report, lambda: a.try_enter("read"), lambda: a.why("read")):
+                with self.assertRaisesRegex(ValueError, "^odd$"):
+                    call()
+            time.sleep(3 * self.grace)
+            self.assertIsNone(b.try_enter("write"))
+        entry.leave()
+        self.enters_soon(b, a)
+        self.assertEqual(a.worker, "process 1")
+
+
+@needs_server
 class Dropped(Faulty, unittest.TestCase):
     def test_what_nobody_leaves_is_left_later(self):
         """Also when the server was away for longer than the patience."""

@@ -54,8 +54,8 @@ class Outage:
 
 
 class Clerk:
-    """Works until it is told to end, or until a line of the log isn't owed. All but `submit`, `do`, `ring` and `end` is for who is at the
-    desk."""
+    """Works until it is told to end, or until a line of the log isn't owed. What else goes wrong is told to those who wanted it, and it goes
+    on. All but `submit`, `do`, `ring` and `end` is for who is at the desk."""
 
     def __init__(self, log: Log, paths: Sequence[Path], numbers: Dict[str, int], finishes_lost: bool, patience: float) -> None:
         self.log = log
@@ -334,7 +334,7 @@ class Clerk:
             self._is_unsure = True
         except CorruptStore:
             raise
-        except (StoreError, MemoryError) as error:
+        except Exception as error:  # whatever it is: without the session others would take this process for dead
             self._note_refusal(error)
             self._wait_out()
         return False
