@@ -175,6 +175,7 @@ class Refusals(Faulty, unittest.TestCase):
             with self.subTest(codes=codes, behind=behind, number=number), mock.patch.object(session, "call", failing):
                 self.scenario()
                 is_over = failing.is_over()
+                self.assertEqual(self.server.run("select pid from pg_stat_activity where state like 'idle in transaction%'"), [])
             self.enters_soon(self.a, self.b)
             self.assertEqual(self.b.report().live, ())
         self.assertGreater(number, 10)
