@@ -14,7 +14,7 @@ import time
 import unittest
 from unittest import mock
 
-from wanzoche import StoreError, _log, _postgresql
+from wanzoche import StoreError, _clerk, _log, _postgresql
 
 from .declarations import BOOK
 from .servers import OnServer, Server, needs_server, the_server
@@ -187,6 +187,34 @@ class Refusals(Faulty, unittest.TestCase):
             self.each(behind, CANCELLED)
             self.each(behind, CANCELLED, CANCELLED, CANCELLED)
         self.assertEqual(self.told, 0)
+
+    def test_nothing_is_done_twice(self):
+        """What was done is found, and isn't done again."""
+        self.name += " of sums"
+        paths, sums = self.open("resource sum tally operation count path count end end"), []
+        session = paths._served._log.session
+        for number in range(1, 6):
+            for behind in (1, None):
+                for code in (CANCELLED, CUT):
+                    with mock.patch.object(session, "call", Failing(session, number, behind, [code])):
+                        with paths("count", timeout=20) as entry:
+                            sums.append(entry.add(1))
+        self.assertEqual(sums, list(range(1, 21)))
+        self.assertEqual([line.split()[1] for line in self.lines()], 20 * ["start", "use", "finish"])
+
+    def test_who_was_refused_waits_no_more(self):
+        """The server has heard that it waits, and it was told that this was refused: another is woken in its place."""
+        c, session = self.open(BOOK), self.a._served._log.session
+        waiting = "select worker from wanzoche.waiting join wanzoche.log using (log) where name = %s and since is not null"
+        with mock.patch.object(_clerk, "CHECK", 1000.0):  # nobody looks by itself so soon
+            entry = self.b.enter("write")
+            self.a.report()
+            with mock.patch.object(session, "call", Failing(session, 1, None, [NO_RIGHT])):
+                self.assertRaises(StoreError, self.a.enter, "read")
+            waits = self.thread(lambda: c.enter("read", timeout=SOON).leave())
+            self.until(lambda: (3,) in self.server.run(waiting, self.name))
+            entry.leave()
+            self.ends(waits)
 
     def test_a_call_that_is_refused(self):
         for behind in PLACES:
