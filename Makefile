@@ -2,8 +2,8 @@
 #
 #   make              the program, the C library (static and shared) and wanzoche.pc, in out/
 #   make example      the program alone, and then runs a stored example
-#   make test         the cases, the examples and the tests of the program, the C library, the Python package and the web page; with WANZOCHE_TESTS=all
-#                     in each Python that is here, under sanitizers and over PostgreSQL, too
+#   make test         the cases, the examples and the tests of the program, the C library, what is installed, the Python package and the web page;
+#                     with WANZOCHE_TESTS=all in each Python that is here, under sanitizers and over PostgreSQL, too
 #   make test_rust    the tests of the Rust crate, which want cargo
 #   make install      to PREFIX (/usr/local), below DESTDIR if that is set; make uninstall takes the same files away
 #   make core         what is quick of the Python package, in C: out/python/_core.abi3.so, by the headers of PYTHON, for each later one
@@ -135,7 +135,7 @@ example: $(program)
 test_rust:
 	rust/tests/run
 
-test: all test_program test_library test_package test_page
+test: all test_program test_library test_install test_package test_page
 	@echo "make test: all passed"
 
 test_program: $(program) library
@@ -150,6 +150,9 @@ test_program: $(program) library
 test_library: library
 	c/tests/run $(OUT)
 
+test_install: all
+	packaging/test $(OUT)
+
 test_package: $(program) library
 	PYTHONS="$(PYTHONS)" python/tests/run $(OUT)
 
@@ -163,12 +166,12 @@ prove:
 
 to := $(DESTDIR)$(PREFIX)
 pages := $(wildcard docs/*.md)
+# The command wanzoche is the Python package's, so pip brings it with its man page and completions (python/packing.py).
 installed := bin/pathsys \
     $(LIBDIR)/libwanzoche.a $(LIBDIR)/libwanzoche.so.0 $(LIBDIR)/libwanzoche.so $(LIBDIR)/pkgconfig/wanzoche.pc \
     include/wanzoche.h include/wanzoche_monitor.h \
-    share/man/man1/pathsys.1 share/man/man1/wanzoche.1 share/man/man3/wanzoche.3 \
-    $(foreach name,pathsys wanzoche,share/bash-completion/completions/$(name) share/zsh/site-functions/_$(name) \
-        share/fish/vendor_completions.d/$(name).fish)
+    share/man/man1/pathsys.1 share/man/man3/wanzoche.3 \
+    share/bash-completion/completions/pathsys share/zsh/site-functions/_pathsys share/fish/vendor_completions.d/pathsys.fish
 
 install: all
 	$(INSTALL) -d $(addprefix $(to)/,$(sort $(dir $(installed)))) $(to)/share/doc/wanzoche
@@ -177,12 +180,11 @@ install: all
 	ln -sf libwanzoche.so.0 $(to)/$(LIBDIR)/libwanzoche.so
 	printenv pc_of_prefix > $(to)/$(LIBDIR)/pkgconfig/wanzoche.pc
 	$(INSTALL) -m 644 $(headers) $(to)/include/
-	$(INSTALL) -m 644 man/pathsys.1 man/wanzoche.1 $(to)/share/man/man1/
+	$(INSTALL) -m 644 man/pathsys.1 $(to)/share/man/man1/
 	$(INSTALL) -m 644 man/wanzoche.3 $(to)/share/man/man3/
 	$(INSTALL) -m 644 completions/pathsys.bash $(to)/share/bash-completion/completions/pathsys
-	$(INSTALL) -m 644 completions/wanzoche.bash $(to)/share/bash-completion/completions/wanzoche
-	$(INSTALL) -m 644 completions/_pathsys completions/_wanzoche $(to)/share/zsh/site-functions/
-	$(INSTALL) -m 644 completions/pathsys.fish completions/wanzoche.fish $(to)/share/fish/vendor_completions.d/
+	$(INSTALL) -m 644 completions/_pathsys $(to)/share/zsh/site-functions/
+	$(INSTALL) -m 644 completions/pathsys.fish $(to)/share/fish/vendor_completions.d/
 	$(INSTALL) -m 644 README.md CHANGELOG.md dist/NOTICE $(pages) docs/page.png $(to)/share/doc/wanzoche/
 
 uninstall:
@@ -203,5 +205,5 @@ release:
 clean:
 	rm -rf $(OUT)
 
-.PHONY: all library core example test test_program test_library test_package test_page test_rust prove install uninstall wheel deb release clean
+.PHONY: all library core example test test_program test_library test_install test_package test_page test_rust prove install uninstall wheel deb release clean
 .DELETE_ON_ERROR:
