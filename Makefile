@@ -48,15 +48,20 @@ python_headers = $(shell $(PYTHON) -c 'import sysconfig; print(sysconfig.get_pat
 # Only glibc hands the words of the command line to what runs before main (dist/system.c).
 wrap := $(if $(findstring musl,$(machine) $(CC)),-Wl$(comma)--wrap=main)
 
+# What is said in place of a build that can only fail, in one line.
+processors := $(patsubst dist/%/path_c.s,%,$(wildcard dist/*/path_c.s))
+ifeq ($(machine),)
+cannot := there is no C compiler `$(CC)`: docs/install.md says what to install
+else ifeq ($(and $(findstring linux,$(machine)),$(filter $(CPU),$(processors))),)
+cannot := this builds for Linux on $(processors), and not for $(machine). On macOS and Windows it runs in a Linux container or in WSL: docs/install.md, Other systems
+endif
+ifneq ($(if $(cannot),$(filter-out clean uninstall prove test_page,$(or $(MAKECMDGOALS),all))),)
+$(error $(cannot))
+endif
+
 all: $(program) library
 
 library: $(library)
-
-ifeq ($(wildcard dist/$(CPU)/path_c.s),)
-$(work)/%.o:
-	@echo "dist/ has assembly for $(patsubst dist/%/path_c.s,%,$(wildcard dist/*/path_c.s)), and none for $(machine): docs/install.md says what can be done" >&2
-	@false
-endif
 
 $(work)/%.o: dist/$(CPU)/%.s
 	@mkdir -p $(@D)

@@ -91,8 +91,16 @@ def _may_have_core() -> bool:
     return os.path.exists(os.path.join(sysconfig.get_path("include"), "Python.h"))
 
 
+def _refuse_elsewhere() -> None:
+    """Ends pip's call with one line where nothing can be built, before `make` is looked for: it may not be there."""
+    if sys.platform != "linux":
+        told = "wanzoche runs on Linux, and not on {}. On macOS and Windows it runs in a Linux container or in WSL: docs/install.md"
+        raise SystemExit(told.format(sys.platform))
+
+
 def _built() -> Tuple[bytes, Optional[bytes]]:
     """The library and the core, as `make` builds them now. None in place of a core that can't be built or isn't wanted."""
+    _refuse_elsewhere()
     with_core = _may_have_core()
     with tempfile.TemporaryDirectory() as out:
         command = ["make", "-C", _sources(), "OUT=" + out, "PYTHON=" + sys.executable, "library"] + ["core"] * with_core

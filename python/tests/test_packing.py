@@ -1,10 +1,12 @@
-"""Packing for pip: which files come with the package."""
+"""Packing for pip: which files come with the package, and what is said where it can't be built."""
 
 import importlib.util
 import os
+import sys
 import tempfile
 import unittest
 import zipfile
+from unittest import mock
 
 from wanzoche import _native as native
 from wanzoche._form import core
@@ -30,6 +32,14 @@ class Packing(unittest.TestCase):
         wanted = {"share/man/man1/wanzoche.1", "share/bash-completion/completions/wanzoche"}
         wanted |= {"share/zsh/site-functions/_wanzoche", "share/fish/vendor_completions.d/wanzoche.fish"}
         self.assertEqual(shared, wanted)
+
+    def test_elsewhere_than_on_linux(self):
+        """One line, in place of what `make` and a compiler say there, or that they are missing."""
+        for platform in ("darwin", "win32", "cygwin", "freebsd14"):
+            with mock.patch.object(sys, "platform", platform), mock.patch("subprocess.run", side_effect=AssertionError):
+                with tempfile.TemporaryDirectory() as folder, self.assertRaises(SystemExit) as caught:
+                    packing().build_wheel(folder)
+            self.assertRegex(str(caught.exception), "^[^\n]*Linux[^\n]*not on {}[^\n]*WSL[^\n]*docs/install.md[^\n]*$".format(platform))
 
 
 if __name__ == "__main__":
