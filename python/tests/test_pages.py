@@ -10,7 +10,7 @@ import unittest
 from .stores import THOROUGH
 
 DOCS = os.path.join(os.path.dirname(os.path.dirname(os.path.dirname(os.path.abspath(__file__)))), "docs")
-PAGES = ("shared.md", "lasting.md")
+PAGES = ("shared.md", "lasting.md", "python.md")
 RUNS = {"python": [sys.executable, "-W", "error::ResourceWarning", "-c"], "sh": ["sh", "-eu", "-c"]}
 
 
@@ -19,7 +19,8 @@ def blocks(page):
     with open(os.path.join(DOCS, page), encoding="utf-8") as file:
         text = file.read()
     for found in re.finditer(r"^```(python|sh)\n(.*?)^```$", text, re.DOTALL | re.MULTILINE):
-        yield text.count("\n", 0, found.start()) + 1, found.group(1), found.group(2)
+        if "pip install" not in found.group(2):  # which the gate does in a new Debian
+            yield text.count("\n", 0, found.start()) + 1, found.group(1), found.group(2)
 
 
 class Pages(unittest.TestCase):
