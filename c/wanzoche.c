@@ -3,7 +3,12 @@
 **
 ** The exports answer for every handle and every text, but they take
 ** references, which are never null. Here a null handle is a closed one, and a
-** null text or buffer is one without bytes. Nothing else is decided here.
+** null text or buffer is one without bytes.
+**
+** What has no export of its own is decided here, and c/tests/calls.c tests it:
+** the record of wanzoche_begin and wanzoche_end, the lines that
+** wanzoche_rotate_at compares, the list of wanzoche_list_live, the version,
+** and the words of codes.
 */
 #include "wanzoche.h"
 
