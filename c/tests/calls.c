@@ -744,6 +744,7 @@ static void resumes_nothing_wrong(void) {
 
 static void words(void) {
     CHECK(!strcmp(wanzoche_words(WANZOCHE_BLOCKED), "blocked") && !strcmp(wanzoche_words(57), "no such code"));
+    CHECK(!strcmp(wanzoche_version(), WANZOCHE_VERSION));
     for (uint32_t code = 0; code <= WANZOCHE_SCRIPT_TOO_MANY; code++)
         CHECK((code > WANZOCHE_NO_JOURNAL && code < WANZOCHE_TOO_LONG) == !strcmp(wanzoche_words(code), "no such code"));
 }
