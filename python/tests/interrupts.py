@@ -7,6 +7,7 @@ import os
 import sys
 import threading
 import types
+import warnings
 
 import wanzoche
 
@@ -125,6 +126,14 @@ def _quiet_finalizers():
         yield
     finally:
         sys.unraisablehook = before
+
+
+def may_leave_unused(test):
+    """In this test an entry may be dropped that nobody has entered."""
+    filters = warnings.catch_warnings()
+    filters.__enter__()
+    test.addCleanup(filters.__exit__, None, None, None)
+    warnings.filterwarnings("ignore", "an entry of .* was dropped, and nobody had entered it", ResourceWarning)
 
 
 @contextlib.contextmanager

@@ -19,7 +19,7 @@ from wanzoche._form import core
 from wanzoche._waiting import ThreadWaiter
 
 from .declarations import BOOK, SLOT
-from .interrupts import Interrupt, at_instruction, each_instruction, interrupt, no_longer_than
+from .interrupts import Interrupt, at_instruction, each_instruction, interrupt, may_leave_unused, no_longer_than
 
 try:
     import _testcapi
@@ -337,6 +337,10 @@ class Workers(Cores):
 class Circles(Cores):
     """Entries in progress in circles, which only the collector ends."""
 
+    def setUp(self):
+        super().setUp()
+        may_leave_unused(self)
+
     def collects(self, paths):
         with self.assertWarnsRegex(ResourceWarning, "^an entry of write was dropped in progress, and is finished now$"):
             gc.collect()
@@ -587,6 +591,10 @@ class References(Cores):
 class Memory(Cores):
     """Each allocation that fails is a MemoryError, and nothing is left."""
 
+    def setUp(self):
+        super().setUp()
+        may_leave_unused(self)
+
     @unittest.skipUnless(core, "there is no core")
     def test_a_start_and_a_finish_take_none(self):
         paths = Paths(BOOK)
@@ -644,6 +652,10 @@ class Memory(Cores):
 
 
 class BadInput(Cores):
+    def setUp(self):
+        super().setUp()
+        may_leave_unused(self)
+
     def refuses(self, error, *calls):
         for number, call in enumerate(calls):
             with self.subTest(number), self.assertRaises(error):

@@ -10,9 +10,12 @@ import os
 import pathlib
 import pickle
 import re
+import subprocess
+import sys
 import threading
 import time
 import unittest
+import warnings
 import weakref
 from unittest import mock
 
@@ -33,6 +36,7 @@ from wanzoche import (
 )
 
 from .declarations import BOOK, LINE, SLOT
+from .interrupts import may_leave_unused
 
 
 class Entries(unittest.TestCase):
@@ -84,7 +88,7 @@ class Entries(unittest.TestCase):
             paths.enter("write")
             gc.collect()
         self.assertEqual(paths.report().live, ())
-        paths("write"), paths.enter("read").leave()  # not begun, and over
+        paths.enter("read").leave()  # over
 
     def test_a_guarded_function_is_the_operation(self):
         paths = Paths(BOOK)
@@ -119,6 +123,104 @@ class Entries(unittest.TestCase):
             for wrong in ("5", 5.0, None):
                 with self.assertRaisesRegex(TypeError, "^a device holds whole numbers, not {!r}$".format(wrong)):
                     entry.put(wrong)
+
+
+class Unused(unittest.TestCase):
+    """An entry that is dropped before anybody has entered it is a `with` that was forgotten."""
+
+    def told_of(self, call):
+        """What the warnings say, and of which lines, when a call has dropped what it made."""
+        with warnings.catch_warnings(record=True) as told:
+            warnings.simplefilter("always")
+            call()
+            gc.collect()
+        self.assertEqual({(each.category, each.filename) for each in told} - {(ResourceWarning, __file__)}, set())
+        return [str(each.message) for each in told]
+
+    def test_a_call_without_with(self):
+        paths = Paths(SLOT)
+        told = ["an entry of deposit was dropped, and nobody had entered it: write `with paths('deposit'):`"]
+        self.assertEqual(self.told_of(lambda: paths("deposit")), told)
+        self.assertEqual(self.told_of(lambda: [paths("deposit", timeout=1)]), told)
+        aio = ["an entry of deposit was dropped, and nobody had entered it: write `async with paths.aio('deposit'):`"]
+        self.assertEqual(self.told_of(lambda: paths.aio("deposit")), aio)
+        self.assertEqual(str(paths.journal()), "")
+
+    def test_a_circle_without_with(self):
+        paths = Paths(SLOT)
+
+        class Holder:
+            pass
+
+        def holds():
+            holder = Holder()
+            holder.own, holder.entry = holder, paths("remove")
+
+        self.assertEqual(len(self.told_of(holds)), 1)
+
+    def test_nothing_else_that_is_legal(self):
+        paths, closed, full = Paths(SLOT), Paths(SLOT), Paths(SLOT, room=1)
+        closed.close()
+
+        @paths.guards("deposit", timeout=0)
+        def deposits():
+            pass
+
+        async def enters(operation, timeout=None):
+            async with paths.aio(operation, timeout):
+                pass
+
+        async def is_cancelled():
+            task = asyncio.ensure_future(enters("remove"))
+            await asyncio.sleep(0.01)
+            task.cancel()
+            with self.assertRaises(asyncio.CancelledError):
+                await task
+
+        def refused(error, call):
+            with self.assertRaises(error):
+                call()
+
+        def uses():
+            again = paths("deposit")
+            with again:
+                refused(RuntimeError, again.__enter__)
+            self.assertIsNone(paths.try_enter("deposit"))
+            refused(Timeout, deposits)
+            refused(Timeout, lambda: paths.enter("deposit", timeout=0.001))
+            refused(Timeout, lambda: asyncio.run(enters("deposit", 0)))
+            paths.try_enter("remove").leave()
+            asyncio.run(is_cancelled())
+            refused(Closed, lambda: closed.enter("deposit"))
+            refused(Closed, lambda: closed.try_enter("deposit"))
+            refused(wanzoche.OutOfRoom, lambda: full.enter("deposit"))
+            refused(UnknownOperation, lambda: paths("nothing"))
+            refused(TypeError, lambda: paths("deposit", timeout="soon"))
+
+        self.assertEqual(self.told_of(uses), [])
+
+    def test_the_wrong_with_is_told_once(self):
+        paths = Paths(SLOT)
+
+        async def enters(entry):
+            async with entry:
+                pass
+
+        def enters_as_a_thread():
+            with self.assertRaises(TypeError), paths.aio("deposit"):
+                pass
+            with self.assertRaises(TypeError):
+                asyncio.run(enters(paths("deposit")))
+
+        self.assertEqual(self.told_of(enters_as_a_thread), [])
+
+    def test_at_the_exit(self):
+        """What a program has left in its names, as any other warning."""
+        program = "from wanzoche import Paths; paths = Paths({!r}); entry = paths('deposit')".format(SLOT)
+        words = [sys.executable, "-W", "always::ResourceWarning", "-c", program]
+        ended = subprocess.run(words, stdout=subprocess.PIPE, stderr=subprocess.PIPE, timeout=60)
+        self.assertEqual((ended.stdout, ended.returncode), (b"", 0))
+        self.assertRegex(ended.stderr.decode(), "^.*ResourceWarning: an entry of deposit was dropped, .*\n( .*\n)*$")
 
 
 class Mistakes(unittest.TestCase):
@@ -275,6 +377,9 @@ def takes_nothing():
 
 class Exceptions(unittest.TestCase):
     """They can be copied, pickled, and raised in another process."""
+
+    def setUp(self):
+        may_leave_unused(self)
 
     def raised(self):
         """One of each."""
@@ -601,6 +706,7 @@ class Ends(unittest.TestCase):
 
     @unittest.skipUnless(hasattr(os, "fork"), "there is no fork")
     def test_in_a_forked_child_each_call_says_so(self):
+        may_leave_unused(self)
         paths = Paths(SLOT)
         entry, unused = paths.enter("deposit"), paths("remove")
         calls = [

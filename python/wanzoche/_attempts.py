@@ -44,8 +44,8 @@ class Operation(Protocol):
     @property
     def _number(self) -> int: ...
 
-    @property
-    def _worker(self) -> int: ...
+    _worker: int
+    """The number of who began it, or tried to; 0: nobody has."""
 
     def _begin(self, worker: int, /) -> int: ...
 

@@ -91,6 +91,7 @@ enum Name {
     QUIT,
     RELEASE,
     THREAD_WORKER,
+    UNUSED,
     WAIT,
     WAITERS,
     WAKE_ALL,
@@ -113,6 +114,7 @@ static const char *const spelled[NAMES] = {
     [QUIT] = "quit",
     [RELEASE] = "release",
     [THREAD_WORKER] = "_thread_worker",
+    [UNUSED] = "_unused",
     [WAIT] = "wait",
     [WAITERS] = "waiters",
     [WAKE_ALL] = "wake_all",
@@ -348,9 +350,22 @@ static void drop(Entry *entry) {
     PyErr_Restore(kind, error, trace);
 }
 
+/* Of one that nobody holds: says that nobody has entered it. */
+static void tell_unused(Entry *entry) {
+    PyObject *kind, *error, *trace;
+    PyErr_Fetch(&kind, &error, &trace);
+    if (!call(entry, UNUSED, NULL)) PyErr_WriteUnraisable((PyObject *)entry);
+    PyErr_Restore(kind, error, trace);
+}
+
+/* The library writes the worker with the first attempt, whatever it answers, and no worker has the number 0. */
 static void entry_finalize(PyObject *self) {
     Entry *entry = (Entry *)self;
-    if (entry->record.live) drop(entry);
+    if (entry->record.live) {
+        drop(entry);
+    } else if (entry->record.worker == 0) {
+        tell_unused(entry);
+    }
 }
 
 static void entry_dealloc(PyObject *self) {
@@ -538,6 +553,15 @@ static PyObject *entry_worker(PyObject *self, void *nothing) {
     return PyLong_FromUnsignedLong(((Entry *)self)->record.worker);
 }
 
+static int entry_set_worker(PyObject *self, PyObject *number, void *nothing) {
+    (void)nothing;
+    if (number == NULL) {
+        PyErr_SetString(PyExc_AttributeError, "an entry always has the number of a worker");
+        return -1;
+    }
+    return number_in(number, &((Entry *)self)->record.worker) ? 0 : -1;
+}
+
 static PyMethodDef entry_methods[] = {
     {"__enter__", entry_enter, METH_NOARGS, "__enter__($self, /)\n--\n\nBegins the operation, and waits until it is admitted."},
     {"__exit__", entry_exit, METH_VARARGS, "__exit__($self, kind, error, trace, /)\n--\n\nFinishes the operation if it is in progress."},
@@ -553,7 +577,7 @@ static PyGetSetDef entry_attributes[] = {
     {"_operation", entry_operation, NULL, "The entry itself.", NULL},
     {"_live", entry_live, NULL, "Whether it is in progress.", NULL},
     {"_number", entry_number, NULL, "The number of its activation.", NULL},
-    {"_worker", entry_worker, NULL, "The number of who began it.", NULL},
+    {"_worker", entry_worker, entry_set_worker, "The number of who began it, or tried to; 0: nobody has.", NULL},
     {NULL, NULL, NULL, NULL, NULL},
 };
 

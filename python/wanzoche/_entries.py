@@ -2,6 +2,7 @@
 
 from __future__ import annotations
 
+import warnings
 from types import TracebackType
 from typing import TYPE_CHECKING, NoReturn, Optional, Type
 
@@ -9,7 +10,7 @@ from . import _native as native
 from ._attempts import Operation
 from ._errors import NotInProgress, OutOfRoom, UseRefused
 from ._form import core
-from ._texts import device_of, worker_name
+from ._texts import TASKS, device_of, worker_name
 
 if TYPE_CHECKING or core is None:
     from ._plain import Calls as Calls
@@ -21,6 +22,8 @@ else:
     from ._quick import System as System
 
 _VERBS = ("put {}", "take", "look", "add {}")
+NOBODY = TASKS
+"""No worker has this number: threads have those below, and tasks those above."""
 _OFFERED = {"cell": "put and look", "queue": "put, take and look", "tally": "add and look"}
 
 
@@ -55,10 +58,14 @@ class Entry(Base):
 
     A `with` statement begins it, waiting until the paths admit it, and finishes it on the way out, also on an exception. Any
     thread may use and leave it; while it is in progress, a second that enters it gets a `RuntimeError`. An entry that is over may be
-    entered again. One that is in progress when nobody holds it any more is finished, with a `ResourceWarning`.
+    entered again. One that is in progress when nobody holds it any more is finished, with a `ResourceWarning`; and one that nobody has
+    entered by then is a `with` that was forgotten, and gives a `ResourceWarning`, too.
     """
 
     __slots__ = ()
+
+    _written = "with paths({!r}):"
+    """How it is entered."""
 
     @property
     def operation(self) -> str:
@@ -100,6 +107,7 @@ class Entry(Base):
         return self._use(native.ADD, number)
 
     async def __aenter__(self) -> NoReturn:
+        self._is_told()
         raise TypeError("write `async with paths.aio({!r})`: this entry is for `with` in a thread".format(self.operation))
 
     async def __aexit__(
@@ -133,6 +141,15 @@ class Entry(Base):
     def __reduce__(self) -> NoReturn:
         raise not_copied("an entry belongs")
 
+    def _unused(self) -> None:
+        """Called where it is dropped and nobody has entered it."""
+        told = "an entry of {} was dropped, and nobody had entered it: write `{}`"
+        warnings.warn(told.format(self.operation, self._written.format(self.operation)), ResourceWarning, 2 if core else 3, self)
+
+    def _is_told(self) -> None:
+        """Nobody has entered it, and is told so by an exception."""
+        self._operation._worker = NOBODY
+
     def __repr__(self) -> str:
         operation = self._operation
         state = "activation {} of {}".format(operation._number, worker_name(operation._worker)) if operation._live else "not in progress"
@@ -145,7 +162,10 @@ class AsyncEntry(Entry):
 
     __slots__ = ()
 
+    _written = "async with paths.aio({!r}):"
+
     def __enter__(self) -> "AsyncEntry":
+        self._is_told()
         raise TypeError("write `async with paths.aio({!r})`, or `with paths({!r})` for threads".format(self.operation, self.operation))
 
     async def __aenter__(self) -> "AsyncEntry":  # type: ignore[override]
@@ -156,3 +176,34 @@ class AsyncEntry(Entry):
         self, kind: Optional[Type[BaseException]], error: Optional[BaseException], trace: Optional[TracebackType]
     ) -> None:
         self.__exit__(kind, error, trace)
+
+
+def _finalize(entry: Entry) -> None:
+    """Of one in Python that nobody has entered."""
+    operation: Optional[Operation] = getattr(entry, "_operation", None)
+    if operation is not None and operation._worker == 0:
+        entry._unused()
+
+
+class _NewEntry(Entry):
+    """One in Python that nobody has entered."""
+
+    __slots__ = ()
+
+    _entered = Entry
+    __del__ = _finalize
+
+
+class _NewAsyncEntry(AsyncEntry):
+    """The same for asyncio."""
+
+    __slots__ = ()
+
+    _entered = AsyncEntry
+    __del__ = _finalize
+
+
+new_entry: Type[Entry] = Entry if core else _NewEntry
+"""What makes an entry that nobody has entered yet."""
+new_async_entry: Type[AsyncEntry] = AsyncEntry if core else _NewAsyncEntry
+"""The same for asyncio."""

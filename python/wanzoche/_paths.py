@@ -15,7 +15,7 @@ from types import TracebackType
 from typing import Any, Awaitable, Callable, Dict, Iterator, List, NoReturn, Optional, Tuple, Type, TypeVar, Union, cast
 
 from . import _native as native
-from ._entries import AsyncEntry, Calls, Entry, System, not_copied
+from ._entries import AsyncEntry, Calls, Entry, System, new_async_entry, new_entry, not_copied
 from ._errors import Blocked, Closed, DeclarationError, Forked, JournalError, NoJournal, UnknownOperation
 from ._resumed import Journal, live_workers
 from ._texts import TASKS, Live, Path, Report, Verdict, read_declaration, read_report, without_marks, worker_name
@@ -179,7 +179,7 @@ class Paths(System):
 
     def aio(self, operation: str, timeout: Optional[float] = None) -> AsyncEntry:
         """An entry for an `async with` statement."""
-        return AsyncEntry(self, operation, timeout)
+        return new_async_entry(self, operation, timeout)
 
     def guards(self, operation: str, timeout: Optional[float] = None) -> Callable[[Call], Call]:
         """A decorator: each call of the function is this operation. A coroutine function waits as a task."""
@@ -321,7 +321,7 @@ class Paths(System):
         self._numbers = numbers
         self._calls = Calls(handle)
         self._queues = self._new_queues()
-        self._set_up(self._calls, numbers, self._queues, self._queues.due, Entry)
+        self._set_up(self._calls, numbers, self._queues, self._queues.due, new_entry)
 
     def _new_queues(self) -> Queues:
         return Queues(self._calls)

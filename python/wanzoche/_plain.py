@@ -5,7 +5,7 @@ from __future__ import annotations
 import warnings
 from ctypes import addressof
 from types import TracebackType
-from typing import TYPE_CHECKING, Dict, Generator, Optional, Set, Type, TypeVar, cast
+from typing import TYPE_CHECKING, Any, Dict, Generator, Optional, Set, Type, TypeVar, cast
 
 from . import _native as native
 from ._attempts import Operation, admitted, check_seconds, in_use, undo, waiting
@@ -119,6 +119,10 @@ class Entry:
 
     __slots__ = ("_operation", "_turn")
 
+    _entered: Any = None
+    """The class that it gets when somebody enters it. Until then its class has a finalizer besides. Python loses an interrupt that comes
+    while a finalizer runs, so only those have one of which there is something to say."""
+
     def __init__(self, paths: "Paths", operation: str, timeout: Optional[float]) -> None:
         self._operation: Operation = _Operation(paths, operation, timeout)
         self._turn: Optional[_Turn] = None
@@ -149,6 +153,8 @@ class Entry:
         self._turn = turn
 
     def _new_turn(self, worker: int, waiter_of: Optional[Type[Waiter]]) -> _Turn:
+        if self._entered is not None:
+            self.__class__ = self._entered
         return _turn(cast(_Operation, self._operation), worker, waiter_of)
 
     def __exit__(
@@ -185,4 +191,7 @@ class Entry:
         return False
 
     def _not_in_progress(self) -> Exception:
+        raise NotImplementedError
+
+    def _unused(self) -> None:
         raise NotImplementedError
