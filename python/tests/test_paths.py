@@ -39,6 +39,10 @@ from .declarations import BOOK, LINE, SLOT
 from .interrupts import may_leave_unused
 
 
+OWN = "nobody else can help before this is left: {} by thread 1"
+"""What is said, too, where the thread that asks has it in progress itself."""
+
+
 class Entries(unittest.TestCase):
     def test_deposit_and_removal_alternate(self):
         paths = Paths(SLOT)
@@ -301,7 +305,7 @@ class Refusals(unittest.TestCase):
     def test_a_time_limit_says_why_too(self):
         paths = Paths(BOOK)
         with paths("read"):
-            with self.assertRaisesRegex(Timeout, "^write is blocked for 0.01 seconds: path 0 of book: .* in progress: read by thread 1$"):
+            with self.assertRaisesRegex(Timeout, "^write is blocked for 0.01 seconds: path 0 of book: .* in progress: read by thread 1; {}$".format(OWN.format("read"))):
                 paths.enter("write", timeout=0.01)
             for seconds in (0, -1, -0.5):  # it is tried once
                 with self.assertRaisesRegex(TimeoutError, "^write is blocked: path 0 of book: "):
@@ -736,6 +740,7 @@ class Ends(unittest.TestCase):
 
     def test_what_belongs_to_a_process_is_not_copied(self):
         """For another process there is a store, and the refusal says so."""
+        may_leave_unused(self)
         paths = Paths(SLOT)
         with paths("deposit") as entry:
             for one in (paths, entry, paths("remove"), paths.aio("remove")):

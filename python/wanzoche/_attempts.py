@@ -2,7 +2,10 @@
 
 from __future__ import annotations
 
+import asyncio
 import math
+import sys
+import warnings
 from typing import TYPE_CHECKING, Generator, Optional, Protocol, Type
 
 from . import _native as native
@@ -87,12 +90,40 @@ def check_seconds(timeout: Optional[float]) -> None:
         raise kind("a limit of time is None or a number of seconds, not {!r}".format(timeout))
 
 
+def frames_of_package() -> int:
+    """How many frames of the package are above that of who calls it, and that one: the `stacklevel` of a warning there."""
+    frame, level = sys._getframe(1), 1
+    while frame.f_back is not None and frame.f_globals.get("__package__") == __package__:
+        frame, level = frame.f_back, level + 1
+    return level
+
+
+def warn_in_loop(operation: Operation) -> None:
+    """Warns where a thread that runs a loop in debug mode may wait: it would hold up all tasks of the loop."""
+    loop, limit = asyncio._get_running_loop(), operation._timeout
+    if loop is None or not loop.get_debug() or limit is not None and limit <= 0:
+        return
+    told = "with paths({0!r}) in a coroutine holds up its loop while it waits: write `async with paths.aio({0!r}):`"
+    warnings.warn(told.format(operation._name), RuntimeWarning, frames_of_package())
+
+
+def watched(operation: Operation, worker: int, waiter: Waiter) -> Waiter:
+    """The waiter of this worker, which is going to wait."""
+    if waiter.loop is None and asyncio._get_running_loop() is not None:
+        warn_in_loop(operation)
+    if operation._paths._looks:
+        waiter.paths, waiter.worker = operation._paths, worker
+    return waiter
+
+
 def raise_if_late(operation: Operation, waiter: Waiter) -> None:
     """Raises `Timeout` if the time is over, and a path still forbids the start."""
-    left = waiter.left()
-    why = operation._paths.why(operation._name) if left is not None and left <= 0 else None
+    left, paths = waiter.left(), operation._paths
+    if left is None or left > 0:
+        return
+    why = paths._why(operation._name, [waiter.worker]) if waiter.worker else paths.why(operation._name)
     if why is not None:
-        raise Timeout(why.operation, why.path, why.resource, why.text, why.in_progress, operation._timeout, why.may_begin)
+        raise Timeout(why.operation, why.path, why.resource, why.text, why.in_progress, operation._timeout, why.may_begin, why.own)
 
 
 def _admitted_by_now(operation: Operation, worker: int, waiter: Waiter) -> bool:
@@ -122,8 +153,10 @@ def waiting(operation: Operation, code: int, worker: int, waiter_of: Type[Waiter
     try:
         try:
             if not admitted(operation, code, worker):
-                waiter = waiter_of(operation._op, operation._timeout)
-                operation._paths._queues.join(waiter)
+                waiter = watched(operation, worker, waiter_of(operation._op, operation._timeout))
+                queue = operation._paths._queues.join(waiter)
+                if waiter.paths is not None:
+                    queue.look_later()
                 while not _admitted_by_now(operation, worker, waiter):
                     yield waiter
                     operation._paths._queues.asks(waiter)

@@ -223,7 +223,7 @@ static PyType_Spec calls_spec = {
 /* Who a thread is. */
 
 /*
-** The worker's numbers of a thread, of the systems that it met last. Paths._thread_worker gives them, and always gives a thread the same
+** The worker's numbers of a thread, of the systems that it met last. Entry._thread_worker gives them, and always gives a thread the same
 ** one, so a number that was pushed out by another system's is only asked for again.
 */
 #define KNOWN 16
@@ -232,11 +232,12 @@ static _Thread_local struct {
     uint32_t worker;
 } known[KNOWN];
 
-/* The number of this thread, or false with an exception. */
-static bool number_of_thread(System *system, uint32_t *worker) {
+/* The number of this thread, which is to enter, or false with an exception. */
+static bool number_of_thread(Entry *entry, uint32_t *worker) {
+    System *system = entry->system;
     size_t place = system->serial % KNOWN;
     if (known[place].serial != system->serial) {
-        PyObject *number = answer_of(system, THREAD_WORKER, NULL, NULL);
+        PyObject *number = answer_of(entry, THREAD_WORKER, NULL, NULL);
         bool is_number = number != NULL && number_in(number, worker);
         Py_XDECREF(number);
         if (!is_number) return false;
@@ -402,10 +403,10 @@ typedef struct Wait {
 /* Makes a waiter, and lets it join its queue. False with an exception. */
 static bool join(Wait *wait) {
     Entry *entry = wait->entry;
-    PyObject *operation = PyLong_FromUnsignedLong(entry->operation);
-    if (operation == NULL) return false;
-    wait->waiter = answer_of(entry, NEW_WAITER, operation, entry->timeout);
-    Py_DECREF(operation);
+    PyObject *worker = PyLong_FromUnsignedLong(wait->worker);
+    if (worker == NULL) return false;
+    wait->waiter = answer_of(entry, NEW_WAITER, worker, NULL);
+    Py_DECREF(worker);
     if (wait->waiter == NULL) return false;
     wait->queue = answer_of(entry->system->queues, JOIN, wait->waiter, NULL);
     if (wait->queue == NULL) return false;
@@ -483,7 +484,7 @@ static PyObject *entry_enter(PyObject *self, PyObject *nothing) {
     Entry *entry = (Entry *)self;
     uint32_t worker, code;
     (void)nothing;
-    if (!number_of_thread(entry->system, &worker)) return NULL;
+    if (!number_of_thread(entry, &worker)) return NULL;
     if (!begin(entry, worker, &code)) return NULL;
     if (code != WANZOCHE_STARTED && !wait_for_turn(entry, worker, code)) return NULL;
     Py_INCREF(self);

@@ -7,7 +7,7 @@ from types import TracebackType
 from typing import TYPE_CHECKING, NoReturn, Optional, Type
 
 from . import _native as native
-from ._attempts import Operation
+from ._attempts import Operation, frames_of_package
 from ._errors import NotInProgress, OutOfRoom, UseRefused
 from ._form import core
 from ._texts import TASKS, device_of, worker_name
@@ -144,7 +144,7 @@ class Entry(Base):
     def _unused(self) -> None:
         """Called where it is dropped and nobody has entered it."""
         told = "an entry of {} was dropped, and nobody had entered it: write `{}`"
-        warnings.warn(told.format(self.operation, self._written.format(self.operation)), ResourceWarning, 2 if core else 3, self)
+        warnings.warn(told.format(self.operation, self._written.format(self.operation)), ResourceWarning, frames_of_package(), self)
 
     def _is_told(self) -> None:
         """Nobody has entered it, and is told so by an exception."""

@@ -79,11 +79,16 @@ class UnknownOperation(WanzocheError, LookupError):
     """No operation of this name is declared."""
 
 
+def _runs(operations: Sequence[Tuple[str, str]]) -> str:
+    return ", ".join("{} by {}".format(*each) for each in operations)
+
+
 class Blocked(WanzocheError):
     """A path forbids the start.
 
     `path` is its number and `text` what it says, `resource` whose it is, `in_progress` the operations of the path that are in progress,
-    each with who runs it, and `may_begin` those of its operations that no path forbids now.
+    each with who runs it, and `may_begin` those of its operations that no path forbids now. `own` is for who waits within itself: what it
+    has in progress, with its name, where the operation can't begin before that is left, whatever others do; else it is empty.
     """
 
     def __init__(
@@ -95,16 +100,18 @@ class Blocked(WanzocheError):
         in_progress: Sequence[Tuple[str, str]],
         after: Optional[float] = None,
         may_begin: Sequence[str] = (),
+        own: Sequence[Tuple[str, str]] = (),
     ) -> None:
-        self._made_of = (operation, path, resource, text, tuple(in_progress), after, tuple(may_begin))
+        self._made_of = (operation, path, resource, text, tuple(in_progress), after, tuple(may_begin), tuple(own))
         self.operation = operation
         self.path = path
         self.resource = resource
         self.text = text
         self.in_progress = tuple(in_progress)
         self.may_begin = tuple(may_begin)
-        running = ", ".join("{} by {}".format(*each) for each in in_progress)
-        running = running or "nothing of it; may begin next: {}".format(", ".join(may_begin) or "nothing")
+        self.own = tuple(own)
+        running = _runs(in_progress) or "nothing of it; may begin next: {}".format(", ".join(may_begin) or "nothing")
+        running += "; nobody else can help before this is left: " + _runs(own) if own else ""
         waited = " for {:g} seconds".format(after) if after is not None and after > 0 else ""
         super().__init__(
             "{} is blocked{}: path {} of {}: {}; in progress: {}".format(operation, waited, path, resource, text, running)

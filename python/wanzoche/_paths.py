@@ -7,23 +7,27 @@ import ctypes
 import functools
 import inspect
 import itertools
+import logging
 import os
 import threading
 import warnings
 import weakref
 from types import TracebackType
-from typing import Any, Awaitable, Callable, Dict, Iterator, List, NoReturn, Optional, Tuple, Type, TypeVar, Union, cast
+from typing import Any, Awaitable, Callable, Dict, Iterable, Iterator, List, NoReturn, Optional, Sequence, Tuple, Type, TypeVar, Union, cast
 
 from . import _native as native
 from ._entries import AsyncEntry, Calls, Entry, System, new_async_entry, new_entry, not_copied
 from ._errors import Blocked, Closed, DeclarationError, Forked, JournalError, NoJournal, UnknownOperation
+from ._held_up import held_up
 from ._resumed import Journal, live_workers
 from ._texts import TASKS, Live, Path, Report, Verdict, read_declaration, read_report, without_marks, worker_name
-from ._waiting import Queues
+from ._waiting import Queues, Waiter
 
 Call = TypeVar("Call", bound=Callable[..., Any])
 Own = TypeVar("Own", bound="Paths")
 Log = Union[Callable[[str], Any], List[str], Any]
+
+_logger = logging.getLogger("wanzoche")
 
 
 class Paths(System):
@@ -56,6 +60,9 @@ class Paths(System):
     All methods may be called by any thread, by a signal handler and by a finalizer. Raises `DeclarationError` if the text isn't a
     declaration, and `ValueError` for a bad room or for a log without a journal.
     """
+
+    _looks = True
+    """Whether it is known which thread or task has what in progress, so that it can be told that it is in its own way."""
 
     def __new__(cls, *given: Any, **named: Any) -> Any:
         if cls is Paths and named.get("store") is not None:
@@ -219,17 +226,55 @@ class Paths(System):
 
     def why(self, operation: str) -> Optional[Blocked]:
         """What forbids the operation now, as an exception that isn't raised; None if nothing does."""
-        return None if self.can_start(operation) else self._why_of(operation, self.report())
+        return self._why(operation, self._queues.workers(self._number(operation)))
 
-    def _why_of(self, operation: str, report: Report) -> Optional[Blocked]:
+    def _why(self, operation: str, waiting: Iterable[int]) -> Optional[Blocked]:
+        """The same, where these wait for it, as far as it is known who waits."""
+        return None if self.can_start(operation) else self._why_of(operation, self.report(), waiting)
+
+    def _why_of(self, operation: str, report: Report, waiting: Iterable[int] = ()) -> Optional[Blocked]:
         """What a report says that forbids the operation."""
         number = report.blocked.get(operation)
         if number is None:
             return None
+        busy = {each.worker for each in report.live}
+        own = (self._own_of(operation, report, [each]) for each in waiting if worker_name(each) in busy)
+        return self._blocked(operation, number, report, next(filter(None, own), ()))
+
+    def _blocked(self, operation: str, number: int, report: Report, own: Tuple[Tuple[str, str], ...]) -> Blocked:
+        """That this path forbids it, where who waits has these in progress, and nobody else can help before they are left."""
         path = self._paths_of_text[number]
         running = [(each.operation, each.worker) for each in report.live if each.operation in path.operations]
         may_begin = [each for each in path.operations if each in report.startable]
-        return Blocked(operation, number, path.resource, path.text, running, None, may_begin)
+        return Blocked(operation, number, path.resource, path.text, running, None, may_begin, own)
+
+    def _own_of(self, operation: str, report: Report, workers: Sequence[int]) -> Tuple[Tuple[str, str], ...]:
+        """What these workers have in progress, if the operation can't begin before that is left."""
+        names = [worker_name(each) for each in workers]
+        own = tuple((each.operation, each.worker) for each in report.live if each.worker in names)
+        return own if own and operation in held_up(self._paths_of_text, report, names) else ()
+
+    def _look_at(self, waiters: Sequence[Waiter]) -> None:
+        """Tells those that are in their own way so, of these that wait for one operation."""
+        operation = self._operations[waiters[0].op]
+        try:
+            report = self.report()
+            busy = {each.worker for each in report.live}
+            for waiter in waiters:
+                workers = [each for each in self._held_up_by(waiter) if worker_name(each) in busy]
+                own = self._own_of(operation, report, workers)
+                if own:
+                    waiter.paths = None  # once is enough
+                    why = self._blocked(operation, report.blocked[operation], report, own)
+                    _logger.warning("%s waits for itself: %s", worker_name(waiter.worker), why)
+        except (Closed, MemoryError):
+            pass  # the first is told to all that wait, and without memory the wait goes on
+
+    def _held_up_by(self, waiter: Waiter) -> List[int]:
+        """Who doesn't go on while it waits: itself, and of a thread, which is the one that asks, the task in which it waits."""
+        task = asyncio.current_task() if waiter.loop is None and asyncio._get_running_loop() else None
+        of_task = None if task is None else self._task_workers.get(task)
+        return [waiter.worker] if of_task is None else [waiter.worker, of_task]
 
     def report(self) -> Report:
         """What can be started now, which path blocks what, and what is in progress."""

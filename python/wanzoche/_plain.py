@@ -8,7 +8,7 @@ from types import TracebackType
 from typing import TYPE_CHECKING, Any, Dict, Generator, Optional, Set, Type, TypeVar, cast
 
 from . import _native as native
-from ._attempts import Operation, admitted, check_seconds, in_use, undo, waiting
+from ._attempts import Operation, admitted, check_seconds, in_use, undo, waiting, warn_in_loop
 from ._waiting import Queue, Queues, TaskWaiter, ThreadWaiter, Waiter
 
 if TYPE_CHECKING:
@@ -111,6 +111,12 @@ def _undo(operation: _Operation, error: BaseException, worker: int) -> None:
         warnings.warn("an entry of {} was dropped in progress, and is finished now".format(operation._name), ResourceWarning)
 
 
+def _new_worker(operation: Operation) -> int:
+    """Who a thread is that enters these paths for the first time."""
+    warn_in_loop(operation)
+    return operation._paths._thread_worker()
+
+
 _Self = TypeVar("_Self", bound="Entry")
 
 
@@ -128,7 +134,8 @@ class Entry:
         self._turn: Optional[_Turn] = None
 
     def __enter__(self: _Self) -> _Self:
-        turn = self._new_turn(self._operation._paths._thread_worker(), ThreadWaiter)
+        operation = self._operation
+        turn = self._new_turn(getattr(operation._paths._local, "worker", None) or _new_worker(operation), ThreadWaiter)
         try:
             waiter = next(turn)
             while waiter is not None:
@@ -153,8 +160,9 @@ class Entry:
         self._turn = turn
 
     def _new_turn(self, worker: int, waiter_of: Optional[Type[Waiter]]) -> _Turn:
-        if self._entered is not None:
-            self.__class__ = self._entered
+        entered = self._entered
+        if entered is not None:
+            self.__class__ = entered
         return _turn(cast(_Operation, self._operation), worker, waiter_of)
 
     def __exit__(

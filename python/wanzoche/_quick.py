@@ -2,11 +2,12 @@
 
 from __future__ import annotations
 
+from asyncio import _get_running_loop
 from ctypes import addressof
 from typing import TYPE_CHECKING, cast
 
 from . import _native as native
-from ._attempts import admitted, in_use, raise_if_late, undo, waiting
+from ._attempts import admitted, in_use, raise_if_late, undo, waiting, warn_in_loop
 from ._form import core
 from ._waiting import TaskWaiter, ThreadWaiter
 
@@ -31,8 +32,18 @@ class Entry(CoreEntry):
 
     __slots__ = ()
 
-    _new_waiter = ThreadWaiter
-    """Called with an operation and a time limit, where a thread has to wait."""
+    def _thread_worker(self) -> int:
+        """Called where a thread enters that hasn't entered these paths, or others meanwhile: who it is."""
+        warn_in_loop(self)
+        return self._paths._thread_worker()
+
+    def _new_waiter(self, worker: int) -> ThreadWaiter:
+        """Called where a thread has to wait."""
+        if _get_running_loop() is not None:
+            warn_in_loop(self)
+        waiter = ThreadWaiter(self._op, self._timeout)
+        waiter.paths, waiter.worker = self._paths, worker
+        return waiter
 
     def _admitted(self, code: int, worker: int) -> bool:
         """Called where an attempt of a thread was neither admitted nor blocked: makes room, or raises what is in the way."""

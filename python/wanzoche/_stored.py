@@ -392,6 +392,7 @@ class StoredPaths(Paths):
     """Paths over a store: what `Paths(text, store=..)` makes. See `Paths`."""
 
     _usual_room = native.MOST_LINES
+    _looks = False
 
     def __init__(
         self,

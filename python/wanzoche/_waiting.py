@@ -15,7 +15,7 @@ import asyncio
 import threading
 import time
 from collections import OrderedDict
-from typing import Dict, Optional, Protocol, Set, Tuple
+from typing import Dict, Iterator, Optional, Protocol, Sequence, Set, Tuple, cast
 
 
 class Calls(Protocol):
@@ -25,17 +25,30 @@ class Calls(Protocol):
         """Whether a path forbids the operation of this number now."""
 
 
+class Looking(Protocol):
+    """Who looks at waiters."""
+
+    def _look_at(self, waiters: "Sequence[Waiter]", /) -> None:
+        """Tells those that are in their own way so, of these that wait for one operation."""
+
+
 _new_lock = threading.Lock
+
+FIRST_LOOK = 1.0
+"""After so many seconds of sleep it is looked whether a waiter is in its own way."""
 
 
 class Waiter:
     """Who waits for one operation, and until when."""
 
-    __slots__ = ("op", "loop", "_until")
+    __slots__ = ("op", "loop", "paths", "worker", "looks", "_until")
 
     def __init__(self, op: int, seconds: Optional[float]) -> None:
         self.op = op
         self.loop: Optional[asyncio.AbstractEventLoop] = None
+        self.paths: Optional[Looking] = None
+        """Who looks whether it is in its own way; None if that isn't to be found out, or has been."""
+        self.worker = self.looks = 0
         self._until = None if seconds is None else time.monotonic() + seconds
 
     def left(self) -> Optional[float]:
@@ -53,7 +66,7 @@ class ThreadWaiter(Waiter):
     __slots__ = ("_asleep",)
 
     def __init__(self, op: int, seconds: Optional[float]) -> None:
-        self.op, self.loop = op, None
+        self.op, self.loop, self.paths, self.worker = op, None, None, 0  # looks are counted of tasks
         self._until = None if seconds is None else time.monotonic() + seconds
         self._asleep = asleep = _new_lock()
         asleep.acquire()
@@ -66,10 +79,22 @@ class ThreadWaiter(Waiter):
 
     def wait(self) -> None:
         """Waits until it is woken, or the time is over."""
-        if self._until is None:
-            self._asleep.acquire()
-        else:
-            self._asleep.acquire(True, min(max(self._until - time.monotonic(), 0.0), threading.TIMEOUT_MAX))
+        if self._until is None and self._asleep.acquire(True, FIRST_LOOK):
+            return
+        looks = FIRST_LOOK
+        while not self._asleep.acquire(True, self._sleeps(looks)):
+            if self._until is not None and self._until <= time.monotonic():
+                return
+            if self.paths is not None:
+                self.paths._look_at([self])
+            looks *= 2
+
+    def _sleeps(self, looks: float) -> float:
+        """For how many seconds it may sleep now, if it is looked after so many. Without a time limit it has slept for the first ones."""
+        most = threading.TIMEOUT_MAX if self.paths is None else looks
+        if self._until is not None:
+            return min(max(self._until - time.monotonic(), 0.0), most)
+        return 0.0 if looks == FIRST_LOOK else most
 
 
 class TaskWaiter(Waiter):
@@ -104,16 +129,34 @@ _Loop = Optional[asyncio.AbstractEventLoop]
 class Queue:
     """Who waits for one operation, in the order in which they came: threads, or the tasks of one loop."""
 
-    __slots__ = ("op", "loop", "waiters")
+    __slots__ = ("op", "loop", "waiters", "_look_comes")
 
     def __init__(self, op: int, loop: _Loop) -> None:
         self.op = op
         self.loop = loop
         self.waiters: "OrderedDict[Waiter, None]" = OrderedDict()
+        self._look_comes = False
 
     def is_over(self) -> bool:
         """Whether nobody can wait here any more, since the loop is closed."""
         return self.loop is not None and self.loop.is_closed()
+
+    def look_later(self) -> None:
+        """Of tasks: while any waits, it is looked whether one that has waited for a second, for two, four and so on is in its own way."""
+        if not self._look_comes and self.loop is not None:
+            self._look_comes = True
+            self.loop.call_later(FIRST_LOOK, self._look)
+
+    def _look(self) -> None:
+        self._look_comes = False
+        for each in self.waiters:
+            each.looks += 1
+        # The first time it has waited for less than a second; then the times are doubled.
+        due = [each for each in self.waiters if each.paths is not None and each.looks > 1 and each.looks - 1 & each.looks - 2 == 0]
+        if due:
+            cast(Looking, due[0].paths)._look_at(due)
+        if self.waiters:
+            self.look_later()
 
     def first(self) -> Optional[Waiter]:
         """Who came first; None if nobody waits."""
@@ -156,6 +199,7 @@ class Queues:
     def quit(self, waiter: Waiter) -> None:
         """The waiter waits no more, and the next is woken. To do so twice does no harm."""
         queue = self._queues.get((waiter.op, waiter.loop))
+        waiter.paths = None
         if queue is not None:
             queue.waiters.pop(waiter, None)
             self.due.add(queue)
@@ -164,6 +208,12 @@ class Queues:
     def waiting(self, op: int) -> int:
         """How many wait for the operation."""
         return sum(len(queue.waiters) for queue in list(self._queues.values()) if queue.op == op and not queue.is_over())
+
+    def workers(self, op: int) -> Iterator[int]:
+        """Who waits for the operation, of those of whom it is known."""
+        for queue in list(self._queues.values()):
+            if queue.op == op and not queue.is_over():
+                yield from (each.worker for each in list(queue.waiters) if each.worker)
 
     def wake_all(self, again: bool = False) -> None:
         """Wakes the first of each queue whose operation may start, if it is due; of all queues after an interrupt, which may have come just
