@@ -1,7 +1,6 @@
 """Who waits within itself, for what only it can leave, is told so; and so is who holds up its loop."""
 
 import asyncio
-import itertools
 import logging
 import pickle
 import random

@@ -9,7 +9,6 @@ import zipfile
 from unittest import mock
 
 from wanzoche import _native as native
-from wanzoche._form import core
 
 HERE = os.path.dirname(os.path.dirname(os.path.abspath(__file__)))
 
@@ -22,7 +21,6 @@ def packing():
     return module
 
 
-@unittest.skipIf(core, "once is enough")
 class Packing(unittest.TestCase):
     def test_the_command_comes_with_its_man_page_and_completions(self):
         with open(native._at, "rb") as file, tempfile.TemporaryDirectory() as folder:

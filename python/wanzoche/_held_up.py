@@ -33,8 +33,8 @@ def braces_of(path: Path) -> Dict[str, Braces]:
 
 
 def _excludes(path: Path, own: Sequence[str], operation: str) -> bool:
-    """Whether the path never lets the operation begin while these are in progress. What stands outside of braces, an operation or braces, is
-    alone; and no more are in progress in braces than their bound."""
+    """Whether the path never lets the operation begin while these are in progress: what stands outside of braces, an operation or braces,
+    is alone, and no more are in progress in braces than their bound."""
     if operation not in path.operations:
         return False
     beside = [each for each in own if each in path.operations]
