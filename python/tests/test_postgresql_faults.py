@@ -202,19 +202,40 @@ class Refusals(Faulty, unittest.TestCase):
         self.assertEqual(sums, list(range(1, 21)))
         self.assertEqual([line.split()[1] for line in self.lines()], 20 * ["start", "use", "finish"])
 
+    def waiting(self):
+        """The workers that wait, as far as the server knows."""
+        told = "select worker from wanzoche.waiting join wanzoche.log using (log) where name = %s and since is not null"
+        return {worker for (worker,) in self.server.run(told, self.name)}
+
     def test_who_was_refused_waits_no_more(self):
         """The server has heard that it waits, and it was told that this was refused: another is woken in its place."""
         c, session = self.open(BOOK), self.a._served._log.session
-        waiting = "select worker from wanzoche.waiting join wanzoche.log using (log) where name = %s and since is not null"
         with mock.patch.object(_clerk, "CHECK", 1000.0):  # nobody looks by itself so soon
             entry = self.b.enter("write")
             self.a.report()
             with mock.patch.object(session, "call", Failing(session, 1, None, [NO_RIGHT])):
                 self.assertRaises(StoreError, self.a.enter, "read")
-            waits = self.thread(lambda: c.enter("read", timeout=SOON).leave())
-            self.until(lambda: (3,) in self.server.run(waiting, self.name))
+            waits = self.thread(lambda: c.enter("read").leave())
+            self.until(lambda: 3 in self.waiting())
             entry.leave()
             self.ends(waits)
+
+    def test_who_is_cut_off_hands_its_wake_on(self):
+        """One that was woken first wakes the next, though a call of it is cancelled."""
+        c, session = self.open(BOOK), self.a._served._log.session
+        with mock.patch.object(_clerk, "CHECK", 1000.0):
+            for number in range(1, 6):
+                for behind in (0, None):
+                    entry = self.b.enter("write", timeout=20)
+                    waits, entered = [], []
+                    for paths, worker in ((self.a, 1), (c, 3)):
+                        waits.append(self.thread(lambda: entered.append(paths.enter("read"))))
+                        self.until(lambda: worker in self.waiting())
+                    with mock.patch.object(session, "call", Failing(session, number, behind, [CANCELLED])):
+                        entry.leave()
+                        self.ends(*waits)
+                    for each in entered:
+                        each.leave()
 
     def test_a_call_that_is_refused(self):
         for behind in PLACES:
