@@ -202,6 +202,41 @@ class Refusals(Faulty, unittest.TestCase):
         self.assertEqual(sums, list(range(1, 21)))
         self.assertEqual([line.split()[1] for line in self.lines()], 20 * ["start", "use", "finish"])
 
+    def test_what_was_done_is_not_refused(self):
+        """Though a call behind it was."""
+        session = self.a._served._log.session
+        for _ in range(2):
+            with mock.patch.object(session, "call", Failing(session, 1, None, [NO_RIGHT])):
+                entry = self.a.enter("write", timeout=20)
+            with mock.patch.object(session, "call", Failing(session, 1, None, [NO_RIGHT])):
+                entry.leave()
+
+    def test_what_was_finished_is_not_finished_again(self):
+        """By who drops an entry, is refused, is cancelled though it was done, and finds that line in a segment."""
+        entry, session, finishes = self.a.enter("read"), self.a._served._log.session, []
+        call = session.call
+
+        def failing(calls, until):
+            if calls[0].name not in (b"put", b"put_and_wake", b"append"):
+                return call(calls, until)
+            finishes.append(calls[0].name)
+            if len(finishes) == 1:
+                raise _postgresql.Complaint(NO_RIGHT, "as if", "")
+            found = call(calls, until)
+            if len(finishes) == 2:
+                self.b.enter("read").leave()
+                self.b.rotate()
+                raise _postgresql.Complaint(CANCELLED, "as if", "")
+            return found
+
+        with mock.patch.object(session, "call", failing):
+            del entry
+            gc.collect()
+            self.until(lambda: len(finishes) > 1 and self.a._served.clerk._is_asleep)
+        self.enters_soon(self.a, self.b)
+        self.assertEqual(self.b.journal().count("finish 0: finished"), 1)
+        self.assertTrue(self.b.audit())
+
     def waiting(self):
         """The workers that wait, as far as the server knows."""
         told = "select worker from wanzoche.waiting join wanzoche.log using (log) where name = %s and since is not null"
