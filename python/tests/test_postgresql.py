@@ -76,6 +76,7 @@ class Cutting:
                 data = source.recv(65536)
                 if not data or is_answer and self.loses_answer.is_set():
                     self.loses_answer.clear()
+                    time.sleep(0.05)  # until the rest of a packet has gone the other way
                     break
                 goal.sendall(data)
         except OSError:
