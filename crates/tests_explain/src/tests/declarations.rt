@@ -1,6 +1,6 @@
 //! A declaration in, its paths and operations in words out.
 
-use crate::tests::endings::{Asked, Row, check_endings};
+use crate::tests::endings::{Asked, Row};
 use cmd_base::Status;
 
 /// A path of each resource, an operation that two paths name, and one that none names.
@@ -12,8 +12,3 @@ pub const DECLARATIONS: &[Row] = &[(
          c of r obeys no path\nd of s obeys no path\n",
     "",
 )];
-
-#[test]
-fn declarations_in_words(rt: HostRuntime) {
-    check_endings(&rt, rt.alloc(), DECLARATIONS);
-}

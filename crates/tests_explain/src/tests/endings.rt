@@ -86,13 +86,3 @@ pub fn check_ending(rt: &impl Abort, row: &Row, status: Status, out: &[u8], err:
     let want = (row.2, row.3.as_bytes(), row.4.as_bytes());
     assert_eq!(rt; (status, out, err), want, "for {:?}", row.1);
 }
-
-/// Checks that the explanation of each row ends as it says.
-pub fn check_endings(rt: &impl Abort, heap: Global, rows: &[Row]) {
-    for row in rows {
-        let mut out = Vec::new(heap);
-        let mut err = Vec::new(heap);
-        let status = ends(heap, row, &mut out, &mut err);
-        check_ending(rt, row, status, &out, &err);
-    }
-}

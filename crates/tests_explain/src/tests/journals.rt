@@ -1,7 +1,6 @@
 //! A journal in, its first wrong line and what was owed to it out.
 
-use crate::tests::attempts::LOCKS;
-use crate::tests::endings::{Asked, Row, check_endings};
+use crate::tests::endings::{Asked, Row};
 use cmd_base::Status;
 
 /// The paths of a slot.
@@ -41,86 +40,6 @@ pub const JOURNALS: &[Row] = &[
          \nslot\n   can start: remove\n   blocked: deposit by path 0\n   live: nothing\n   stuck for ever: no\n",
         "",
     ),
-    (
-        SLOT,
-        Asked::Journal(
-            2,
-            "1 start deposit: started 0\n1 start deposit: blocked 0\n1 start deposit: started 1\n",
-        ),
-        Status::Unsound,
-        "line 2 is wrong: 1 start deposit: blocked 0\n   owed: no room\n   right with --room 4, or with that room in its head\n\
-         \nslot\n   can start: nothing\n   blocked: deposit by path 0, remove by path 0\n   live: deposit (activation 0, worker 1)\n   \
-         stuck for ever: no\n",
-        "",
-    ),
-    (
-        SLOT,
-        Asked::Journal(1, "1 start deposit: started 1\n"),
-        Status::Unsound,
-        "line 1 is wrong: 1 start deposit: started 1\n   owed: no room\n   wrong in any room\n\
-         \nslot\n   can start: deposit\n   blocked: remove by path 0\n   live: nothing\n   stuck for ever: no\n",
-        "",
-    ),
-    // In a room that has enough, the third line is wrong, and finishes what was live. The blocked start wants room for four, and the two
-    // right lines and what is live behind the third take two.
-    (
-        SLOT,
-        Asked::Journal(
-            3,
-            "1 start deposit: started 0\n2 start remove: blocked 0\n1 finish 0: stale\n",
-        ),
-        Status::Unsound,
-        "line 2 is wrong: 2 start remove: blocked 0\n   owed: no room\n   right with --room 4, or with that room in its head\n\
-         \nslot\n   can start: nothing\n   blocked: deposit by path 0, remove by path 0\n   live: deposit (activation 0, worker 1)\n   \
-         stuck for ever: no\n",
-        "",
-    ),
-];
-
-/// A journal in which two workers wait for each other, and one whose last line is wrong, but would be so with the reply that it was owed;
-/// then one whose wrong line is owed a start, so that its worker waits no more, whatever stands behind it.
-pub const WAITING: &[Row] = &[
-    (
-        LOCKS,
-        Asked::Journal(
-            4096,
-            "1 start la: started 0\n2 start lb: started 1\n1 start lb: blocked 1\n2 start la: blocked 0\n",
-        ),
-        Status::Done,
-        "sound: 4 lines\n\
-         \nr\n   can start: free\n   blocked: la by path 0, lb by path 1\n   \
-         live: la (activation 0, worker 1), lb (activation 1, worker 2)\n   stuck for ever: no\n\
-         \nall that is live waits\n   worker 1 holds la and was refused lb\n   worker 2 holds lb and was refused la\n   \
-         none of these starts before something finishes\n",
-        "",
-    ),
-    (
-        LOCKS,
-        Asked::Journal(
-            4096,
-            "1 start la: started 0\n2 start lb: started 1\n1 start lb: blocked 1\n2 start la: started 2\n2 finish 1: finished\n",
-        ),
-        Status::Unsound,
-        "line 4 is wrong: 2 start la: started 2\n   owed: blocked 0\n   forbidden by path 0: path la end\n   \
-         in progress: la (activation 0, worker 1); may begin next: nothing\n\
-         \nr\n   can start: free\n   blocked: la by path 0, lb by path 1\n   \
-         live: la (activation 0, worker 1), lb (activation 1, worker 2)\n   stuck for ever: no\n\
-         \nall that is live waits\n   worker 1 holds la and was refused lb\n   worker 2 holds lb and was refused la\n   \
-         none of these starts before something finishes\n",
-        "",
-    ),
-    (
-        LOCKS,
-        Asked::Journal(
-            4096,
-            "1 start la: started 0\n1 start la: blocked 0\n1 start free: blocked 0\n1 start la: blocked 0\n",
-        ),
-        Status::Unsound,
-        "line 3 is wrong: 1 start free: blocked 0\n   owed: started 1\n\
-         \nr\n   can start: lb, free\n   blocked: la by path 0\n   \
-         live: la (activation 0, worker 1), free (activation 1, worker 1)\n   stuck for ever: no\n",
-        "",
-    ),
 ];
 
 /// What isn't a journal, or not under this declaration.
@@ -141,18 +60,3 @@ pub const NO_JOURNALS: &[Row] = &[
         "open: bad room\n",
     ),
 ];
-
-#[test]
-fn journals_in_words(rt: HostRuntime) {
-    check_endings(&rt, rt.alloc(), JOURNALS);
-}
-
-#[test]
-fn who_waits_in_a_journal(rt: HostRuntime) {
-    check_endings(&rt, rt.alloc(), WAITING);
-}
-
-#[test]
-fn what_is_no_journal(rt: HostRuntime) {
-    check_endings(&rt, rt.alloc(), NO_JOURNALS);
-}

@@ -26,9 +26,6 @@ pub(crate) enum Kind {
     Script,
 }
 
-/// The name of a row, a text, and what is told of it.
-pub(crate) type Row<'a> = (&'a str, &'a str, &'a str);
-
 // What a finding says; nothing if there is none.
 fn told<A: Allocator + Copy>(
     alloc: A,
@@ -95,22 +92,6 @@ pub(crate) fn told_of<A: Allocator + Copy>(
     let out = told(alloc, found);
     drop(decl);
     out
-}
-
-/// Checks what is told of each declaration.
-pub(crate) fn check_declarations(rt: &impl Abort, heap: Global, rows: &[Row<'_>]) {
-    for (name, text, want) in rows {
-        let told = told_of_declaration(heap, text.as_bytes()).expect(rt, "there is memory");
-        assert_eq!(rt; told.as_str(), *want, "{name}");
-    }
-}
-
-/// Checks what is told of each text of this kind.
-pub(crate) fn check_texts(rt: &impl Abort, heap: Global, kind: Kind, rows: &[Row<'_>]) {
-    for (name, text, want) in rows {
-        let told = told_of(heap, kind, text.as_bytes()).expect(rt, "there is memory");
-        assert_eq!(rt; told.as_str(), *want, "{name}");
-    }
 }
 
 /// More requests than any call of these tests makes.
