@@ -9,6 +9,11 @@ use path_shelf::{ActFault, Cell, Device, Tally};
 use std::alloc::Global;
 use std::process::Abort;
 
+const BUFFER: &str = "resource buf queue 2 operation put0, put1, get0, get1 path put0 ; put1 end \
+                      path get0 ; get1 end path put0 ; get0 end path put1 ; get1 end end";
+
+const TOTAL: &str = "resource t tally operation a end";
+
 const CELL: &str = "resource c cell operation a end";
 
 // Checks that a trace over these devices in this room ends this way.
