@@ -2,8 +2,9 @@
 #
 #   make              the program, the C library (static and shared) and wanzoche.pc, in out/
 #   make example      the program alone, and then runs a stored example
-#   make test         the cases, the examples and the tests of the program, the C library, what is installed, the Python package and the web page;
-#                     with WANZOCHE_TESTS=all in each Python that is here, under sanitizers and over PostgreSQL, too
+#   make test         the cases, the examples and the tests of the program, the C library, what is installed, the Python package, the web
+#                     page, the JavaScript package and the Go module; with WANZOCHE_TESTS=all in each Python that is here, under
+#                     sanitizers and over PostgreSQL, too
 #   make test_rust    the tests of the Rust crate, which want cargo
 #   make install      to PREFIX (/usr/local), below DESTDIR if that is set; make uninstall takes the same files away
 #   make core         what is quick of the Python package, in C: out/python/_core.abi3.so, by the headers of PYTHON, for each later one
@@ -36,10 +37,11 @@ work := $(OUT)/work
 program := $(bin)/pathsys
 static_library := $(lib)/libwanzoche.a
 shared_library := $(lib)/libwanzoche.so.0
-headers := $(OUT)/include/wanzoche.h $(OUT)/include/wanzoche_monitor.h
+headers := $(addprefix $(OUT)/,$(wildcard include/*.h include/*.hpp include/wanzoche/*.hpp))
+cmake_files := $(patsubst packaging/cmake/%,$(lib)/cmake/wanzoche/%,$(wildcard packaging/cmake/*.cmake))
 pc := $(lib)/pkgconfig/wanzoche.pc
 core := $(OUT)/python/_core.abi3.so
-library := $(static_library) $(lib)/libwanzoche.so $(headers) $(pc)
+library := $(static_library) $(lib)/libwanzoche.so $(headers) $(pc) $(cmake_files)
 
 c_flags := -std=c11 -fPIC -ffunction-sections -Wall -Wextra -Iinclude $(CFLAGS)
 static := $(if $(STATIC),-static)
@@ -108,9 +110,17 @@ core: $(core)
 $(lib)/libwanzoche.so: $(shared_library)
 	ln -sf $(<F) $@
 
-$(OUT)/include/%.h: include/%.h
+$(OUT)/include/%: include/%
 	@mkdir -p $(@D)
 	cp $< $@
+
+# The files of CMake with the version, and with the way from the folder of libraries up to that of the headers: `..` for each part of its
+# name.
+filled = sed -e 's!@version@!$(version)!' -e 's!@up@!$(shell echo '$(1)' | sed 's![^/][^/]*!..!g')!'
+
+$(lib)/cmake/wanzoche/%.cmake: packaging/cmake/%.cmake Makefile VERSION
+	@mkdir -p $(@D)
+	$(call filled,lib) $< > $@
 
 # The text of wanzoche.pc. In out/ its paths are told from where it lies, so that the folder may be moved.
 define pc_text
@@ -140,7 +150,7 @@ example: $(program)
 test_rust:
 	rust/tests/run
 
-test: all test_program test_library test_install test_package test_page
+test: all test_program test_library test_install test_package test_page test_js test_go
 	@echo "make test: all passed"
 
 test_program: $(program) library
@@ -154,6 +164,7 @@ test_program: $(program) library
 
 test_library: library
 	c/tests/run $(OUT)
+	c/tests/run_cpp $(OUT)
 
 test_install: all
 	packaging/test $(OUT)
@@ -161,8 +172,14 @@ test_install: all
 test_package: $(program) library
 	PYTHONS="$(PYTHONS)" python/tests/run $(OUT)
 
+test_go: library
+	go/tests/run $(OUT)
+
 test_page:
 	@if command -v node > /dev/null; then page/test; else echo "there is no Node, so the page's tests are left out"; fi
+
+test_js: $(program)
+	@if command -v node > /dev/null; then js/test/run $(OUT); else echo "there is no Node, so the JavaScript package's tests are left out"; fi
 
 prove:
 	mkdir -p $(OUT)
@@ -174,7 +191,7 @@ pages := $(wildcard docs/*.md)
 # The command wanzoche is the Python package's, so pip brings it with its man page and completions (python/packing.py).
 installed := bin/pathsys \
     $(LIBDIR)/libwanzoche.a $(LIBDIR)/libwanzoche.so.0 $(LIBDIR)/libwanzoche.so $(LIBDIR)/pkgconfig/wanzoche.pc \
-    include/wanzoche.h include/wanzoche_monitor.h \
+    $(patsubst $(lib)/%,$(LIBDIR)/%,$(cmake_files)) $(patsubst $(OUT)/%,%,$(headers)) \
     share/man/man1/pathsys.1 share/man/man3/wanzoche.3 \
     share/bash-completion/completions/pathsys share/zsh/site-functions/_pathsys share/fish/vendor_completions.d/pathsys.fish
 
@@ -184,7 +201,9 @@ install: all
 	$(INSTALL) -m 644 $(static_library) $(shared_library) $(to)/$(LIBDIR)/
 	ln -sf libwanzoche.so.0 $(to)/$(LIBDIR)/libwanzoche.so
 	printenv pc_of_prefix > $(to)/$(LIBDIR)/pkgconfig/wanzoche.pc
-	$(INSTALL) -m 644 $(headers) $(to)/include/
+	for file in $(notdir $(cmake_files)); do $(call filled,$(LIBDIR)) packaging/cmake/$$file > $(to)/$(LIBDIR)/cmake/wanzoche/$$file || exit 1; done
+	$(INSTALL) -m 644 $(wildcard include/*.h include/*.hpp) $(to)/include/
+	$(INSTALL) -m 644 $(wildcard include/wanzoche/*.hpp) $(to)/include/wanzoche/
 	$(INSTALL) -m 644 man/pathsys.1 $(to)/share/man/man1/
 	$(INSTALL) -m 644 man/wanzoche.3 $(to)/share/man/man3/
 	$(INSTALL) -m 644 completions/pathsys.bash $(to)/share/bash-completion/completions/pathsys
@@ -194,7 +213,8 @@ install: all
 
 uninstall:
 	rm -f $(addprefix $(to)/,$(installed))
-	rm -rf $(to)/share/doc/wanzoche
+	rm -rf $(to)/share/doc/wanzoche $(to)/$(LIBDIR)/cmake/wanzoche
+	rmdir $(to)/include/wanzoche 2> /dev/null || true
 
 # The headers are those of this machine's processor.
 wheel: library
@@ -210,5 +230,5 @@ release:
 clean:
 	rm -rf $(OUT)
 
-.PHONY: all library core example test test_program test_library test_install test_package test_page test_rust prove install uninstall wheel deb release clean
+.PHONY: all library core example test test_program test_library test_install test_package test_page test_js test_go test_rust prove install uninstall wheel deb release clean
 .DELETE_ON_ERROR:

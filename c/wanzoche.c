@@ -17,6 +17,7 @@ _Static_assert(sizeof(wanzoche) == 2 * sizeof(void *), "a pointer and a bool");
 _Static_assert(offsetof(wanzoche, live) == sizeof(void *), "the bool is second");
 _Static_assert(sizeof(wanzoche_answer) == 16, "a code and a number");
 _Static_assert(sizeof(wanzoche_taken) == 32, "two numbers and an answer");
+_Static_assert(sizeof(wanzoche_waiter) == 24, "two words and two numbers");
 #endif
 
 wanzoche_answer path_c_open(wanzoche *, const uint8_t *, size_t, uint32_t, bool, uint8_t *, size_t);
@@ -26,6 +27,8 @@ wanzoche_answer path_c_start(wanzoche *, uint32_t, uint32_t);
 wanzoche_answer path_c_use(wanzoche *, uint32_t, uint64_t, uint32_t, uint64_t);
 wanzoche_answer path_c_finish(wanzoche *, uint32_t, uint64_t);
 wanzoche_answer path_c_can_start(wanzoche *, uint32_t);
+wanzoche_answer path_c_may_start(wanzoche *, uint32_t, uint32_t, uint64_t, const wanzoche_waiter *, size_t, const uint32_t *, size_t);
+wanzoche_answer path_c_next(wanzoche *, const wanzoche_waiter *, size_t, const uint32_t *, size_t);
 size_t path_c_lines(wanzoche *);
 uint32_t path_c_live(wanzoche *);
 uint32_t path_c_room_left(wanzoche *);
@@ -57,6 +60,26 @@ static const uint8_t *text_at(const char *text) {
 
 static size_t length_of(const char *text, size_t length) {
     return text == NULL ? 0 : length;
+}
+
+/* One at a good address, for lists without any. */
+static const wanzoche_waiter no_waiter;
+static const uint32_t no_operation;
+
+static const wanzoche_waiter *waiters_at(const wanzoche_waiter *waiting) {
+    return waiting == NULL ? &no_waiter : waiting;
+}
+
+static size_t waiters_in(const wanzoche_waiter *waiting, size_t waiters) {
+    return waiting == NULL ? 0 : waiters;
+}
+
+static const uint32_t *running_at(const uint32_t *running) {
+    return running == NULL ? &no_operation : running;
+}
+
+static size_t running_in(const uint32_t *running, size_t count) {
+    return running == NULL ? 0 : count;
 }
 
 static uint8_t *buffer_at(char *buffer) {
@@ -139,6 +162,26 @@ uint32_t wanzoche_end(wanzoche *handle, wanzoche_record *record) {
 wanzoche_answer wanzoche_can_start(wanzoche *handle, uint32_t operation) {
     if (handle == NULL) return closed;
     return path_c_can_start(handle, operation);
+}
+
+wanzoche_answer wanzoche_may_start(wanzoche *handle, uint32_t operation,
+                                   uint32_t priority, uint64_t arrived,
+                                   const wanzoche_waiter *waiting,
+                                   size_t waiters, const uint32_t *running,
+                                   size_t count) {
+    if (handle == NULL) return closed;
+    return path_c_may_start(handle, operation, priority, arrived,
+                            waiters_at(waiting), waiters_in(waiting, waiters),
+                            running_at(running), running_in(running, count));
+}
+
+wanzoche_answer wanzoche_next(wanzoche *handle, const wanzoche_waiter *waiting,
+                              size_t waiters, const uint32_t *running,
+                              size_t count) {
+    if (handle == NULL) return closed;
+    return path_c_next(handle, waiters_at(waiting),
+                       waiters_in(waiting, waiters), running_at(running),
+                       running_in(running, count));
 }
 
 size_t wanzoche_lines(wanzoche *handle) {
@@ -340,6 +383,9 @@ const char *wanzoche_words(uint32_t code) {
     case WANZOCHE_SCRIPT_UNBALANCED: return "unbalanced in script";
     case WANZOCHE_SCRIPT_TOO_DEEP: return "too deep in script";
     case WANZOCHE_SCRIPT_TOO_MANY: return "too many in script";
+    case WANZOCHE_WITHHELD: return "withheld";
+    case WANZOCHE_NEXT: return "next";
+    case WANZOCHE_NOBODY: return "nobody";
     default: return "no such code";
     }
 }

@@ -1,5 +1,5 @@
-"""The completions of wanzoche. The operations behind `exec` are those of the store or the declaration that the line names: the command
-itself is asked for them. Behind `--` the shell completes as for the command that stands there."""
+"""The completions of wanzoche. Operations, as behind `exec` and `pass`, are those of the store or the declaration that the line names: the
+command itself is asked for them. Behind `--` the shell completes as for the command that stands there."""
 
 from __future__ import annotations
 
@@ -58,6 +58,7 @@ _wanzoche() {{
     # `default` lets bash complete a file.
     case $wants in
     {of_files}) compopt -o default && return ;;
+    {of_operations}) COMPREPLY=($(compgen -W "$(_wanzoche_operations)" -- "$word")) && return ;;
 {choices}
     ?*) return ;;
     esac
@@ -72,7 +73,7 @@ _wanzoche() {{
         fi
     elif [[ $word == -* ]]; then
         COMPREPLY=($(compgen -W "$options" -- "$word"))
-    elif [[ ${{COMP_WORDS[1]}} == exec ]]; then
+    elif [[ ${{COMP_WORDS[1]}} == exec || ${{COMP_WORDS[1]}} == pass ]]; then
         COMPREPLY=($(compgen -W "$(_wanzoche_operations)" -- "$word"))
     fi
 }}
@@ -164,9 +165,8 @@ function __wanzoche_value --argument-names option --description 'the value of th
     end
 end
 
-function __wanzoche_behind --description 'the words behind the operation of exec; fails if there is none yet'
+function __wanzoche_behind --description 'the words behind the operation of exec or pass; fails if there is none yet'
     set -l words (commandline -opc)
-    __wanzoche_is exec; or return 1
     set -e words[1..2]
     set -l is_value 0
     while set -q words[1]
@@ -184,8 +184,10 @@ function __wanzoche_behind --description 'the words behind the operation of exec
     return 1
 end
 
-function __wanzoche_wants --argument-names part --description 'whether the operation of exec, its mark -- or its command comes next'
-    __wanzoche_is exec; or return 1
+function __wanzoche_wants --argument-names part --description 'whether the operation, or the mark -- or the command of exec comes next'
+    if not __wanzoche_is exec
+        test $part = operation; and __wanzoche_is pass; or return 1
+    end
     set -l behind (__wanzoche_behind)
     set -l has_operation $status
     switch $part
@@ -231,6 +233,11 @@ def with_value(program: Program) -> List[Option]:
     return [found[name] for name in sorted(found)]
 
 
+def is_operation(option: Option) -> bool:
+    """Whether an option takes an operation."""
+    return option.value == "OPERATION"
+
+
 def choices_for_bash(options: List[Option]) -> str:
     """The lines that offer the values of options of which all values are known."""
     line = "    {}) COMPREPLY=($(compgen -W '{}' -- \"$word\")) && return ;;"
@@ -247,20 +254,24 @@ def for_bash(program: Program) -> str:
         options=" ".join(long_names(program.itself.options)),
         valued=or_none(long_names(valued)),
         of_files=or_none(long_names([it for it in valued if is_file(it.help)])),
+        of_operations=or_none(long_names([it for it in valued if is_operation(it)])),
         choices=choices_for_bash(valued),
     )
 
 
 def zsh_options(command: Command) -> List[str]:
     """The options of a command. Behind one that only asks, nothing is asked for any more."""
-    return [zsh_option(it, "- : *" if it.names[-1] in ("--help", "--version") else "") for it in command.options]
+    lines = [zsh_option(it, "- : *" if it.names[-1] in ("--help", "--version") else "") for it in command.options]
+    return [line.replace(":OPERATION: '", ":operation:_wanzoche_operations'") for line in lines]
 
 
 def zsh_case(command: Command) -> str:
-    """The lines that say what a command takes. Behind the operation of `exec` no option is read."""
+    """The lines that say what a command takes. Behind the operation of `exec` no option is read, and the others take one word at most."""
     lines = zsh_options(command)
     if command.name == "exec":
         lines = ["-A '-*'"] + lines + ["'1:operation:_wanzoche_operations'", "'*::: :_wanzoche_command'"]
+    elif command.name == "pass":
+        lines.append("'1:operation:_wanzoche_operations'")
     else:
         lines += [zsh_quoted("{}:{}: ".format(n + 1, zsh_message(it.help))) for n, it in enumerate(command.arguments)]
     return "    {})\n        _arguments \\\n            {}\n        ;;".format(command.name, " \\\n            ".join(lines))
@@ -279,8 +290,9 @@ def for_zsh(program: Program) -> str:
 
 def fish_lines(command: Command) -> List[str]:
     """The lines of a command's options."""
-    condition = "__wanzoche_wants operation" if command.name == "exec" else "__wanzoche_is " + command.name
-    return [fish_option("wanzoche", condition, it) for it in command.options]
+    condition = "__wanzoche_is " + command.name + ("; and __wanzoche_wants operation" if command.name == "exec" else "")
+    operations = " -a '(__wanzoche_operations)'"
+    return [fish_option("wanzoche", condition, it) + (operations if is_operation(it) else "") for it in command.options]
 
 
 def for_fish(program: Program) -> str:

@@ -11,15 +11,16 @@ _wanzoche_operations() {
 }
 
 _wanzoche() {
-    local word=${COMP_WORDS[COMP_CWORD]} commands='exec status log audit watch recover operations' options='' wants='' store='' declaration='' behind=0 n it
+    local word=${COMP_WORDS[COMP_CWORD]} commands='exec status log audit watch recover pass operations' options='' wants='' store='' declaration='' behind=0 n it
     COMPREPLY=()
     case ${COMP_WORDS[1]} in
-    exec) options=' --help --store --name --declaration --timeout --nonblock --conflict-status --token-env --lost --no-sync ' ;;
-    status) options=' --help --store --name --declaration ' ;;
+    exec) options=' --help --store --name --declaration --timeout --nonblock --conflict-status --token-env --every --passed --failed --quiet --lost --no-sync ' ;;
+    status) options=' --help --store --name --declaration --json --watch ' ;;
     log) options=' --help --store --name --declaration ' ;;
     audit) options=' --help --store --name --declaration ' ;;
     watch) options=' --help --store --name --declaration ' ;;
     recover) options=' --help --store --name --declaration --even-alive ' ;;
+    pass) options=' --help --store --name --declaration --timeout ' ;;
     operations) options=' --help --store --name --declaration ' ;;
     esac
     if [[ $COMP_CWORD -eq 1 ]]; then
@@ -43,7 +44,7 @@ _wanzoche() {
         fi
         options=${options/ $it / }
         case $it in
-        --conflict-status | --declaration | --lost | --name | --store | --timeout | --token-env) wants=$it ;;
+        --conflict-status | --declaration | --every | --failed | --lost | --name | --passed | --store | --timeout | --token-env) wants=$it ;;
         -*) ;;
         *) behind=$((n + 1)) ;;
         esac
@@ -52,6 +53,7 @@ _wanzoche() {
     # `default` lets bash complete a file.
     case $wants in
     --declaration | --store) compopt -o default && return ;;
+    --failed | --passed) COMPREPLY=($(compgen -W "$(_wanzoche_operations)" -- "$word")) && return ;;
     --lost) COMPREPLY=($(compgen -W 'finish keep' -- "$word")) && return ;;
     ?*) return ;;
     esac
@@ -66,7 +68,7 @@ _wanzoche() {
         fi
     elif [[ $word == -* ]]; then
         COMPREPLY=($(compgen -W "$options" -- "$word"))
-    elif [[ ${COMP_WORDS[1]} == exec ]]; then
+    elif [[ ${COMP_WORDS[1]} == exec || ${COMP_WORDS[1]} == pass ]]; then
         COMPREPLY=($(compgen -W "$(_wanzoche_operations)" -- "$word"))
     fi
 }

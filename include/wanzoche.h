@@ -52,7 +52,8 @@
 ** only these calls do: wanzoche_open, wanzoche_open_without_journal,
 ** wanzoche_resume, wanzoche_resume_without_journal, wanzoche_take_over,
 ** wanzoche_journal, wanzoche_report, wanzoche_declaration, wanzoche_audit,
-** wanzoche_explore and wanzoche_explain. If it gets no memory it answers
+** wanzoche_explore, wanzoche_explain, and the first wanzoche_may_start or
+** wanzoche_next on an open handle. If it gets no memory it answers
 ** WANZOCHE_OUT_OF_MEMORY, keeps nothing, and the handle is as it was. A start,
 ** a use, a finish and a rotation never lack memory.
 **
@@ -78,6 +79,20 @@ extern "C" {
 ** wanzoche_version.
 */
 #define WANZOCHE_VERSION "0.1.0"
+
+/*
+** Stands before each call whose answer decides how the caller goes on: gcc and
+** clang warn where it is dropped, and to other compilers it is nothing. Define
+** it as nothing before this header to have no such warning. What ends or closes
+** something has none: it refuses only numbers that the caller has mixed up.
+*/
+#ifndef WANZOCHE_CHECKED
+#if defined(__GNUC__) || defined(__clang__)
+#define WANZOCHE_CHECKED __attribute__((warn_unused_result))
+#else
+#define WANZOCHE_CHECKED
+#endif
+#endif
 
 /*
 ** A system, or nothing. The fields are private.
@@ -118,6 +133,17 @@ typedef struct wanzoche_record {
     uint32_t worker;
     bool live;
 } wanzoche_record;
+
+/*
+** One who waits for a start, for wanzoche_may_start and wanzoche_next.
+*/
+typedef struct wanzoche_waiter {
+    uint32_t operation; /* what it waits for */
+    uint32_t priority;  /* higher ones come first; 0 is the usual one */
+    uint64_t arrived;   /* when it came, by the caller's clock, in any unit */
+    uint64_t shut_at;   /* starts of those who arrived later than this are
+                           withheld for it; UINT64_MAX: of nobody */
+} wanzoche_waiter;
 
 /*
 ** How much of a journal's text wanzoche_take_over has taken over.
@@ -198,7 +224,12 @@ enum {
     WANZOCHE_SCRIPT_UNDECLARED = 53, /* it enters an operation not declared */
     WANZOCHE_SCRIPT_UNBALANCED = 54, /* it uses, leaves or ends wrongly */
     WANZOCHE_SCRIPT_TOO_DEEP = 55,   /* it enters a 17th operation at once */
-    WANZOCHE_SCRIPT_TOO_MANY = 56    /* a 17th process, or a 4,097th step */
+    WANZOCHE_SCRIPT_TOO_MANY = 56,   /* a 17th process, or a 4,097th step */
+
+    /* Who comes next among those who wait */
+    WANZOCHE_WITHHELD = 57,          /* number: the place of whom it is withheld for */
+    WANZOCHE_NEXT = 58,              /* number: the place of who comes next */
+    WANZOCHE_NOBODY = 59             /* nobody who waits may start now */
 };
 
 /*
@@ -247,6 +278,7 @@ enum {
 ** its buffer, and empty if the handle was opened or is null. If there is no
 ** memory to write it, it is "out of memory". It may be null.
 */
+WANZOCHE_CHECKED
 wanzoche_answer wanzoche_open(wanzoche *handle, const char *text, size_t length,
                               uint32_t room, char *message, size_t size);
 
@@ -268,6 +300,7 @@ wanzoche_answer wanzoche_open(wanzoche *handle, const char *text, size_t length,
 ** wanzoche_rotate answers WANZOCHE_ROTATED and changes nothing. What happened
 ** can't be audited or explained afterwards.
 */
+WANZOCHE_CHECKED
 wanzoche_answer wanzoche_open_without_journal(wanzoche *handle,
                                               const char *text, size_t length,
                                               uint32_t room, char *message,
@@ -285,6 +318,7 @@ void wanzoche_close(wanzoche *handle);
 ** order of the text. -1 if no operation has it, or the handle is closed.
 ** Looks the name up in a table.
 */
+WANZOCHE_CHECKED
 int64_t wanzoche_operation(wanzoche *handle, const char *name, size_t length);
 
 /*
@@ -302,6 +336,7 @@ int64_t wanzoche_operation(wanzoche *handle, const char *name, size_t length);
 **                   finish, or 4,294,967,295 starts were admitted; without a
 **                   journal: as many activations are live as there may be
 */
+WANZOCHE_CHECKED
 wanzoche_answer wanzoche_start(wanzoche *handle, uint32_t worker,
                                uint32_t operation);
 
@@ -318,6 +353,7 @@ wanzoche_answer wanzoche_start(wanzoche *handle, uint32_t worker,
 ** WANZOCHE_NO_VERB  whatever the handle is; nothing changed
 ** WANZOCHE_STALE, WANZOCHE_NOT_YOURS, WANZOCHE_NO_ROOM, WANZOCHE_CLOSED
 */
+WANZOCHE_CHECKED
 wanzoche_answer wanzoche_use(wanzoche *handle, uint32_t worker,
                              uint64_t activation, uint32_t verb,
                              uint64_t number);
@@ -353,6 +389,7 @@ wanzoche_answer wanzoche_finish(wanzoche *handle, uint32_t worker,
 **
 ** A null record is answered by WANZOCHE_STALE.
 */
+WANZOCHE_CHECKED
 uint32_t wanzoche_begin(wanzoche *handle, uint32_t worker, uint32_t operation,
                         wanzoche_record *record);
 uint32_t wanzoche_end(wanzoche *handle, wanzoche_record *record);
@@ -363,11 +400,14 @@ uint32_t wanzoche_end(wanzoche *handle, wanzoche_record *record);
 ** changes. So a caller can put the line on a disk first, and then make the
 ** attempt, which gets this reply if no other call came between.
 */
+WANZOCHE_CHECKED
 wanzoche_answer wanzoche_owed_start(wanzoche *handle, uint32_t worker,
                                     uint32_t operation);
+WANZOCHE_CHECKED
 wanzoche_answer wanzoche_owed_use(wanzoche *handle, uint32_t worker,
                                   uint64_t activation, uint32_t verb,
                                   uint64_t number);
+WANZOCHE_CHECKED
 wanzoche_answer wanzoche_owed_finish(wanzoche *handle, uint32_t worker,
                                      uint64_t activation);
 
@@ -396,6 +436,7 @@ wanzoche_answer wanzoche_owed_finish(wanzoche *handle, uint32_t worker,
 ** The lines are kept as those of the handle's own attempts are, and take room
 ** as they do. `taken` may be null.
 */
+WANZOCHE_CHECKED
 wanzoche_answer wanzoche_take_over(wanzoche *handle, const char *text,
                                    size_t length, wanzoche_taken *taken);
 
@@ -420,10 +461,12 @@ wanzoche_answer wanzoche_take_over(wanzoche *handle, const char *text,
 ** Unless it answers WANZOCHE_OPENED, the handle is as it was. The message is
 ** that of wanzoche_open, or of wanzoche_audit, or "wrong line 3".
 */
+WANZOCHE_CHECKED
 wanzoche_answer wanzoche_resume(wanzoche *handle, const char *text,
                                 size_t length, uint32_t room,
                                 const char *journal, size_t journal_length,
                                 char *message, size_t size);
+WANZOCHE_CHECKED
 wanzoche_answer wanzoche_resume_without_journal(wanzoche *handle,
                                                 const char *text,
                                                 size_t length, uint32_t room,
@@ -438,7 +481,70 @@ wanzoche_answer wanzoche_resume_without_journal(wanzoche *handle,
 ** WANZOCHE_CAN_START, WANZOCHE_BLOCKED, WANZOCHE_UNKNOWN_OPERATION,
 ** WANZOCHE_CLOSED
 */
+WANZOCHE_CHECKED
 wanzoche_answer wanzoche_can_start(wanzoche *handle, uint32_t operation);
+
+/*
+** Whether a start of this operation may go now, by those who wait. A monitor
+** asks so: who must wait stands in a list of the caller's, by priority and then
+** by arrival, and who asks stands before all of lower priority and behind the
+** others. One who waits and asks again passes only those before it.
+**
+** `waiting` is those who wait, in their order. `running` is the operations in
+** progress of those who don't wait, each as often as it is in progress, but
+** without those of who asks. What isn't known is left out: then more may go
+** past those who wait, and nobody waits in vain.
+**
+** A start is withheld for one who waits, stands before it, and has a `shut_at`
+** below `arrived`, if a path names both operations, the waiter's start would
+** be admitted if all that `running` has were over, and this start stands in
+** its way: behind it the waiter's wouldn't be admitted then, or this one takes
+** what one of their paths has free for it now.
+**
+** WANZOCHE_CAN_START  it may, and a start now would be admitted but for the
+**                     room
+** WANZOCHE_BLOCKED    the number is that of the first path that forbids it
+** WANZOCHE_WITHHELD   the number is the place in `waiting`, from 0, of the one
+**                     for whom it is withheld
+** WANZOCHE_UNKNOWN_OPERATION, WANZOCHE_CLOSED, WANZOCHE_OUT_OF_MEMORY
+** WANZOCHE_NO_ROOM    4,294,967,295 starts were admitted
+**
+** No attempt is made, and nothing changes that another call sees. The two
+** lists aren't kept; a null one is empty. An operation in them that isn't
+** declared is one that no path names. The first call on an open handle
+** takes memory, which wanzoche_close gives back. Where somebody stands before
+** it, the cost is that of two gates' values, of a finish for each in `running`,
+** and of a look at the paths for each in `waiting`; else that of
+** wanzoche_can_start.
+*/
+WANZOCHE_CHECKED
+wanzoche_answer wanzoche_may_start(wanzoche *handle, uint32_t operation,
+                                   uint32_t priority, uint64_t arrived,
+                                   const wanzoche_waiter *waiting,
+                                   size_t waiters, const uint32_t *running,
+                                   size_t count);
+
+/*
+** Who comes next among those who wait: the first of them whose start is
+** neither forbidden by a path nor withheld for one before it. The lists are
+** those of wanzoche_may_start; `running` has all that is in progress for those
+** who don't wait. Nothing is started: wake that one, who asks by
+** wanzoche_may_start. Ask at each finish, when one that has something in
+** progress begins to wait, when one waits no longer, and behind each start
+** while others wait.
+**
+** WANZOCHE_NEXT       the number is its place in `waiting`, from 0
+** WANZOCHE_NOBODY     each of them has to wait on, or nobody waits
+** WANZOCHE_CLOSED, WANZOCHE_OUT_OF_MEMORY, WANZOCHE_NO_ROOM
+**                     as of wanzoche_may_start
+**
+** The cost is that of wanzoche_may_start for each one before it whose start no
+** path forbids.
+*/
+WANZOCHE_CHECKED
+wanzoche_answer wanzoche_next(wanzoche *handle, const wanzoche_waiter *waiting,
+                              size_t waiters, const uint32_t *running,
+                              size_t count);
 
 /*
 ** How many lines the journal has, how many activations are live, and how many
@@ -480,6 +586,7 @@ uint32_t wanzoche_list_live(wanzoche *handle, wanzoche_activation *list,
 ** A null buffer has no bytes. The system is as it was. The cost is that of the
 ** text, also if the buffer is too small.
 */
+WANZOCHE_CHECKED
 wanzoche_answer wanzoche_journal(wanzoche *handle, char *buffer, size_t size);
 
 /*
@@ -500,6 +607,7 @@ wanzoche_answer wanzoche_rotate(wanzoche *handle);
 ** WANZOCHE_TOO_SMALL  there are more or fewer lines: the number says how many,
 **                     and nothing changed
 */
+WANZOCHE_CHECKED
 wanzoche_answer wanzoche_rotate_at(wanzoche *handle, size_t lines,
                                    uint64_t *rotations);
 
@@ -512,6 +620,7 @@ wanzoche_answer wanzoche_rotate_at(wanzoche *handle, size_t lines,
 ** `frozen yes` if nothing is live and nothing can ever be started again, or
 ** `frozen no`.
 */
+WANZOCHE_CHECKED
 wanzoche_answer wanzoche_report(wanzoche *handle, char *buffer, size_t size);
 
 /*
@@ -521,6 +630,7 @@ wanzoche_answer wanzoche_report(wanzoche *handle, char *buffer, size_t size);
 ** but none before `,`, `;` and `:`. So path P is what stands between the word
 ** `path` with P others before it and the next `end`.
 */
+WANZOCHE_CHECKED
 wanzoche_answer wanzoche_declaration(wanzoche *handle, char *buffer,
                                      size_t size);
 
@@ -544,6 +654,7 @@ wanzoche_answer wanzoche_declaration(wanzoche *handle, char *buffer,
 ** The message is that of wanzoche_open, behind `declaration: ` or `journal: `
 ** if it is of a text, as "journal: bad line 1", and empty after a verdict.
 */
+WANZOCHE_CHECKED
 wanzoche_answer wanzoche_audit(const char *declaration, size_t length,
                                uint32_t room, const char *journal,
                                size_t journal_length, char *message,
@@ -588,6 +699,7 @@ wanzoche_answer wanzoche_audit(const char *declaration, size_t length,
 ** more. Nothing stops the search but `most`: choose it by the time that there
 ** is.
 */
+WANZOCHE_CHECKED
 wanzoche_answer wanzoche_explore(const char *declaration, size_t length,
                                  const char *script, size_t script_length,
                                  uint32_t most, char *journal,
@@ -614,6 +726,7 @@ wanzoche_answer wanzoche_explore(const char *declaration, size_t length,
 ** WANZOCHE_TOO_SMALL  the buffer stays; it needs number + 1 bytes
 ** WANZOCHE_OUT_OF_MEMORY
 */
+WANZOCHE_CHECKED
 wanzoche_answer wanzoche_explain(const char *text, size_t length, char *buffer,
                                  size_t size);
 

@@ -36,7 +36,7 @@ class Argument(NamedTuple):
 
 class Option(NamedTuple):
     """An option: `names` are its spellings, the long one last; `value` is None if it takes none, `several` says whether it takes more, and
-    `choices` are all its values, where they are known."""
+    `choices` are all its values, where they are known. One that `may_take` a value does without, too."""
 
     names: List[str]
     value: Optional[str]
@@ -44,6 +44,7 @@ class Option(NamedTuple):
     default: Optional[str]
     several: bool
     choices: Tuple[str, ...] = ()
+    may_take: Optional[str] = None
 
 
 class Command(NamedTuple):
@@ -151,7 +152,8 @@ def _table_of(name: str, about: str, parser: argparse.ArgumentParser) -> Command
         shown = each.metavar if isinstance(each.metavar, str) else ""
         said = (each.help or "").replace("%(default)s", str(each.default))
         if each.option_strings:
-            options.append(Option(list(each.option_strings), shown or None, said, None, False, tuple(each.choices or ())))
+            value, may_take = (None, shown) if each.nargs == "?" else (shown or None, None)
+            options.append(Option(list(each.option_strings), value, said, None, False, tuple(each.choices or ()), may_take))
         elif not isinstance(each, argparse._SubParsersAction):
             arguments.append(Argument(shown, said, True, each.nargs is not None))
     return Command(name, about, arguments, options, [])

@@ -127,7 +127,7 @@ def prototype_of(declaration: str) -> str:
     head = " ".join(declaration.split("{")[0].rstrip(" ;\n").split())
     if head.startswith(("typedef", "enum", "struct", "#")) or not head.endswith(")"):
         return ""
-    return re.sub(r"^static inline ", "", head) + ";"
+    return re.sub(r"^(WANZOCHE_CHECKED )?(static inline )?", "", head) + ";"
 
 
 def name_in(prototype: str) -> str:

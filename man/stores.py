@@ -33,7 +33,8 @@ class Shell:
 
 def _spelled(option: Option) -> str:
     """An option with its value."""
-    return bold(option.names[-1]) + (" " + italic(option.value) if option.value else "")
+    may_take = " [{}]".format(italic(option.may_take)) if option.may_take else ""
+    return bold(option.names[-1]) + (" " + italic(option.value) if option.value else may_take)
 
 
 def _argument_name(argument: Argument) -> str:

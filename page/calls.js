@@ -1,19 +1,20 @@
-"use strict";
 // The calls of the module: texts and numbers in, a status and two texts out. Nothing here knows of the page.
 //
 // An export takes, in this order: memory for its work, as the address of two words, its address and its size; the texts and numbers of
 // the call, a text as its address and its length; the buffers for both texts of the answer; and the address of two words for their
-// lengths. It returns the program's exit status, TOO_SHORT or UNDECIDED. A call never gives memory back, so each has an instance of its own.
+// lengths. It returns the program's exit status, TOO_SHORT or UNDECIDED. A call never gives memory back, so each has an instance of its
+// own.
 
-const STATUSES = ["done", "declaration refused", "room refused", "stream failed", "text refused", "unsound", "out of memory"];
-const TEXT_REFUSED = 4;
-const UNSOUND = 5;
+export const STATUSES = ["done", "declaration refused", "room refused", "stream failed", "text refused", "unsound", "out of memory"];
+export const TEXT_REFUSED = 4;
+export const UNSOUND = 5;
 const OUT_OF_MEMORY = 6;
 const TOO_SHORT = 7;
-const UNDECIDED = 8;
+export const UNDECIDED = 8;
 
-const MOST_LINES = 1048576;
-const MOST_MEMORY = 2 ** 30;
+export const MOST_LINES = 1048576;
+// What a call works in at most: a memory has 4 GiB, with the texts.
+const MOST_MEMORY = 3 * 2 ** 30;
 const ALIGNED = 16;
 const PAGE = 65536;
 
@@ -21,16 +22,6 @@ const encoder = new TextEncoder();
 const decoder = new TextDecoder();
 
 const roundedUp = (number, to) => Math.ceil(number / to) * to;
-
-// Makes a 64-bit memory larger. Older engines count its pages in numbers.
-function grow(memory, pages) {
-  try {
-    memory.grow(BigInt(pages));
-  } catch (error) {
-    if (!(error instanceof TypeError || error instanceof SyntaxError)) throw error;
-    memory.grow(pages);
-  }
-}
 
 // Places for what a call needs, one behind the other.
 class Places {
@@ -46,8 +37,28 @@ class Places {
   }
 }
 
-// Calls an export once, with texts as bytes and numbers as they are.
-function callOnce(module, name, parameters, outSize, errSize, workSize) {
+// Makes a memory larger, if the machine has so much.
+function hasGrown(memory, pages) {
+  try {
+    memory.grow(pages);
+    return true;
+  } catch (error) {
+    if (error instanceof RangeError) return false;
+    throw error;
+  }
+}
+
+/**
+ * Calls an export once, with texts as bytes and numbers as they are.
+ * @param {WebAssembly.Module} module
+ * @param {string} name
+ * @param {(number | Uint8Array)[]} parameters
+ * @param {number} outSize
+ * @param {number} errSize
+ * @param {number} workSize
+ */
+export function callOnce(module, name, parameters, outSize, errSize, workSize) {
+  /** @type {any} */
   const { memory, __heap_base: base, ...exports } = new WebAssembly.Instance(module, {}).exports;
   const places = new Places(Number(base.value));
   const work = places.take(2 * 8);
@@ -57,13 +68,14 @@ function callOnce(module, name, parameters, outSize, errSize, workSize) {
   const err = places.take(errSize);
   const room = places.take(workSize);
   const missing = places.end - memory.buffer.byteLength;
-  if (missing > 0) grow(memory, Math.ceil(missing / PAGE));
+  if (missing > 0 && !hasGrown(memory, Math.ceil(missing / PAGE))) return { status: OUT_OF_MEMORY, outLength: 0, errLength: 0, out: "",
+    err: "out of memory\n" };
 
   const bytes = new Uint8Array(memory.buffer);
   const before = new DataView(memory.buffer);
   before.setBigUint64(work, BigInt(room), true);
   before.setBigUint64(work + 8, BigInt(workSize), true);
-  const passed = parameters.flatMap((it, i) => {
+  const passed = parameters.flatMap(/** @returns {any[]} */ (it, i) => {
     if (typeof it === "number") return [it];
     bytes.set(it, at[i]);
     return [BigInt(at[i]), BigInt(it.length)];
@@ -77,8 +89,11 @@ function callOnce(module, name, parameters, outSize, errSize, workSize) {
   return { status, outLength, errLength, out: text(out, outLength), err: text(err, errLength) };
 }
 
-// The calls of a compiled module. Each answers { status, out, err }, what the program writes for the same texts, byte for byte.
-function callsOf(module) {
+/**
+ * The calls of a compiled module. Each answers { status, out, err }, what the program writes for the same texts, byte for byte.
+ * @param {WebAssembly.Module} module
+ */
+export function callsOf(module) {
   // Calls again with longer buffers if they were too short, and with more memory if it ran out.
   function call(name, parameters, outSize, workSize) {
     const given = parameters.map(it => typeof it === "string" ? encoder.encode(it) : it);
@@ -88,7 +103,7 @@ function callsOf(module) {
       if (answer.status === TOO_SHORT) {
         sizes = { ...sizes, out: Math.max(sizes.out, answer.outLength), err: Math.max(sizes.err, answer.errLength) };
       } else if (answer.status === OUT_OF_MEMORY && sizes.work < MOST_MEMORY) {
-        sizes = { ...sizes, work: sizes.work * 4 };
+        sizes = { ...sizes, work: Math.min(MOST_MEMORY, sizes.work * 4) };
       } else {
         return { status: answer.status, out: answer.out, err: answer.err };
       }
@@ -121,8 +136,7 @@ function callsOf(module) {
     judge: (declaration, journal, room = MOST_LINES) => call("judge", [declaration, room, journal], PAGE, MEBIBYTE + 16 * journal.length),
     // What all schedules of a script come to, of which at most so many states are looked at.
     explore: (declaration, script, most) => call("explore", [declaration, script, most], 8 * script.length + PAGE, 64 * MEBIBYTE),
-    // The attempts as an SVG.
-    picture: (declaration, attempts, room = roomFor(attempts)) =>
-      call("picture", [declaration, room, attempts], 32 * attempts.length + PAGE, MEBIBYTE + 64 * attempts.length),
+    // What all histories of a declaration come to, with so many executions in progress at once at most; so many states are looked at.
+    reach: (declaration, workers, most) => call("reach", [declaration, workers, most], PAGE, 64 * MEBIBYTE),
   };
 }

@@ -5,20 +5,29 @@ fill.py MODULE FILE   with a module that was linked just now, the style, the cod
 fill.py --same FILE   with the module that page/wanzoche.html has, and all else as it is now
 fill.py --check       says whether the module of page/wanzoche.html was linked from the sources as they are now
 fill.py --crates      lists the crates of these sources
+fill.py --module FILE writes the module of page/wanzoche.html to a file
+
+The module is linked for 64-bit memory, which is all that Rattle builds. `wasm-opt` lowers it to 32-bit memory, which every browser has.
 """
 import base64
+import gzip
 import hashlib
 import json
 import os
 import re
+import subprocess
 import sys
+import tempfile
+
+from bundle import bundle
 
 HERE = os.path.dirname(os.path.realpath(__file__))
 TOP = os.path.dirname(HERE)
 PAGE = os.path.join(HERE, "wanzoche.html")
-CODE = ["calls.js", "texts.js", "lanes.js", "tables.js", "sheet.js", "pick.js", "state.js", "steps.js",
-        "picture.js", "schedules.js", "cases.js", "page.js"]
-STYLE = "page.css"
+STYLES = ["picture.css", "page.css"]
+LOWERING = ["wasm-opt", "--enable-memory64", "--enable-bulk-memory", "--enable-sign-ext", "--memory64-lowering"]
+# The most bytes that the page may have.
+MOST = 320000
 MODULE = re.compile(r'<script id="module" type="text/plain" data-sources="(\w+)">([^<]*)</script>')
 
 
@@ -93,28 +102,68 @@ def without_names(module):
     return kept
 
 
+def lowered(module):
+    """A module for 64-bit memory as one for 32-bit memory, by Debian's binaryen."""
+    with tempfile.TemporaryDirectory() as folder:
+        before, after = (os.path.join(folder, name) for name in ("64.wasm", "32.wasm"))
+        with open(before, "wb") as file:
+            file.write(without_names(module))
+        try:
+            subprocess.run([*LOWERING, before, "-o", after], check=True)
+        except FileNotFoundError:
+            sys.exit("page/build needs wasm-opt, which Debian's package binaryen has")
+        with open(after, "rb") as file:
+            return without_names(file.read())
+
+
+def packed(module):
+    """A module as the page has it: by gzip and base64. What the page has already stays as it is, whichever gzip made it."""
+    had = MODULE.search(read(PAGE))
+    if had and unpacked(had[2]) == module:
+        return had[2]
+    return base64.b64encode(gzip.compress(module, 9, mtime=0)).decode()
+
+
+def unpacked(text):
+    """The module that a text of the page has."""
+    return gzip.decompress(base64.b64decode(text))
+
+
 def allowed(texts):
     """The sources of a Content-Security-Policy that allow these elements, and no others."""
     digests = [hashlib.sha256(text.encode()).digest() for text in texts]
     return " ".join(f"'sha256-{base64.b64encode(digest).decode()}'" for digest in digests)
 
 
+def languages():
+    """The languages of copies.js, as options."""
+    found = re.findall(r'^  (\w+): \{ name: "([^"]+)"', read(HERE, "copies.js"), re.MULTILINE)
+    return '<option value=""></option>' + "".join(f'<option value="{key}">{name}</option>' for key, name in found)
+
+
 def fill(sources, module, to):
-    """Writes the page with this module, in base64, which was linked from these sources."""
-    parts = {name: read(HERE, name) for name in [*CODE, STYLE]}
+    """Writes the page with this module, as it is packed, which was linked from these sources."""
+    code, worker = (bundle(os.path.join(HERE, name)) for name in ("page.js", "worker.js"))
+    styles = {name: read(HERE, name) for name in STYLES}
     values = {
-        **parts,
+        **styles,
+        "page.js": code,
+        "worker.js": worker,
         "MODULE": module,
         "SOURCES": sources,
         "EXAMPLES": json.dumps(examples(), ensure_ascii=False).replace("</", "<\\/"),
+        "LANGUAGES": languages(),
         "VERSION": read(TOP, "VERSION").strip(),
-        "SCRIPT_HASHES": allowed(parts[name] for name in CODE),
-        "STYLE_HASHES": allowed([parts[STYLE]]),
+        "SCRIPT_HASHES": allowed([code]),
+        "STYLE_HASHES": allowed(styles.values()),
     }
     page = re.sub(r"@([A-Za-z_.]+)@", lambda found: values[found[1]], read(HERE, "page.html"))
+    size = len(page.encode())
+    if size > MOST:
+        sys.exit(f"the page would have {size:,} bytes, and {MOST:,} are the most")
     with open(to, "w", encoding="utf-8") as file:
         file.write(page)
-    print(f"{to}: {len(page.encode()):,} bytes, {len(base64.b64decode(module)):,} of them the module before it was encoded")
+    print(f"{to}: {size:,} bytes, {len(unpacked(module)):,} of them the module before it was packed")
 
 
 def main(first, to=None):
@@ -122,12 +171,15 @@ def main(first, to=None):
         print("\n".join(crates()))
     elif first == "--same":
         fill(*MODULE.search(read(PAGE)).groups(), to)
+    elif first == "--module":
+        with open(to, "wb") as file:
+            file.write(unpacked(MODULE.search(read(PAGE))[2]))
     elif first == "--check":
         if MODULE.search(read(PAGE))[1] != sum_of_sources():
             sys.exit("page/wanzoche.html has a module of other sources: run page/build")
     else:
         with open(first, "rb") as file:
-            fill(sum_of_sources(), base64.b64encode(without_names(file.read())).decode(), to)
+            fill(sum_of_sources(), packed(lowered(file.read())), to)
 
 
 main(*sys.argv[1:])

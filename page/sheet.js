@@ -1,59 +1,14 @@
-"use strict";
 // Text areas with what is beside their lines: numbers, marks and replies. Nothing here knows of declarations or attempts.
 
-const $ = id => document.getElementById(id);
+import { $, MOST_DRAWN } from "./dom.js";
+import { escaped } from "./html.js";
+import { Lines } from "./texts.js";
 
-// Up to so many lines all are drawn; of more, only those in view.
-const MOST_DRAWN = 2000;
-// Then so many lines come into view, or go, at a time.
+// Of more lines, so many come into view, or go, at a time.
 const STEP_DRAWN = 20;
-// As many lines are written as if they were typed. Chromium takes seconds for a thousand.
-const MOST_TYPED = 200;
-
-// ---- writing for the user
-
-let isWriting = false;
-
-const isLong = text => new Lines(text).length > MOST_TYPED;
-
-// A line of words, which is itself in HTML.
-const PLAIN_LINE = /^\n?\w+(?: \w+)*\n?$/;
-
-// Types a text at the caret, or in the place of what is selected. At the caret a line goes in as HTML where a text area takes that, as in
-// Chromium, which then lays its text out once; else it does so for the letters and for the line feed. Replaced so, a text would need
-// two steps to be taken back.
-function typeIn(text, isAtCaret) {
-  if (text === "") return document.execCommand("delete");
-  if (isAtCaret && PLAIN_LINE.test(text) && document.execCommand("insertHTML", false, text)) return true;
-  return document.execCommand("insertText", false, text);
-}
-
-// Puts a text in the place of [from, to) of a text area, as if it were typed, so that it can be undone, unless either is long. The page
-// stays where it is, and the focus too. No `input` is heard of it.
-function write(area, from, to, text) {
-  if (isLong(text) || isLong(area.value.slice(from, to))) return area.setRangeText(text, from, to, "end");
-  const { scrollX, scrollY } = window;
-  const focused = document.activeElement;
-  isWriting = true;
-  area.focus({ preventScroll: true });
-  area.setSelectionRange(from, to);
-  const isTyped = document.activeElement === area && typeIn(text, from === to);
-  if (!isTyped) area.setRangeText(text, from, to, "end");
-  isWriting = false;
-  if (focused === document.body) area.blur();
-  else focused.focus({ preventScroll: true });
-  window.scrollTo({ left: scrollX, top: scrollY, behavior: "instant" });
-}
-
-// Puts a text in the place of all that a text area has.
-function rewrite(area, text) {
-  if (area.value !== text) write(area, 0, area.value.length, text);
-}
-
-// ---- a text area, with numbers, marks and replies beside its lines
 
 // What is in view of an element that scrolls. To read it makes the browser lay the page out, so it is read when it changes, and kept.
-function viewOf({ scrollTop, scrollLeft, clientWidth, clientHeight }) {
+export function viewOf({ scrollTop, scrollLeft, clientWidth, clientHeight }) {
   return { scrollTop, scrollLeft, clientWidth, clientHeight };
 }
 
@@ -96,8 +51,9 @@ class Column {
   }
 }
 
-class Sheet {
+export class Sheet {
   constructor(id) {
+    this.id = id;
     this.area = $(id);
     const column = name => {
       const element = $(id + "-sheet").querySelector(`.${name} .rows`);
@@ -108,7 +64,8 @@ class Sheet {
     this.replies = column("replies");
     this.lines = new Lines("");
     this.marked = new Map();
-    this.reply = () => undefined;
+    this.reply = _ => undefined;
+    this.at = -1;
     this.first = this.last = 0;
     this.row = parseFloat(getComputedStyle(this.area).lineHeight);
     this.view = viewOf(this.area);
@@ -189,7 +146,8 @@ class Sheet {
   repliedRow(i, reply) {
     if (reply === undefined) return "<div></div>";
     const kind = i === this.at ? reply.kind + " at" : reply.kind;
-    return `<div data-line="${i}" class="${kind}"><span class="spoken">line ${i + 1}: </span>${escaped(reply.text)}</div>`;
+    return `<div data-line="${i}" class="${kind}"><span class="spoken">line ${i + 1}: </span>${escaped(reply.text)}`
+      + `${reply.more ? `<small> ${escaped(reply.more)}</small>` : ""}</div>`;
   }
 
   // Moves with the text area, and draws what came into view.
@@ -227,7 +185,7 @@ class Sheet {
 }
 
 // Marks [from, to) of a text in each of its lines.
-function markInto(marked, lines, from, to, kind) {
+export function markInto(marked, lines, from, to, kind) {
   for (let i = lines.lineOf(from); i < lines.length && lines.starts[i] < to; i++) {
     const start = lines.starts[i];
     const end = lines.endOf(i);

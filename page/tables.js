@@ -1,5 +1,7 @@
-"use strict";
 // What the program writes in lines of words, as tables: the report, and the semaphores. Nothing here knows of the page.
+
+import { coded, counted, escaped, itemsOf } from "./html.js";
+import { linesOf } from "./texts.js";
 
 // A table with a caption for screen readers; its cells are HTML, and the first of each row is its head.
 function tableOf(caption, heads, rows) {
@@ -8,10 +10,8 @@ function tableOf(caption, heads, rows) {
     + `<tbody>${rows.map(row).join("")}</tbody></table>`;
 }
 
-const coded = text => `<code>${escaped(text)}</code>`;
-
 // The first of a list, and how many more there are.
-function firstOf(list, most, what, show) {
+export function firstOf(list, most, what, show) {
   const more = list.length > most ? `<p class="faint">and ${counted(list.length - most, `more ${what}`)}</p>` : "";
   return show(list.slice(0, most)) + more;
 }
@@ -21,18 +21,15 @@ function firstOf(list, most, what, show) {
 const STUCK = "nothing of it is live, and none of its operations can start";
 
 // Whether each resource is stuck, and who waits, by what `explain` says.
-function standingTables({ resources, waits }, most) {
+export function standingTables({ resources, waits }, most) {
   const stuck = list => tableOf("Resources", ["Resource", "Stuck for ever"],
     list.map(it => [coded(it.name), it.isStuck ? `<span class="no">yes</span>, ${STUCK}` : "no"]));
   const waiting = waits.length ? `<p class="no">All that is live waits.</p><ul class="why">${itemsOf(waits)}</ul>` : "";
   return (resources.length ? firstOf(resources, most, "resource", stuck) : "") + waiting;
 }
 
-// A list's items.
-const itemsOf = lines => lines.map(it => `<li>${escaped(it)}</li>`).join("");
-
 // What can start and what is live, by a report; `startOf` gives for an activation the line that started it, from 1.
-function nextTables(report, { operations, paths }, startOf, most) {
+export function nextTables(report, { operations, paths }, startOf, most) {
   const now = ({ name }) => {
     const path = report.blocked.get(name);
     return path === undefined ? [`<span class="yes">can start</span>`, ""]
@@ -49,7 +46,7 @@ function nextTables(report, { operations, paths }, startOf, most) {
 
 // A listing of paths: { path, resource, same, removed, values, operations }, each operation with its prologue and epilogue; `same` is the
 // earlier path that has the same tree, if there is one.
-function pathsIn(lines) {
+export function pathsIn(lines) {
   const paths = [];
   for (const line of lines) {
     const head = /^path (\d+) of (\w+)(?: same as (\d+))?$/.exec(line);
@@ -66,7 +63,7 @@ function pathsIn(lines) {
 }
 
 // The paths as they are trimmed, in what `compile` writes.
-function trimmedIn(text) {
+export function trimmedIn(text) {
   const lines = linesOf(text);
   return pathsIn(lines.slice(lines.indexOf("trimmed") + 1));
 }
@@ -90,10 +87,11 @@ const KINDS = { s: "semaphore", c: "counter", m: "mutex" };
 const valuesInWords = values => values.map(({ name, value }) => `${KINDS[name[0]]} ${name} opens with ${value}`).join(", ");
 
 // One path's semaphores.
-function pathTable({ path, resource, same, removed, values, operations }, text) {
+export function pathTable({ path, resource, same, removed, values, operations }, text) {
   const head = `<h3>Path ${path} of ${escaped(resource)}: ${coded(text)}</h3>`;
   if (same !== undefined) return `${head}<p class="faint">It says the same as path ${same}, which is asked first.</p>`;
-  const said = [values.length ? valuesInWords(values) : "", removed.length ? `trimmed: ${removed.join(", ")}` : ""].filter(it => it).join("; ");
+  const said = [values.length ? valuesInWords(values) : "",
+    removed.length ? `trimmed: ${removed.join(", ")}` : ""].filter(it => it).join("; ");
   const cell = terms => `${terms === "-" ? "" : coded(terms) + "<br>"}<span class="faint">${termsInWords(terms)}</span>`;
   const rows = operations.map(({ name, before, after }) => [coded(name), cell(before), cell(after)]);
   return `${head}${said ? `<p class="faint">${said}</p>` : ""}`

@@ -170,6 +170,8 @@ static void closed_ones(void) {
         record.live = true;
         CHECK(wanzoche_end(h, &record) == WANZOCHE_CLOSED && !record.live);
         CHECK(is(wanzoche_can_start(h, 0), WANZOCHE_CLOSED, 0));
+        CHECK(is(wanzoche_may_start(h, 0, 0, 0, NULL, 0, NULL, 0), WANZOCHE_CLOSED, 0));
+        CHECK(is(wanzoche_next(h, NULL, 0, NULL, 0), WANZOCHE_CLOSED, 0));
         CHECK(is(wanzoche_rotate(h), WANZOCHE_CLOSED, 0));
         uint64_t rotated = 5;
         CHECK(is(wanzoche_rotate_at(h, 0, &rotated), WANZOCHE_CLOSED, 0) && rotated == 5);
@@ -607,7 +609,7 @@ static void owed(void) {
     CHECK(is(wanzoche_start(&w, 1, 0), WANZOCHE_STARTED, 2) && is(wanzoche_owed_use(&w, 1, 2, WANZOCHE_PUT, 9), WANZOCHE_USED, 0));
     CHECK(is(wanzoche_owed_finish(&w, 1, 2), WANZOCHE_FINISHED, 0) && is(wanzoche_owed_finish(&w, 1, 9), WANZOCHE_STALE, 0));
     CHECK(wanzoche_lines(&w) == 5 && wanzoche_live(&w) == 3 && wanzoche_room_left(&w) == 8);
-    while (wanzoche_room_left(&w) > 0) wanzoche_use(&w, 1, 2, WANZOCHE_LOOK, 0);
+    while (wanzoche_room_left(&w) > 0) CHECK(wanzoche_use(&w, 1, 2, WANZOCHE_LOOK, 0).code == WANZOCHE_USED);
     CHECK(is(wanzoche_owed_start(&w, 1, 1), WANZOCHE_NO_ROOM, 0) && is(wanzoche_owed_use(&w, 1, 2, WANZOCHE_LOOK, 0), WANZOCHE_NO_ROOM, 0));
     CHECK(is(wanzoche_owed_finish(&w, 1, 9), WANZOCHE_NO_ROOM, 0) && is(wanzoche_owed_finish(&w, 1, 2), WANZOCHE_FINISHED, 0));
     wanzoche_close(&w);
@@ -623,8 +625,7 @@ static const char LINES[] = "1 start push: started 0\n2 start pop: blocked 0\n1 
 static bool agree(wanzoche *one, wanzoche *other) {
     static char texts[4][1024];
     CHECK(wanzoche_report(one, texts[0], 1024).code == WANZOCHE_WRITTEN && wanzoche_report(other, texts[1], 1024).code == WANZOCHE_WRITTEN);
-    wanzoche_journal(one, texts[2], 1024);
-    wanzoche_journal(other, texts[3], 1024);
+    CHECK(wanzoche_journal(one, texts[2], 1024).code == wanzoche_journal(other, texts[3], 1024).code);
     return !strcmp(texts[0], texts[1]) && !strcmp(texts[2], texts[3]);
 }
 
@@ -742,10 +743,42 @@ static void resumes_nothing_wrong(void) {
     wanzoche_close(&w);
 }
 
+/* Who may start, by those who wait, and who comes next: a reader reads, and a writer and a reader wait. */
+static void comes_next(opening opens) {
+    enum { READ, WRITE, LOCK, NONE };
+    static const char BOOK[] = "resource book cell operation read, write, lock path { read } , write end path lock end end";
+    wanzoche w = WANZOCHE_CLOSED_HANDLE;
+    wanzoche_waiter waiting[2] = {{WRITE, 0, 10, 0}, {READ, 0, 20, UINT64_MAX}};
+    const uint32_t running[1] = {READ}, unknown[1] = {NONE};
+    CHECK(is(opens(&w, BOOK, strlen(BOOK), 64, NULL, 0), WANZOCHE_OPENED, 0));
+    CHECK(is(wanzoche_start(&w, 1, READ), WANZOCHE_STARTED, 0));
+    const size_t lines = wanzoche_lines(&w);
+    CHECK(is(wanzoche_may_start(&w, READ, 0, 30, waiting, 2, running, 1), WANZOCHE_WITHHELD, 0));
+    CHECK(is(wanzoche_may_start(&w, READ, 1, 30, waiting, 2, running, 1), WANZOCHE_CAN_START, 0));
+    CHECK(is(wanzoche_may_start(&w, LOCK, 0, 30, waiting, 2, running, 1), WANZOCHE_CAN_START, 0));
+    CHECK(is(wanzoche_may_start(&w, WRITE, 1, 30, waiting, 2, running, 1), WANZOCHE_BLOCKED, 0));
+    CHECK(is(wanzoche_may_start(&w, READ, 0, 30, waiting, 2, NULL, 1), WANZOCHE_CAN_START, 0));
+    CHECK(is(wanzoche_may_start(&w, READ, 0, 30, NULL, 2, running, 1), WANZOCHE_CAN_START, 0));
+    CHECK(is(wanzoche_may_start(&w, NONE, 0, 30, waiting, 2, running, 1), WANZOCHE_UNKNOWN_OPERATION, 0));
+    CHECK(is(wanzoche_may_start(&w, READ, 0, 30, waiting, 2, unknown, 1), WANZOCHE_CAN_START, 0));
+    CHECK(is(wanzoche_next(&w, waiting, 2, running, 1), WANZOCHE_NOBODY, 0));
+    waiting[0].shut_at = 20;
+    CHECK(is(wanzoche_next(&w, waiting, 2, running, 1), WANZOCHE_NEXT, 1));
+    CHECK(is(wanzoche_may_start(&w, READ, 0, 20, waiting, 1, running, 1), WANZOCHE_CAN_START, 0));
+    CHECK(is(wanzoche_may_start(&w, READ, 0, 21, waiting, 1, running, 1), WANZOCHE_WITHHELD, 0));
+    CHECK(is(wanzoche_next(&w, NULL, 2, NULL, 1), WANZOCHE_NOBODY, 0));
+    CHECK(wanzoche_lines(&w) == lines && wanzoche_live(&w) == 1);
+    CHECK(is(wanzoche_finish(&w, 1, 0), WANZOCHE_FINISHED, 0));
+    CHECK(is(wanzoche_next(&w, waiting, 2, NULL, 0), WANZOCHE_NEXT, 0));
+    waiting[1].operation = NONE;
+    CHECK(is(wanzoche_next(&w, &waiting[1], 1, NULL, 0), WANZOCHE_NEXT, 0));
+    wanzoche_close(&w);
+}
+
 static void words(void) {
-    CHECK(!strcmp(wanzoche_words(WANZOCHE_BLOCKED), "blocked") && !strcmp(wanzoche_words(57), "no such code"));
+    CHECK(!strcmp(wanzoche_words(WANZOCHE_BLOCKED), "blocked") && !strcmp(wanzoche_words(60), "no such code"));
     CHECK(!strcmp(wanzoche_version(), WANZOCHE_VERSION));
-    for (uint32_t code = 0; code <= WANZOCHE_SCRIPT_TOO_MANY; code++)
+    for (uint32_t code = 0; code <= WANZOCHE_NOBODY; code++)
         CHECK((code > WANZOCHE_NO_JOURNAL && code < WANZOCHE_TOO_LONG) == !strcmp(wanzoche_words(code), "no such code"));
 }
 
@@ -774,6 +807,8 @@ int main(void) {
     takes_no_forged_line();
     resumes();
     resumes_nothing_wrong();
+    comes_next(wanzoche_open);
+    comes_next(wanzoche_open_without_journal);
     words();
     printf("calls: %d failures\n", failures);
     return failures != 0;

@@ -162,6 +162,45 @@ static wanzoche_answer takes_over(void) {
     return wanzoche_take_over(&w, "1 finish 0: finished\n", 21, NULL);
 }
 
+static const wanzoche_waiter WAITING[] = {{1, 0, 1, 0}, {0, 0, 2, 0}, {2, 0, 3, 0}};
+static const uint32_t RUNNING[] = {0};
+
+/* The answer of a call while one who runs deposits, who removes it then. */
+static wanzoche_answer while_one_deposits(wanzoche_answer (*call)(void)) {
+    wanzoche_answer runs = wanzoche_start(&w, 1, 0), a = call();
+    wanzoche_finish(&w, 1, runs.number);
+    runs = wanzoche_start(&w, 1, 1);
+    wanzoche_finish(&w, 1, runs.number);
+    wanzoche_rotate(&w);
+    return a;
+}
+
+static wanzoche_answer asks_whether_to_start(void) {
+    return wanzoche_may_start(&w, 2, 0, 9, WAITING, 3, RUNNING, 1);
+}
+
+static wanzoche_answer asks_who_is_next(void) {
+    return wanzoche_next(&w, WAITING, 3, RUNNING, 1);
+}
+
+static wanzoche_answer may_start(void) {
+    return while_one_deposits(asks_whether_to_start);
+}
+
+static wanzoche_answer next(void) {
+    return while_one_deposits(asks_who_is_next);
+}
+
+/* Once memory was had for it, neither of them asks for more. */
+static int asks_no_more(void) {
+    asked = 0;
+    left = 0;
+    int bad = may_start().code != WANZOCHE_CAN_START || next().code != WANZOCHE_NEXT || asked != 0;
+    left = -1;
+    if (bad) printf("who comes next asked for memory %ld times\n", asked);
+    return bad;
+}
+
 static int each_in_turn(const char *name, wanzoche_answer (*call)(void), uint32_t wanted) {
     long before = blocks;
     bool live = w.live;
@@ -189,6 +228,7 @@ int main(void) {
     bad |= steps_take_none(false);
     bad |= wanzoche_journal(&w, text, sizeof text).code != WANZOCHE_NO_JOURNAL || asked != 0;
     bad |= each_in_turn("report without a journal", reports, WANZOCHE_WRITTEN);
+    bad |= each_in_turn("next without a journal", next, WANZOCHE_NEXT) || asks_no_more();
     wanzoche_close(&w);
     bad |= each_in_turn("open", opens, WANZOCHE_OPENED);
     bad |= steps_take_none(true);
@@ -203,6 +243,7 @@ int main(void) {
     text[0] = 0;
     bad |= each_in_turn("explore", finds_none, WANZOCHE_ALL_DONE) || text[0] != 0;
     bad |= each_in_turn("explore a stall", finds_a_stall, WANZOCHE_STALLS) || strncmp(text, "journal 2 room 1048576\n", 23);
+    bad |= each_in_turn("may start", may_start, WANZOCHE_CAN_START) || asks_no_more();
     wanzoche_close(&w);
     bad |= each_in_turn("resume", resumes, WANZOCHE_OPENED);
     bad |= each_in_turn("take over", takes_over, WANZOCHE_TAKEN);

@@ -81,7 +81,20 @@ static int clock_of_test(clockid_t clock, struct timespec *now) {
 static bool is_taken;
 static int sleeps;
 
+/* While this is so, the first thread that gives way does so until the monitor is closed. */
+static bool gives_way_for_ever;
+
 static int yield_of_test(void) {
+    if (gives_way_for_ever) {
+        __atomic_store_n(&yields, 1, __ATOMIC_RELEASE);
+        for (bool open = true; open; sched_yield()) {
+            pthread_mutex_lock(&m.lock);
+            open = wanzoche_operations(&m.system) > 0;
+            pthread_mutex_unlock(&m.lock);
+        }
+        gives_way_for_ever = false;
+        return 0;
+    }
     if (!stands_still && !is_taken) return sched_yield();
     still.tv_nsec += 5000000;
     yields++;
@@ -138,6 +151,73 @@ static void time_limits(void) {
     deposit();
     pthread_join(t, NULL);
     wanzoche_monitor_close(&m);
+}
+
+/* What a thread that waits for a removal is answered. */
+static void *is_released(void *milliseconds) {
+    CHECK(wanzoche_enter(&m, 2, REMOVE, (int64_t)(intptr_t)milliseconds).code == WANZOCHE_CLOSED);
+    return NULL;
+}
+
+/* Who waits when the monitor is closed is released, with a limit and without, and who is inside finds it closed. */
+static void closed_while_others_wait(void) {
+    pthread_t t[6];
+    open_with(SLOT, 4096);
+    wanzoche_answer inside = wanzoche_enter(&m, 1, DEPOSIT, 0);
+    for (size_t n = 0; n < 6; n++) pthread_create(&t[n], NULL, is_released, (void *)(n % 2 ? (intptr_t)-1 : (intptr_t)600000));
+    until_waiting(6);
+    wanzoche_monitor_close(&m);
+    pthread_mutex_lock(&m.lock);
+    CHECK(m.waiting == 0 && m.blocked == 0);
+    pthread_mutex_unlock(&m.lock);
+    for (size_t n = 0; n < 6; n++) pthread_join(t[n], NULL);
+    CHECK(wanzoche_leave(&m, 1, inside.number).code == WANZOCHE_CLOSED);
+    CHECK(wanzoche_enter(&m, 1, DEPOSIT, -1).code == WANZOCHE_CLOSED);
+    wanzoche_monitor_close(&m);
+    open_with(SLOT, 4096);
+    deposit();
+    wanzoche_monitor_close(&m);
+}
+
+/* One that is closed while a thread gives way, before it sleeps: it doesn't go to sleep. */
+static void closed_while_one_gives_way(void) {
+    pthread_t t;
+    open_with(SLOT, 4096);
+    yields = 0;
+    gives_way_for_ever = true;
+    pthread_create(&t, NULL, is_released, (void *)(intptr_t)-1);
+    while (__atomic_load_n(&yields, __ATOMIC_ACQUIRE) == 0) sched_yield();
+    wanzoche_monitor_close(&m);
+    pthread_join(t, NULL);
+    CHECK(m.blocked == 0);
+}
+
+static void *goes_in_and_out(void *me) {
+    uint32_t worker = (uint32_t)(size_t)me;
+    for (;;) {
+        wanzoche_answer a = wanzoche_enter(&m, worker, worker % 2, worker % 3 ? -1 : 1);
+        if (a.code == WANZOCHE_CLOSED) return NULL;
+        CHECK(a.code == WANZOCHE_STARTED || a.code == WANZOCHE_BLOCKED || a.code == WANZOCHE_WITHHELD);
+        if (a.code == WANZOCHE_STARTED && wanzoche_leave(&m, worker, a.number).code == WANZOCHE_CLOSED) return NULL;
+    }
+}
+
+static void *closes(void *unused) {
+    wanzoche_monitor_close(&m);
+    return unused;
+}
+
+/* Two threads close a monitor in which six go in and out. */
+static void closed_by_two_among_callers(void) {
+    for (int n = 0; n < 30; n++) {
+        pthread_t t[8];
+        open_with(n % 2 ? SLOT : BOOK, 4096);
+        for (size_t k = 0; k < 6; k++) pthread_create(&t[k], NULL, goes_in_and_out, (void *)k);
+        for (int turns = 0; turns < n; turns++) sched_yield();
+        for (size_t k = 6; k < 8; k++) pthread_create(&t[k], NULL, closes, NULL);
+        for (size_t k = 0; k < 8; k++) pthread_join(t[k], NULL);
+        CHECK(m.waiting == 0 && m.blocked == 0);
+    }
 }
 
 /* A monitor that is closed or null answers so; one that can't be opened is closed. */
@@ -383,6 +463,9 @@ int main(int arguments, char **argument) {
         cancelled_inside();
         cancelled_in_the_log();
     }
+    closed_while_others_wait();
+    closed_while_one_gives_way();
+    closed_by_two_among_callers();
     readers_together();
     one_leave_for_three();
     handles_apart();

@@ -37,6 +37,7 @@ class Made(NamedTuple):
 
     object_file: bytes
     assembly: str
+    module: bytes  # LLVM's, as the toolchain's clang reads it
 
 
 class Toolchain:
@@ -47,7 +48,7 @@ class Toolchain:
         if rt is None:
             raise Failed("the toolchain's command rt isn't on the path; only with it can the assembly be made or checked")
         self._folder = os.path.dirname(os.path.dirname(os.path.realpath(rt)))
-        self._clang = os.path.join(self._folder, "toolchain", "bin", "clang")
+        self.clang = os.path.join(self._folder, "toolchain", "bin", "clang")
         sys.dont_write_bytecode = True
         sys.path.insert(0, os.path.join(self._folder, "bin"))
         import rtlib  # type: ignore[import]  # the toolchain's own
@@ -70,7 +71,9 @@ class Toolchain:
                 raise Failed(f"{name} isn't built for {processor.name}:\n{ran.stdout}")
             with open(os.path.join(folder, "module.s"), encoding="utf-8") as file:
                 assembly = file.read()
-            return Made(self._object_in(os.path.join(work, "made"), crate.is_program), assembly)
+            with open(os.path.join(folder, "module.bc"), "rb") as file:
+                module = file.read()
+            return Made(self._object_in(os.path.join(work, "made"), crate.is_program), assembly, module)
 
     def proved_object(self, name: str, processor: Processor) -> bytes:
         """The object file of a crate for a processor: what the gate has left, or else what is built now."""
@@ -85,7 +88,7 @@ class Toolchain:
         with tempfile.TemporaryDirectory() as work:
             made = os.path.join(work, "module.o")
             words = [f"--target={processor.target}", *processor.assembled, "--no-default-config", "-c", path, "-o", made]
-            ran = subprocess.run([self._clang, *words], stderr=subprocess.PIPE, text=True)
+            ran = subprocess.run([self.clang, *words], stderr=subprocess.PIPE, text=True)
             if ran.returncode:
                 raise Failed(f"{path} can't be assembled:\n{ran.stderr}")
             with open(made, "rb") as file:
@@ -116,7 +119,7 @@ class Toolchain:
                 os.symlink(os.path.join(inside, "bin", name), os.path.join(to, "bin", name))
         shutil.copy(os.path.join(HERE, "clang_twice"), os.path.join(to, "bin", "clang"))
         with open(os.path.join(to, "clang"), "w", encoding="utf-8") as file:
-            file.write(self._clang)
+            file.write(self.clang)
 
     def _object_in(self, made: str, is_program: bool) -> bytes:
         """A program's build leaves its object file, and a library's an archive of one."""
@@ -124,4 +127,4 @@ class Toolchain:
             with open(made, "rb") as file:
                 return file.read()
         words = ["llvm-ar", "p", made]
-        return subprocess.run(words, executable=self._clang, stdout=subprocess.PIPE, check=True).stdout
+        return subprocess.run(words, executable=self.clang, stdout=subprocess.PIPE, check=True).stdout

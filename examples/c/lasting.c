@@ -137,10 +137,8 @@ static void answer(wanzoche *slot, int file, const char *text) {
         return;
     }
     keep(file, line);
-    if (it.is_start)
-        wanzoche_start(slot, it.worker, it.operation);
-    else
-        wanzoche_finish(slot, it.worker, it.activation);
+    wanzoche_answer given = it.is_start ? wanzoche_start(slot, it.worker, it.operation) : wanzoche_finish(slot, it.worker, it.activation);
+    if (given.code != owed.code) fail("the attempt isn't what was owed");
     fputs(line, stdout);
     fflush(stdout);
 }

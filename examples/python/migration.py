@@ -56,7 +56,7 @@ def write(folder, name, text):
 
 def migrate(paths, folder):
     """Between its two steps the columns don't fit the row."""
-    with paths("migrate", timeout=60):
+    with paths("migrate", timeout=600):
         write(folder, "columns", "first, last")
         write(folder, "row", "Ada, Lovelace")
 

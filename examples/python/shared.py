@@ -41,7 +41,7 @@ def main():
         with multiprocessing.get_context("spawn").Pool(5) as pool:
             workers = [pool.apply_async(queries, (store, inside)) for _ in range(4)]
             saved = pool.apply_async(backup, (store, inside))
-            most, beside = max(each.get(60) for each in workers), saved.get(60)
+            most, beside = max(each.get(600) for each in workers), saved.get(600)
         with Paths(POOL, store=store) as paths:
             starts = [line.split()[2].rstrip(":") for line in paths.journal().splitlines() if " start " in line]
             print("{} queries, {} backup".format(starts.count("query"), starts.count("backup")))

@@ -43,7 +43,7 @@ def forked(folder):
 
 def maintain(folder):
     """Changes the site in two steps, between which nobody may see it."""
-    with Paths(SITE, store=os.path.join(folder, "site.log")) as paths, paths("maintain", timeout=60):
+    with Paths(SITE, store=os.path.join(folder, "site.log")) as paths, paths("maintain", timeout=600):
         for text in ("half", "new"):
             with open(os.path.join(folder, "version"), "w") as file:
                 file.write(text)

@@ -1,37 +1,35 @@
 #!/bin/sh
-# Stages of a delivery as commands that know nothing of each other: both tests run behind the build, beside each other, and the deployment
-# behind both. They are begun in the wrong order here, and the paths put them into the right one. A stage that fails has ended, too, so each
-# looks for what those before it have made. `wanzoche` is the command of the Python package; the variable WANZOCHE names another way to run
-# it.
+# Stages of a delivery as commands that know nothing of each other. The paths say that the tests run behind a build that succeeded, and the
+# deployment behind tests that succeeded; behind a failure the next build begins. The stages are begun in the wrong order here, and the paths
+# put them into the right one: the first build fails, the tests of the second one do, and the third is deployed. `wanzoche` is the command of
+# the Python package; the variable WANZOCHE names another way to run it.
 set -eu
 wanzoche=${WANZOCHE:-wanzoche}
 folder=$(mktemp -d)
 trap 'rm -rf "$folder"' EXIT
 cat > "$folder/stages.path" << 'END'
 resource delivery cell
-operation build, unit, integration, deploy
-path build ; unit ; deploy end
-path build ; integration ; deploy end
+operation build, built, broken, test, tested, failed, deploy
+path build ; ((built ; test ; ((tested ; deploy) , failed)) , broken) end
 end
 END
 
-# Runs a stage when its turn has come. The store and the declaration are the same for all.
-stage() {
-    name=$1
-    shift
-    $wanzoche exec --store "$folder/stages.log" --declaration "$folder/stages.path" --timeout 60 "$name" -- "$@"
-}
+# Runs a command as a stage when its turn has come. The store and the declaration are the same for all.
+as() { $wanzoche exec --store "$folder/stages.log" --declaration "$folder/stages.path" --timeout 600 "$@"; }
 
-stage deploy sh -c 'grep -q unit "$1/tested" && grep -q integration "$1/tested" && echo "deployed behind both tests"' sh "$folder" &
-stage unit sh -c 'test -e "$1/built" && echo unit >> "$1/tested"' sh "$folder" &
-stage integration sh -c 'test -e "$1/built" && echo integration >> "$1/tested"' sh "$folder" &
-stage build sh -c 'sleep 0.2; touch "$1/built"; echo built' sh "$folder" &
+as deploy -- sh -c 'echo "build $(cat "$1/build") is deployed"' sh "$folder" &
+for tests in 1 2; do
+    as --passed tested --failed failed test -- sh -c '
+        build=$(cat "$1/build")
+        test "$build" != 2 || { echo "build $build fails its tests"; exit 1; }
+        echo "build $build passes its tests"' sh "$folder" || true
+done &
+for build in 1 2 3; do
+    as --passed built --failed broken build -- sh -c '
+        test "$2" != 1 || { echo "build $2 fails"; exit 1; }
+        echo "$2" > "$1/build"
+        echo "build $2 is built"' sh "$folder" "$build" || true
+done
 wait
-
-# Before the next build nothing else may run.
-stage unit true &
-unit=$!
 $wanzoche status --store "$folder/stages.log" | head -n 1
-stage build true
-wait "$unit"
 echo "the journal: $($wanzoche audit --store "$folder/stages.log")"

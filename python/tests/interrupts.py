@@ -4,12 +4,16 @@ import contextlib
 import faulthandler
 import gc
 import os
+import random
+import signal
 import sys
 import threading
 import types
 import warnings
 
 import wanzoche
+
+from .limits import LONGEST
 
 _PACKAGE = os.path.dirname(wanzoche.__file__)
 
@@ -20,6 +24,59 @@ class Interrupt(BaseException):
 
 def interrupt():
     raise Interrupt
+
+
+class Alarms:
+    """Real signals that cut a call of the main thread off, as Ctrl-C does, however late the machine brings them. One raises `Interrupt`
+    within the call, and does nothing before it, behind it, or where an interrupt is being handled."""
+
+    def __init__(self, test):
+        self._is_calling = False
+        before = signal.signal(signal.SIGALRM, self._come)
+        test.addCleanup(signal.signal, signal.SIGALRM, before)
+        test.addCleanup(signal.setitimer, signal.ITIMER_REAL, 0)
+
+    def _come(self, *_):
+        if self._is_calling and not isinstance(sys.exc_info()[1], Interrupt):
+            raise Interrupt
+
+    def cut_off(self, call, soonest, latest):
+        """Calls again and again until one is cut off, by a signal that comes after so many seconds."""
+        try:
+            self._is_calling = True
+            # Once more after a while: Python sleeps on if a signal comes just before it goes to sleep, and a finalizer hands nothing on.
+            signal.setitimer(signal.ITIMER_REAL, random.uniform(soonest, latest), 0.5)
+            while True:
+                call()
+        except Interrupt:
+            self._is_calling = False
+        finally:
+            self._is_calling = False
+            signal.setitimer(signal.ITIMER_REAL, 0)
+
+    def cut_off_waiting(self, call, waits):
+        """Calls once, and cuts that off when it waits, as `waits` tells another thread. Whether it was cut off."""
+        is_over, main = threading.Event(), threading.get_ident()
+
+        def sends():
+            while not is_over.wait(0.001):
+                if waits():
+                    signal.pthread_kill(main, signal.SIGALRM)
+                    is_over.wait(0.5)
+
+        thread = threading.Thread(target=sends)
+        thread.start()
+        try:
+            self._is_calling = True
+            call()
+            return False
+        except Interrupt:
+            self._is_calling = False
+            return True
+        finally:
+            self._is_calling = False
+            is_over.set()
+            thread.join()
 
 
 class _Countdown:
@@ -137,9 +194,9 @@ def may_leave_unused(test):
 
 
 @contextlib.contextmanager
-def no_longer_than(seconds):
-    """Ends the process with a traceback of all threads if the block takes longer: it hangs."""
-    faulthandler.dump_traceback_later(seconds, exit=True)
+def ends_a_hang():
+    """Ends the process with a traceback of all threads if the block takes far longer than any test."""
+    faulthandler.dump_traceback_later(4 * LONGEST, exit=True)
     try:
         yield
     finally:

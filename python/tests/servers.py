@@ -13,12 +13,15 @@ import subprocess
 import tempfile
 import time
 import unittest
-import warnings
 
-from wanzoche import Paths
+from wanzoche import Paths, _served
+
+from .limits import LONGEST
+from .stores import OverAStore
 
 NEEDED = os.environ.get("WANZOCHE_POSTGRESQL") == "needed"
 """Whether a server that can't be had is a failure."""
+_served.OPENING = LONGEST
 SETTINGS = {
     "fsync": "off",  # what a killed server has written is there when it is started again: only the machine may not fall
     "full_page_writes": "off",
@@ -115,7 +118,7 @@ class Server:
             words += ["-c", "{}={}".format(name, value)]
         with open(self.folder + "/log", "ab") as log:
             self._process = subprocess.Popen(words, cwd="/", preexec_fn=self._become, stdin=subprocess.DEVNULL, stdout=log, stderr=log)
-        until = time.monotonic() + 60
+        until = time.monotonic() + LONGEST
         ready = [os.path.join(self._bin, "pg_isready"), "-q", "-h", self.folder, "-p", str(self.port)]
         while subprocess.run(ready).returncode:
             if self._process.poll() is not None:
@@ -138,6 +141,11 @@ class Server:
             except ProcessLookupError:
                 pass
         self._process.wait()
+
+    def stop_writing(self):
+        """From now on until it is killed nothing gets to the disk for which nobody waits."""
+        ((pid,),) = self.run("select pid from pg_stat_activity where backend_type = 'walwriter'")
+        os.kill(pid, signal.SIGSTOP)
 
     def run(self, text, *values):
         """The rows of a statement."""
@@ -175,50 +183,23 @@ def new_name():
     return "log {} of {}".format(next(_names), os.getpid())
 
 
-class OnServer:
+SHORT_GRACE = 0.5
+"""For tests of the dead. In all others nobody is taken for dead, however long it is before a session comes back."""
+
+
+class OnServer(OverAStore):
     """For a TestCase: a log, and openings of it."""
 
-    grace = 0.5
+    grace = float(LONGEST)
 
     def setUp(self):
         super().setUp()
-        quiet = warnings.catch_warnings()
-        quiet.__enter__()
-        self.addCleanup(quiet.__exit__, None, None, None)
-        warnings.simplefilter("ignore", ResourceWarning)  # of entries that are dropped when something fails
         self.server = the_server()
         self.name = new_name()
 
     def made(self, text, **options):
         """Paths that nobody closes."""
         return Paths(text, store=options.pop("store", self.server.url), name=self.name, **{"grace": self.grace, **options})
-
-    def open(self, text, **options):
-        paths = self.made(text, **options)
-        self.addCleanup(paths.close)
-        return paths
-
-    def child(self, work):
-        """Begins a process that does this, and dies by SIGKILL behind it: its number."""
-        child = os.fork()
-        if child:
-            return child
-        try:
-            work()
-        except BaseException as error:
-            print("in a child: {}: {}".format(type(error).__name__, error), flush=True)
-        os.kill(os.getpid(), signal.SIGKILL)
-
-    def dies(self, work):
-        """The same, and waits until it is dead."""
-        os.waitpid(self.child(work), 0)
-
-    def until(self, condition, seconds=20):
-        """Waits until something holds."""
-        end = time.monotonic() + seconds
-        while not condition():
-            self.assertLess(time.monotonic(), end, "it never comes")
-            time.sleep(0.002)
 
     def lines(self):
         """The lines of the log, as they stand in the table."""

@@ -9,6 +9,8 @@ import warnings
 
 from wanzoche import Paths
 
+from .limits import LONGEST
+
 THOROUGH = not os.environ.get("WANZOCHE_FEWER")
 """Whether tests that take long are made, too."""
 
@@ -22,8 +24,11 @@ def only_in_python(store):
     store._is_ready = False
 
 
-class InFolder:
-    """For a TestCase: a folder, and openings of stores in it."""
+class OverAStore:
+    """For a TestCase: processes that open a store, and die."""
+
+    grace = 0.0
+    """So many seconds one who is dead is taken for alive."""
 
     def setUp(self):
         super().setUp()
@@ -31,20 +36,12 @@ class InFolder:
         quiet.__enter__()
         self.addCleanup(quiet.__exit__, None, None, None)
         warnings.simplefilter("ignore", ResourceWarning)  # of entries that are dropped when something fails
-        folder = tempfile.TemporaryDirectory(prefix="wanzoche-")
-        self.addCleanup(folder.cleanup)
-        self.folder = folder.name
-        self.file = os.path.join(self.folder, "door.log")
 
     def open(self, text, **options):
-        paths = Paths(text, store=self.file, **options)
+        """Paths that are closed when the test is over."""
+        paths = self.made(text, **options)
         self.addCleanup(paths.close)
         return paths
-
-    def text(self):
-        """What stands in the file."""
-        with open(self.file, "rb") as file:
-            return file.read()
 
     def child(self, work):
         """Begins a process that does this, and dies by SIGKILL behind it: its number."""
@@ -61,12 +58,36 @@ class InFolder:
         """The same, and waits until it is dead."""
         os.waitpid(self.child(work), 0)
 
-    def until(self, condition, seconds=20):
+    def until(self, condition, seconds=LONGEST):
         """Waits until something holds."""
         end = time.monotonic() + seconds
         while not condition():
             self.assertLess(time.monotonic(), end, "it never comes")
             time.sleep(0.001)
+
+
+class InFolder(OverAStore):
+    """For a TestCase: a folder, and openings of stores in it."""
+
+    def setUp(self):
+        super().setUp()
+        folder = tempfile.TemporaryDirectory(prefix="wanzoche-")
+        self.addCleanup(folder.cleanup)
+        self.folder = folder.name
+        self.file = os.path.join(self.folder, "door.log")
+
+    def made(self, text, **options):
+        """Paths that nobody closes."""
+        return Paths(text, store=self.file, **options)
+
+    def text(self):
+        """What stands in the file."""
+        with open(self.file, "rb") as file:
+            return file.read()
+
+    def lines(self):
+        """The lines of the journal, as they stand in the file, without their marks."""
+        return [line.lstrip("+") for line in self.text().decode().splitlines()[1:]]
 
     def as_another(self, work, *groups):
         """The same as another user with these groups, where that can be: only root can. The user may write to the folder."""

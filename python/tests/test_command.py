@@ -8,9 +8,11 @@ import time
 import unittest
 
 from wanzoche import Paths
+from wanzoche._executing import TELLS
 
+from .commands import OnCommand, running
 from .declarations import BOOK, SLOT
-from .stores import InFolder
+from .limits import LONGEST
 
 SAYS_HELLO = """
 import os, sys
@@ -28,23 +30,7 @@ sys.exit(4)
 """
 
 
-class Commands(InFolder, unittest.TestCase):
-    def setUp(self):
-        super().setUp()
-        self.declaration = os.path.join(self.folder, "book.path")
-        with open(self.declaration, "w") as file:
-            file.write(BOOK)
-
-    def words(self, command, *words):
-        return [sys.executable, "-m", "wanzoche", command, "--store", self.file] + list(words)
-
-    def runs(self, command, *words):
-        """What it writes, what it writes on standard error, and its status."""
-        ended = subprocess.run(
-            self.words(command, *words), stdin=subprocess.DEVNULL, stdout=subprocess.PIPE, stderr=subprocess.PIPE, timeout=60
-        )
-        return ended.stdout.decode(), ended.stderr.decode(), ended.returncode
-
+class Commands(OnCommand, unittest.TestCase):
     def test_a_command_as_an_operation(self):
         words = ["--declaration", self.declaration, "--token-env", "TOKEN", "write", "--", "sh", "-c", "echo $TOKEN; exit 7"]
         self.assertEqual(self.runs("exec", *words), ("0\n", "", 7))
@@ -74,7 +60,7 @@ class Commands(InFolder, unittest.TestCase):
 
     def test_who_waits_is_told_so_on_a_terminal(self):
         paths = self.open(BOOK)
-        words = self.words("exec", "--timeout", "20", "read", "--", "echo", "hello")
+        words = self.words("exec", "--timeout", str(LONGEST), "read", "--", "echo", "hello")
         try:
             ours, theirs = os.openpty()
         except OSError:
@@ -89,10 +75,11 @@ class Commands(InFolder, unittest.TestCase):
                 why = "^wanzoche: waiting: read is blocked: path 0 of book: .*; in progress: write by process 1 [(]process 1 is {}[)]\r\n$"
                 self.assertRegex(told.decode(), why.format(os.getpid()))
                 paths._store.finish(paths._store.held[0])
-                self.assertEqual((process.stdout.read(), process.wait(60)), (b"hello\n", 0))
+                self.assertEqual((process.stdout.read(), process.wait(LONGEST)), (b"hello\n", 0))
             with subprocess.Popen(words, stdin=subprocess.DEVNULL, stdout=subprocess.PIPE, stderr=subprocess.PIPE) as process:
                 with paths("write"):
-                    time.sleep(1.5)
+                    self.until(lambda: paths._store._beside.waiting[0])
+                    time.sleep(1.5 * TELLS)
                 self.assertEqual((process.stdout.read(), process.stderr.read()), (b"hello\n", b""))
 
     def test_signals_are_handed_on(self):
@@ -101,7 +88,7 @@ class Commands(InFolder, unittest.TestCase):
         with subprocess.Popen(words, stdin=subprocess.DEVNULL, stdout=subprocess.PIPE) as process:
             self.assertEqual(process.stdout.readline(), b"ready\n")
             process.send_signal(signal.SIGTERM)
-            self.assertEqual((process.stdout.read(), process.wait(60)), (b"caught\n", 3))
+            self.assertEqual((process.stdout.read(), process.wait(LONGEST)), (b"caught\n", 3))
         self.assertEqual(self.open(BOOK).report().live, ())
 
     def test_a_command_outlives_who_runs_it(self):
@@ -110,20 +97,12 @@ class Commands(InFolder, unittest.TestCase):
         with subprocess.Popen(words, stdin=subprocess.PIPE, stdout=subprocess.PIPE) as process:
             self.assertEqual(process.stdout.readline(), b"ready\n")
             process.kill()
-            process.wait(60)
+            process.wait(LONGEST)
             paths = self.open(BOOK)
             self.assertIsNone(paths.try_enter("read"))
             process.stdin.close()
             process.stdout.read()  # until it has ended
-        paths.enter("read", timeout=20).leave()
-
-    def runs_without(self, streams, command, *words):
-        """The same where these of the streams 0 to 2 are closed."""
-        ended = subprocess.run(
-            self.words(command, *words), stdin=subprocess.DEVNULL, stdout=subprocess.PIPE, stderr=subprocess.PIPE, timeout=60,
-            preexec_fn=lambda: [os.close(stream) for stream in streams],
-        )  # fmt: skip
-        return ended.stdout.decode(), ended.stderr.decode(), ended.returncode
+        paths.enter("read", timeout=LONGEST).leave()
 
     def test_streams_that_are_closed(self):
         """They are closed for the command, too. No file of the store takes their place: what is written there would stand in it."""
@@ -151,8 +130,22 @@ class Commands(InFolder, unittest.TestCase):
         for command in (["status"], ["log"], ["audit"], ["watch"], ["operations"], ["recover", "1"]):
             self.assertEqual(self.runs_without((1,), *command), ("", "wanzoche: standard output is closed\n", 1))
         with open("/dev/full", "w") as full:
-            ended = subprocess.run(self.words("log"), stdout=full, stderr=subprocess.PIPE, timeout=60)
+            ended = subprocess.run(self.words("log"), stdout=full, stderr=subprocess.PIPE, timeout=LONGEST)
         self.assertEqual((ended.stderr, ended.returncode), (b"wanzoche: standard output: No space left on device\n", 1))
+
+    def test_a_reader_that_has_enough(self):
+        """What it doesn't read isn't lost without a word, also where Python doesn't buffer."""
+        paths = self.open(BOOK, sync=False)
+        for _ in range(4000):
+            paths.enter("read").leave()
+        for unbuffered in ("", "1"):
+            environment = {**os.environ, "PYTHONUNBUFFERED": unbuffered}
+            with running(self.words("log"), stdout=subprocess.PIPE, stderr=subprocess.PIPE, env=environment) as process:
+                self.assertEqual(process.stdout.read(8), b"1 start ")
+                process.stdout.close()
+                self.assertEqual((process.stderr.read(), process.wait(LONGEST)), (b"", 128 + signal.SIGPIPE))
+            ended = subprocess.run(self.words("log"), stdout=subprocess.PIPE, env=environment, timeout=LONGEST)
+            self.assertEqual(ended.stdout.decode(), paths.journal())
 
     def test_a_store_by_another_name(self):
         """A symbolic link is the same store, also in another folder."""
@@ -198,7 +191,7 @@ class Commands(InFolder, unittest.TestCase):
                 self.assertIn(b"start write", process.stdout.readline())
                 self.assertIn(b"finished", process.stdout.readline())
             process.send_signal(signal.SIGINT)
-            self.assertEqual(process.wait(60), 128 + signal.SIGINT)
+            self.assertEqual(process.wait(LONGEST), 128 + signal.SIGINT)
 
     def test_commands_that_cannot_be_run(self):
         """As in a shell: 126 for a file that may not be run, 127 where none is found, whatever else stands in PATH."""
@@ -216,16 +209,16 @@ class Commands(InFolder, unittest.TestCase):
     def test_operations(self):
         """Of a declaration or of a store, which isn't opened for that: no number is given."""
         words = [sys.executable, "-m", "wanzoche", "operations", "--declaration", self.declaration]
-        self.assertEqual(subprocess.run(words, stdout=subprocess.PIPE, timeout=60, check=True).stdout, b"read\nwrite\n")
-        self.assertEqual(os.listdir(self.folder), ["book.path"])
+        self.assertEqual(subprocess.run(words, stdout=subprocess.PIPE, timeout=LONGEST, check=True).stdout, b"read\nwrite\n")
+        self.assertEqual(os.listdir(self.folder), ["declaration.path"])
         self.open(BOOK)
         self.assertEqual(self.runs("operations"), ("read\nwrite\n", "", 0))
         self.assertEqual(self.open(BOOK).worker, "process 2")
-        told = subprocess.run(words[:4], stderr=subprocess.PIPE, timeout=60)
+        told = subprocess.run(words[:4], stderr=subprocess.PIPE, timeout=LONGEST)
         self.assertEqual((told.stderr, told.returncode), (b"wanzoche: --store or --declaration is wanted\n", 1))
         with open(self.declaration, "w") as file:
             file.write("resource")
-        told = subprocess.run(words, stderr=subprocess.PIPE, timeout=60)
+        told = subprocess.run(words, stderr=subprocess.PIPE, timeout=LONGEST)
         self.assertEqual((told.stderr[:33], told.returncode), (b"wanzoche: unexpected in line 1, c", 1))
 
     def test_faults(self):
@@ -236,7 +229,7 @@ class Commands(InFolder, unittest.TestCase):
             self.assertEqual(self.runs("exec", "--declaration", self.declaration, *words)[::2], ("", 125))
         self.assertEqual(self.runs("exec", "--declaration", "none.path", "read", "--", "true")[1:], (
             "wanzoche: none.path: No such file or directory\n", 125))  # fmt: skip
-        self.assertEqual(sorted(os.listdir(self.folder)), ["book.path"])
+        self.assertEqual(sorted(os.listdir(self.folder)), ["declaration.path"])
         self.assertEqual(self.runs("exec", "--declaration", self.declaration, "read", "--", "no-such-command")[2], 127)
         self.assertEqual(self.runs("exec", "read", "--", self.folder)[2], 126)
         self.assertEqual(self.runs("exec", "read", "--", os.path.join(self.folder, "no-such-command"))[2], 127)

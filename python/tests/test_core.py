@@ -19,7 +19,8 @@ from wanzoche._form import core
 from wanzoche._waiting import ThreadWaiter
 
 from .declarations import BOOK, SLOT
-from .interrupts import Interrupt, at_instruction, each_instruction, interrupt, may_leave_unused, no_longer_than
+from .interrupts import Interrupt, at_instruction, each_instruction, ends_a_hang, interrupt, may_leave_unused
+from .limits import LONGEST
 
 try:
     import _testcapi
@@ -39,7 +40,7 @@ def lacking_memory(first, last):
 
 class Cores(unittest.TestCase):
     def setUp(self):
-        guard = no_longer_than(30)
+        guard = ends_a_hang()
         guard.__enter__()
         self.addCleanup(guard.__exit__, None, None, None)
 
@@ -101,7 +102,7 @@ class Callers(Cores):
             if paths.report().live and "write" in [each.operation for each in paths.report().live]:
                 entry.leave()  # it was cut off before its finish, as the form in Python can be
             for reader in readers:
-                reader.join(20)
+                reader.join(LONGEST)
                 self.assertFalse(reader.is_alive(), "a turn was lost before instruction {}".format(number))
             self.nothing_is_left(paths)
             if not more:
@@ -167,7 +168,7 @@ class Waits(Cores):
             except Interrupt as error:
                 self.assertIsNotNone(error.__traceback__)
                 for thread in (writer, *others):
-                    thread.join(20)
+                    thread.join(LONGEST)
                     self.assertFalse(thread.is_alive(), "a turn was lost")
                 self.nothing_is_left(paths)
                 self.assertEqual((paths.journal().count("finished"), cut_off), (3, []))
@@ -178,7 +179,7 @@ class Waits(Cores):
         return thread
 
     def ends(self, thread):
-        thread.join(20)
+        thread.join(LONGEST)
         self.assertFalse(thread.is_alive(), "a turn was lost")
 
     def test_one_that_is_cut_off_as_it_makes_room_is_undone_and_others_are_woken(self):
@@ -224,12 +225,14 @@ class Waits(Cores):
         first, wait = paths.enter("write"), ThreadWaiter.wait
 
         def woken_late(waiter):
-            wait(waiter)
-            if not quicker:
+            if quicker:
+                quicker[0].leave()
+                wait(waiter)
+            else:
+                first.leave()
+                wait(waiter)
                 quicker.append(paths.enter("write"))
 
-        threading.Timer(0.05, first.leave).start()
-        threading.Timer(0.2, lambda: quicker[0].leave()).start()
         with mock.patch.object(ThreadWaiter, "wait", woken_late):
             with paths("write") as entry:
                 self.assertEqual(entry.activation, 2)
@@ -243,11 +246,11 @@ class Waits(Cores):
         wait = ThreadWaiter.wait
 
         def entered_meanwhile(waiter):
+            write.leave()
             wait(waiter)
             with mock.patch.object(ThreadWaiter, "wait", wait):
                 entry.__enter__()
 
-        threading.Timer(0.05, write.leave).start()
         with mock.patch.object(ThreadWaiter, "wait", entered_meanwhile):
             with self.assertRaisesRegex(RuntimeError, "^this entry of read is in progress already$"):
                 entry.__enter__()
@@ -281,7 +284,7 @@ class Waits(Cores):
             with self.assertRaises(Interrupt) as caught:
                 entry.leave()
             self.assertEqual(caught.exception.args, (1,))
-            reader.join(20)
+            reader.join(LONGEST)
         self.assertFalse(reader.is_alive())
         self.nothing_is_left(paths)
 
@@ -473,7 +476,7 @@ class Circles(Cores):
                 entries.pop()
                 self.assertEqual(str(sys.exc_info()[1]), "not lost")
         self.assertEqual(told, [ResourceWarning])
-        reader.join(20)
+        reader.join(LONGEST)
         self.assertFalse(reader.is_alive())
 
     def test_a_drop_that_is_cut_off_wakes_others_all_the_same(self):
@@ -494,7 +497,7 @@ class Circles(Cores):
             with mock.patch.object(sys, "unraisablehook", lambda what: told.append(what.exc_type)), warnings.catch_warnings():
                 warnings.simplefilter("ignore")
                 entries.pop()
-            reader.join(20)
+            reader.join(LONGEST)
         self.assertFalse(reader.is_alive())
         self.assertIn(told, ([], [Interrupt]))
 
@@ -692,10 +695,10 @@ class BadInput(Cores):
             lambda: core.Calls(1),
             lambda: core.Calls("", 1, 1, 1, handle),
             lambda: bare._set_up(),
-            lambda: bare._set_up(paths._calls, [], queues, queues.due, Entry),
-            lambda: bare._set_up(paths._calls, {}, queues, [], Entry),
-            lambda: bare._set_up(paths._calls, {}, queues, queues.due, int),
-            lambda: bare._set_up(handle, {}, queues, queues.due, Entry),
+            lambda: bare._set_up(paths._calls, [], queues, queues.due, Entry, True),
+            lambda: bare._set_up(paths._calls, {}, queues, [], Entry, True),
+            lambda: bare._set_up(paths._calls, {}, queues, queues.due, int, True),
+            lambda: bare._set_up(handle, {}, queues, queues.due, Entry, True),
             lambda: entry._begin("one"),
             lambda: paths._calls.is_blocked(None),
         )
@@ -732,7 +735,7 @@ class Forms(unittest.TestCase):
     def told(self, choice, program):
         environment = dict(os.environ, WANZOCHE_CORE=choice, PYTHONPATH=os.path.dirname(os.path.dirname(wanzoche.__file__)))
         words, piped = [sys.executable, "-c", program], subprocess.PIPE
-        return subprocess.run(words, stdout=piped, stderr=subprocess.STDOUT, env=environment, timeout=60).stdout.decode()
+        return subprocess.run(words, stdout=piped, stderr=subprocess.STDOUT, env=environment, timeout=LONGEST).stdout.decode()
 
     def test_none(self):
         self.assertEqual(self.told("none", "from wanzoche._form import core; print(core)"), "None\n")

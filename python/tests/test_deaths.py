@@ -9,6 +9,7 @@ from contextlib import contextmanager
 
 from wanzoche import Timeout
 
+from .limits import LONGEST
 from .stores import InFolder
 
 NESTED = """resource pool cell
@@ -33,12 +34,9 @@ path { read } , swap end
 end
 """
 
-SOON = 10
-"""Seconds within which somebody who waits gets in; it takes a tenth of one until a death is seen."""
-
 
 @contextmanager
-def connection(paths, timeout=SOON):
+def connection(paths, timeout=LONGEST):
     """A query behind the door."""
     with paths("admit", timeout=timeout):
         query = paths.enter("query", timeout)
@@ -49,7 +47,7 @@ def connection(paths, timeout=SOON):
 
 
 @contextmanager
-def maintenance(paths, timeout=SOON):
+def maintenance(paths, timeout=LONGEST):
     with paths("announce", timeout=timeout), paths("maintain", timeout=timeout):
         yield
 
@@ -101,7 +99,7 @@ class Doors(Dies, unittest.TestCase):
                 self.assertFalse(entered.is_set())
                 os.kill(child, 9)
                 os.waitpid(child, 0)
-                thread.join(SOON)
+                thread.join(LONGEST)
                 self.assertTrue(entered.is_set())
                 self.all_get_in(paths)
 
@@ -110,7 +108,7 @@ class Doors(Dies, unittest.TestCase):
         paths = self.open(text, sync=False)
         held = [paths.enter(each) for each in operations]
         os.write(told, b".")
-        time.sleep(60)
+        time.sleep(4 * LONGEST)
         del held, other
 
     def test_whoever_dies_between_two_in_turn(self):
@@ -131,12 +129,12 @@ class Mended(Dies, unittest.TestCase):
     """`load` and `swap` in turn: whoever has `refresh` is alone, and drops what one that died has left."""
 
     def refresh(self, paths, dies_behind=None):
-        with paths("refresh", timeout=SOON):
+        with paths("refresh", timeout=LONGEST):
             left = paths.try_enter("drop")
             if left:
                 left.leave()
             for each in ("load", "swap"):
-                with paths(each, timeout=SOON):
+                with paths(each, timeout=LONGEST):
                     if dies_behind == "in " + each:
                         os.kill(os.getpid(), 9)
                 if dies_behind == each:
@@ -148,7 +146,7 @@ class Mended(Dies, unittest.TestCase):
         for place, is_mended in (("in load", True), ("load", True), ("in swap", False), ("swap", False)):
             with self.subTest(place=place):
                 self.dies(lambda: self.refresh(self.open(TABLE, sync=False), place))
-                with paths("read", timeout=SOON):
+                with paths("read", timeout=LONGEST):
                     pass
                 self.assertEqual(self.refresh(paths), is_mended)
                 self.assertFalse(self.refresh(paths))

@@ -4,6 +4,8 @@ import subprocess
 import sys
 import unittest
 
+from .limits import LONGEST
+
 BUSY = """
 import threading, time
 from wanzoche import Paths
@@ -28,7 +30,7 @@ time.sleep(0.02)
 
 class Exits(unittest.TestCase):
     def exits(self, program):
-        ended = subprocess.run([sys.executable, "-c", program], stdout=subprocess.PIPE, stderr=subprocess.STDOUT, timeout=60)
+        ended = subprocess.run([sys.executable, "-c", program], stdout=subprocess.PIPE, stderr=subprocess.STDOUT, timeout=LONGEST)
         self.assertEqual((ended.returncode, ended.stdout), (0, b""))
 
     def test_daemon_threads_that_are_busy(self):

@@ -5,13 +5,14 @@ import pickle
 import subprocess
 import sys
 import threading
-import time
 import unittest
+from unittest import mock
 
 import wanzoche
 from wanzoche import DeclarationError, Exploration, ScriptError, explore
 
 from .interrupts import each_instruction, interrupt
+from .limits import LONGEST
 
 LOCKS = "resource a cell operation x path x end end resource b queue 1 operation y path y end end"
 
@@ -25,6 +26,50 @@ CROSSWISE = ONE + process("q", "enter y", "enter x", "leave", "leave")
 # Nine processes that never wait for each other have 21 to the ninth states.
 FREE = "resource r cell operation a end"
 MANY = "".join(process("p{}".format(n), *["enter a", "leave"] * 10) for n in range(9))
+# Comes by twice, between which the search has worked, and goes on. If it kept the lock, this thread would come by only before and behind it.
+WATCHED = """
+import os, threading, time, wanzoche
+
+def work():
+    return time.process_time() - time.thread_time()  # the processor time of the other thread
+
+search = threading.Thread(target=wanzoche.explore, args=({!r}, {!r}, 3000000), daemon=True)
+search.start()
+first = None
+while search.is_alive():
+    first = work() if first is None and work() > 0.1 else first
+    if first is not None and work() > first + 0.1 and search.is_alive():
+        print("came by", flush=True)
+        os._exit(0)
+    time.sleep(0.001)
+"""
+# Sends Ctrl-C when the search has begun, and again until it was seen: Python sleeps on if a signal comes just before it goes to sleep.
+INTERRUPTED = """
+import os, signal, threading, time, wanzoche
+seen = threading.Event()
+
+def comes(*_):
+    if not seen.is_set():
+        seen.set()
+        raise KeyboardInterrupt
+
+def searches():
+    return sum(each.name == "wanzoche.explore" for each in threading.enumerate())
+
+def sends():
+    while not searches():
+        time.sleep(0.001)
+    while not seen.is_set():
+        os.kill(os.getpid(), signal.SIGINT)
+        seen.wait(1)
+
+signal.signal(signal.SIGINT, comes)
+threading.Thread(target=sends, daemon=True).start()
+try:
+    wanzoche.explore({!r}, {!r}, most=3000000)
+except KeyboardInterrupt:
+    print(searches(), flush=True)
+"""
 
 
 class Finding(unittest.TestCase):
@@ -119,17 +164,9 @@ class Refusing(unittest.TestCase):
 
 class Meanwhile(unittest.TestCase):
     def test_other_threads_go_on(self):
-        """While a search that ends only after this thread has counted is under way, this thread counts."""
-        found = []
-        search = threading.Thread(target=lambda: found.append(explore(FREE, MANY, most=400000)))
-        search.start()
-        steps = 0
-        while search.is_alive():
-            steps += 1
-            time.sleep(0)
-        self.assertTrue(found[0].undecided)
-        # If the search kept the lock, this thread would come by only before and after it.
-        self.assertGreater(steps, 100)
+        """While a search of a minute is in the midst of its work, another thread comes by: the search doesn't keep the interpreter's lock."""
+        told = subprocess.run([sys.executable, "-c", WATCHED.format(FREE, MANY)], stdout=subprocess.PIPE, timeout=LONGEST)
+        self.assertEqual((told.stdout, told.returncode), (b"came by\n", 0))
 
     def test_many_at_once(self):
         found = [None] * 8
@@ -146,15 +183,8 @@ class Meanwhile(unittest.TestCase):
 
     def test_a_signal_ends_the_wait(self):
         """Ctrl-C comes while a search of a minute is under way: the process ends without waiting for that."""
-        code = (
-            "import _thread, os, signal, sys, threading, wanzoche\n"
-            "threading.Timer(0.3, os.kill, (os.getpid(), signal.SIGINT)).start()\n"
-            "try:\n"
-            "    wanzoche.explore({!r}, {!r}, most=3000000)\n"
-            "except KeyboardInterrupt:\n"
-            "    print(sum(each.name == 'wanzoche.explore' for each in threading.enumerate()), flush=True)\n"
-        ).format(FREE, MANY)
-        told = subprocess.run([sys.executable, "-c", code], stdout=subprocess.PIPE, timeout=60)
+        code = INTERRUPTED.format(FREE, MANY)
+        told = subprocess.run([sys.executable, "-c", code], stdout=subprocess.PIPE, timeout=LONGEST)
         self.assertEqual((told.stdout, told.returncode), (b"1\n", 0))
 
     def test_an_interrupt_before_each_instruction(self):
@@ -163,25 +193,22 @@ class Meanwhile(unittest.TestCase):
         for number in each_instruction(interrupt, lambda: explore(LOCKS, CROSSWISE)):
             self.assertTrue(explore(LOCKS, CROSSWISE).stalled)
         self.assertGreater(number, 50)
-        for _ in range(1000):
-            if not any(each.name == "wanzoche.explore" for each in threading.enumerate()):
-                break
-            time.sleep(0.01)
-        else:
-            self.fail("a search hasn't ended")
+        for each in threading.enumerate():
+            if each.name == "wanzoche.explore":
+                each.join(LONGEST)
+                self.assertFalse(each.is_alive(), "a search hasn't ended")
 
     def test_in_another_thread_no_thread_is_started(self):
-        before = threading.active_count() + 1
-        counts = []
+        found = []
 
         def search():
-            explore(LOCKS, ONE)
-            counts.append(threading.active_count())
+            with mock.patch.object(threading.Thread, "start", side_effect=AssertionError("a thread is started")):
+                found.append(explore(LOCKS, ONE).outcome)
 
         thread = threading.Thread(target=search)
         thread.start()
         thread.join()
-        self.assertEqual(counts, [before])
+        self.assertEqual(found, ["done"])
 
 
 if __name__ == "__main__":

@@ -1,23 +1,27 @@
 """Interrupts: signals at random moments, an exception before each instruction, and calls from handlers and finalizers."""
 
 import asyncio
+import dis
 import gc
 import itertools
 import logging
-import random
-import signal
+import pathlib
+import sys
 import threading
 import time
+import types
 import unittest
 import warnings
 from unittest import mock
 
+import wanzoche
 from wanzoche import Paths, Timeout
 from wanzoche._form import core
 from wanzoche._waiting import ThreadWaiter
 
 from .declarations import BOOK, SLOT
-from .interrupts import Interrupt, at_instruction, each_instruction, interrupt, no_longer_than
+from .interrupts import Alarms, at_instruction, each_instruction, ends_a_hang, interrupt
+from .limits import LONGEST
 
 SIGNALS = 10000
 FEWER = 1 if core is None else 11  # of the package's instructions: what is in C has none
@@ -32,7 +36,7 @@ class Interrupts(unittest.TestCase):
             warnings.simplefilter("ignore", kind)
         logging.disable(logging.CRITICAL)  # as do loops
         self.addCleanup(logging.disable, logging.NOTSET)
-        guard = no_longer_than(300)
+        guard = ends_a_hang()
         guard.__enter__()
         self.addCleanup(guard.__exit__, None, None, None)
 
@@ -46,24 +50,11 @@ class Interrupts(unittest.TestCase):
 class AtRandomMoments(Interrupts):
     """Real signals, whose handler raises, as that of Ctrl-C does."""
 
-    def setUp(self):
-        super().setUp()
-        before = signal.signal(signal.SIGALRM, lambda *_: interrupt())
-        self.addCleanup(signal.signal, signal.SIGALRM, before)
-        self.addCleanup(signal.setitimer, signal.ITIMER_REAL, 0)
-
     def interrupted(self, times, call, check):
         """Calls again and again until a signal comes, so many times, and checks after each."""
+        alarms = Alarms(self)
         for _ in range(times):
-            try:
-                # once more after a while: Python sleeps on if a signal comes just before it goes to sleep
-                signal.setitimer(signal.ITIMER_REAL, random.uniform(1e-5, 2e-4), 0.5)
-                while True:
-                    call()
-            except Interrupt:
-                pass
-            finally:
-                signal.setitimer(signal.ITIMER_REAL, 0)
+            alarms.cut_off(call, 1e-5, 2e-4)
             check()
 
     def beside(self, work):
@@ -76,7 +67,7 @@ class AtRandomMoments(Interrupts):
 
         thread = threading.Thread(target=again)
         thread.start()
-        self.addCleanup(thread.join, 60)
+        self.addCleanup(thread.join, LONGEST)
         self.addCleanup(over.set)
 
     def test_with_beside_a_reader_of_the_journal(self):
@@ -100,7 +91,7 @@ class AtRandomMoments(Interrupts):
         for _ in range(3):
             self.beside(write)
         self.interrupted(SIGNALS // 10, write, lambda: self.assertNotIn("thread 1", [each.worker for each in paths.report().live]))
-        with paths("write", timeout=60):
+        with paths("write", timeout=LONGEST):
             pass
 
     def test_one_that_waits(self):
@@ -210,7 +201,7 @@ class BeforeEachInstruction(Interrupts):
                 if paths.can_start("deposit"):  # this one had its turn, and is over
                     with paths("deposit"):
                         pass
-                others[0].join(20)
+                others[0].join(LONGEST)
                 self.assertFalse(others[0].is_alive(), "a turn was lost before instruction {}".format(times))
             self.nothing_is_left(paths)
             if not more:
@@ -359,6 +350,74 @@ class CallsFromWithin(Interrupts):
         for times in each_instruction(collect, lambda: paths.enter("read").leave()):
             self.nothing_is_left(paths)
         self.assertGreaterEqual(times, 30 // FEWER)
+
+
+def codes_in(code):
+    """A compiled function or module, and all that are defined in it."""
+    yield code
+    for part in code.co_consts:
+        if isinstance(part, types.CodeType):
+            yield from codes_in(part)
+
+
+class Handlers:
+    """Which handlers of a function see an exception, by where it comes."""
+
+    def __init__(self, code):
+        bytecode = dis.Bytecode(code)
+        self.instructions = list(bytecode)
+        self._entries = bytecode.exception_entries
+        self._names = {each.offset: each.opname for each in self.instructions}
+
+    def at(self, offset):
+        """The handlers of `try` and `with` that see one that comes at this instruction. Others, as those that give a comprehension's variable
+        back, are passed through."""
+        found, passed = set(), set()
+        while offset is not None and offset not in passed:
+            passed.add(offset)
+            if self._names[offset] == "PUSH_EXC_INFO":
+                found.add(offset)
+            offset = next((each.target for each in self._entries if each.start <= offset < each.end), None)
+        return found
+
+    def lost(self):
+        """The lines of the loops that an exception leaves past a handler, if it comes as they jump back."""
+        for each in self.instructions:
+            if each.opname == "JUMP_BACKWARD" and not self.at(each.jump_target) <= self.at(each.offset):
+                yield each.positions.lineno
+
+
+@unittest.skipIf(sys.version_info < (3, 13), "until Python 3.12 each jump is seen by the handlers around it")
+class Compiled(unittest.TestCase):
+    """In CPython 3.13 the jump by which a loop goes on by its condition, also the `if` at its end, isn't covered by the exception table: an
+    interrupt that comes there is seen by no handler of this function, not even `finally`. So such a loop is a function of its own, whose
+    caller has the `try` or `with`. Up to 3.12 all such jumps are covered, or the interrupt counts as one of an instruction that is."""
+
+    def test_each_loop_jumps_back_where_the_handlers_around_it_see_an_interrupt(self):
+        lost = []
+        for file in sorted(pathlib.Path(wanzoche.__file__).parent.glob("*.py")):
+            for code in codes_in(compile(file.read_text(), file.name, "exec")):
+                lost += ["{}:{}".format(file.name, line) for line in Handlers(code).lost()]
+        self.assertEqual(lost, [])
+
+    def test_such_loops_are_found(self):
+        def in_a_try(values):
+            try:
+                while values:
+                    values.pop()
+            finally:
+                values.clear()
+
+        def in_a_with(lock, values):
+            with lock:
+                return [each for each in values if each]
+
+        def apart(lock, values):
+            with lock:
+                in_a_try(values)
+            return [each for each in values if each]
+
+        self.assertEqual([len(list(Handlers(each.__code__).lost())) for each in (in_a_try, in_a_with, apart)], [1, 1, 0])
 
 
 if __name__ == "__main__":

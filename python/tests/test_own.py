@@ -1,6 +1,7 @@
 """Who waits within itself, for what only it can leave, is told so; and so is who holds up its loop."""
 
 import asyncio
+import itertools
 import logging
 import pickle
 import random
@@ -10,12 +11,13 @@ import unittest
 import warnings
 from unittest import mock
 
-from wanzoche import Paths, Timeout, _waiting
+from wanzoche import Closed, Paths, Timeout, _waiting
 from wanzoche import _native as native
 from wanzoche._held_up import Braces, braces_of, held_up
 
 from .declarations import BOOK, SLOT
-from .interrupts import at_instruction, interrupt, may_leave_unused, no_longer_than
+from .interrupts import at_instruction, ends_a_hang, interrupt, may_leave_unused
+from .limits import LONGEST
 
 ONE = "resource r cell operation a path a end end"
 PAIRS = "resource r cell operation a, b path {{ a ; b{} }} end end"
@@ -27,7 +29,7 @@ KNOT = "resource r cell operation a, b, c path a ; b end path b ; a end path c e
 
 class Own(unittest.TestCase):
     def setUp(self):
-        guard = no_longer_than(60)
+        guard = ends_a_hang()
         guard.__enter__()
         self.addCleanup(guard.__exit__, None, None, None)
 
@@ -102,7 +104,7 @@ class Own(unittest.TestCase):
             time.sleep(0.001)
         why = paths.why("a")
         entries[0].leave()
-        thread.join(20)
+        thread.join(LONGEST)
         self.assertEqual(why.own, (("a", "thread 1"),))
         self.assertEqual(str(why)[-46:], "; nobody else can help before this is left: a by thread 1"[-46:])
 
@@ -197,7 +199,7 @@ class Told(unittest.TestCase):
     """What is logged of who waits within itself."""
 
     def setUp(self):
-        guard = no_longer_than(60)
+        guard = ends_a_hang()
         guard.__enter__()
         self.addCleanup(guard.__exit__, None, None, None)
         patch = mock.patch.object(_waiting, "FIRST_LOOK", 0.02)
@@ -206,8 +208,39 @@ class Told(unittest.TestCase):
 
     WORDS = "{0} waits for itself: a is blocked: path 0 of r: a; in progress: a by {1}; nobody else can help before this is left: a by {1}"
 
-    def waits_within_itself(self, paths, seconds):
-        """A thread that waits so long within itself, until this one leaves what it has entered."""
+    def until(self, condition):
+        end = time.monotonic() + LONGEST
+        while not condition():
+            self.assertLess(time.monotonic(), end, "it never comes")
+            time.sleep(0.001)
+
+    def looks(self):
+        """What gets something at each look at those that wait, from now on."""
+        looked, look = [], Paths._look_at
+
+        def looks(paths, waiters):
+            look(paths, waiters)
+            looked.append(waiters)
+
+        patch = mock.patch.object(Paths, "_look_at", looks)
+        patch.start()
+        self.addCleanup(patch.stop)
+        return looked
+
+    def closes(self, paths, condition):
+        """In a thread: closes paths when something holds, and a moment later, in which nothing else should be told."""
+
+        def waits():
+            self.until(condition)
+            time.sleep(0.1)
+            paths.close()
+
+        thread = threading.Thread(target=waits)
+        thread.start()
+        self.addCleanup(thread.join)
+
+    def waits_within_itself(self, paths, condition):
+        """A thread that waits within itself until something holds, and a moment longer: then this one leaves what that one has entered."""
         entered = []
 
         def waits():
@@ -217,16 +250,17 @@ class Told(unittest.TestCase):
 
         thread = threading.Thread(target=waits)
         thread.start()
-        time.sleep(seconds)
+        self.until(condition)
+        time.sleep(0.2)
         entered[0].leave()
-        thread.join(20)
+        thread.join(LONGEST)
         self.assertFalse(thread.is_alive())
 
     def test_a_thread_once_a_wait(self):
         paths = Paths(ONE)
         for number in (1, 2):
             with self.assertLogs("wanzoche", logging.WARNING) as told:
-                self.waits_within_itself(paths, 0.3)
+                self.waits_within_itself(paths, lambda: told.records)
             worker = "thread {}".format(number)
             self.assertEqual([each.getMessage() for each in told.records], [self.WORDS.format(worker, worker)])
 
@@ -235,11 +269,20 @@ class Told(unittest.TestCase):
 
         async def waits():
             async with paths.aio("a"):
-                async with paths.aio("a", timeout=0.3):
+                async with paths.aio("a"):
                     pass
 
-        with self.assertLogs("wanzoche", logging.WARNING) as told, self.assertRaises(Timeout):
-            asyncio.run(waits())
+        async def main(told):
+            task = asyncio.ensure_future(waits())
+            while not told.records:
+                await asyncio.sleep(0.001)
+            await asyncio.sleep(0.2)
+            task.cancel()
+            await asyncio.wait([task])
+            self.assertTrue(task.cancelled())
+
+        with self.assertLogs("wanzoche", logging.WARNING) as told:
+            asyncio.run(main(told))
         self.assertEqual([each.getMessage() for each in told.records], [self.WORDS.format("task 1", "task 1")])
 
     def test_a_thread_within_its_task(self):
@@ -247,57 +290,58 @@ class Told(unittest.TestCase):
 
         async def waits():
             async with paths.aio("a"):
-                with paths("a", timeout=0.3):
+                with paths("a"):
                     pass
 
-        with self.assertLogs("wanzoche", logging.WARNING) as told, self.assertRaises(Timeout):
+        with self.assertLogs("wanzoche", logging.WARNING) as told, self.assertRaises(Closed):
+            self.closes(paths, lambda: told.records)
             asyncio.run(waits())
         self.assertEqual([each.getMessage() for each in told.records], [self.WORDS.format("thread 1", "task 1")])
 
     def test_it_is_looked_again(self):
         """The end of the other's a might help, and doesn't: behind it comes b, which isn't beside h."""
         paths = Paths("resource r cell operation a, b, h path a ; b end path b , h end end")
-        other, left = [], threading.Event()
-        thread = threading.Thread(target=lambda: (other.append(paths.enter("a")), left.wait(20), other[0].leave()))
+        other, left, looked = [], threading.Event(), self.looks()
+        thread = threading.Thread(target=lambda: (other.append(paths.enter("a")), left.wait(LONGEST), other[0].leave()))
         thread.start()
 
-        def waits():
-            with paths("h"), paths("a", timeout=0.8):
-                pass
+        def leaves():
+            self.until(lambda: looked)
+            left.set()
 
-        while not other:
-            time.sleep(0.001)
-        threading.Timer(0.1, left.set).start()
-        with self.assertLogs("wanzoche", logging.WARNING) as told:
-            self.refused(waits)
-        thread.join()
+        self.until(lambda: other)
+        leaving = threading.Thread(target=leaves)
+        with self.assertLogs("wanzoche", logging.WARNING) as told, self.assertRaises(Closed):
+            leaving.start()
+            self.closes(paths, lambda: told.records)
+            with paths("h"), paths("a"):
+                pass
+        for each in (leaving, thread):
+            each.join()
         self.assertEqual([each.getMessage()[-19:] for each in told.records], ["left: h by thread 2"])
 
     def test_nothing_while_another_has_to_leave_something(self):
-        paths, others = Paths(PAIRS.format(" : 2")), []
+        paths, others, looked = Paths(PAIRS.format(" : 2")), [], self.looks()
         thread = threading.Thread(target=lambda: others.append(paths.enter("a")))
         thread.start()
         thread.join()
-
-        def waits():
-            with paths("a"), paths("b", timeout=0.3):
-                pass
-
-        with self.assertLogs("wanzoche", logging.WARNING) as told:
+        with self.assertLogs("wanzoche", logging.WARNING) as told, self.assertRaises(Closed):
             logging.getLogger("wanzoche").warning("begun")
-            self.refused(waits)
+            self.closes(paths, lambda: len(looked) > 2)
+            with paths("a"), paths("b"):
+                pass
         self.assertEqual([each.getMessage() for each in told.records], ["begun"])
-        others[0].leave()
+        self.assertRaises(Closed, others[0].leave)
 
     def refused(self, call):
         with self.assertRaises(Timeout):
             call()
 
     def test_nothing_where_others_can_help(self):
-        paths = Paths(SLOT)
+        paths, looked = Paths(SLOT), self.looks()
 
         def removes():
-            time.sleep(0.2)
+            self.until(lambda: len(looked) > 2)
             paths.enter("remove").leave()
 
         with self.assertLogs("wanzoche", logging.WARNING) as told:
@@ -312,8 +356,7 @@ class Told(unittest.TestCase):
     def test_want_of_memory_ends_no_wait(self):
         paths = Paths(ONE)
         with mock.patch.object(Paths, "report", side_effect=MemoryError) as report:
-            self.waits_within_itself(paths, 0.2)
-        self.assertGreater(report.call_count, 1)
+            self.waits_within_itself(paths, lambda: report.call_count > 1)
 
     def test_one_that_is_closed_meanwhile(self):
         paths = Paths(ONE)
@@ -326,13 +369,15 @@ class Told(unittest.TestCase):
     def test_an_interrupt_while_it_looks(self):
         may_leave_unused(self)
         paths = Paths(ONE)
-        logger = logging.getLogger("wanzoche")
+        logger, steps = logging.getLogger("wanzoche"), itertools.count()
+        clock = mock.Mock(monotonic=lambda: next(steps) * 0.0001)  # so that it looks as often in each wait
         with mock.patch.object(_waiting, "FIRST_LOOK", 0.0), mock.patch.object(logger, "disabled", True):
             entry = paths.enter("a")
             number = 0
-            while at_instruction(number, interrupt, lambda: self.refused(lambda: paths.enter("a", timeout=0.001))):
-                self.assertEqual(paths.waiting(), {}, number)
-                number += 5
+            with mock.patch.object(_waiting, "time", clock):
+                while at_instruction(number, interrupt, lambda: self.refused(lambda: paths.enter("a", timeout=0.001))):
+                    self.assertEqual(paths.waiting(), {}, number)
+                    number += 5
             entry.leave()
         self.assertGreater(number, 200)
         self.assertEqual(paths.report().live, ())

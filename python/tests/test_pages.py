@@ -7,6 +7,7 @@ import sys
 import tempfile
 import unittest
 
+from .limits import LONGEST
 from .stores import THOROUGH
 
 DOCS = os.path.join(os.path.dirname(os.path.dirname(os.path.dirname(os.path.abspath(__file__)))), "docs")
@@ -42,7 +43,7 @@ class Pages(unittest.TestCase):
     def runs(self, folder, language, text):
         ended = subprocess.run(
             RUNS[language] + [text], cwd=folder, env=self.environment, stdin=subprocess.DEVNULL, stdout=subprocess.PIPE,
-            stderr=subprocess.STDOUT, timeout=60,
+            stderr=subprocess.STDOUT, timeout=LONGEST,
         )  # fmt: skip
         self.assertEqual(ended.returncode, 0, ended.stdout.decode())
 

@@ -4,11 +4,13 @@ import asyncio
 import concurrent.futures
 import copy
 import gc
+import inspect
 import math
 import multiprocessing
 import os
 import pathlib
 import pickle
+import pydoc
 import re
 import subprocess
 import sys
@@ -37,6 +39,7 @@ from wanzoche import (
 
 from .declarations import BOOK, LINE, SLOT
 from .interrupts import may_leave_unused
+from .limits import LONGEST
 
 
 OWN = "nobody else can help before this is left: {} by thread 1"
@@ -129,6 +132,37 @@ class Entries(unittest.TestCase):
                     entry.put(wrong)
 
 
+class Signatures(unittest.TestCase):
+    """What help and editors tell of paths is what their calls take."""
+
+    def test_of_the_class(self):
+        names = list(inspect.signature(wanzoche.Paths).parameters)
+        self.assertEqual(names[:4], ["text", "room", "log", "journal"])
+        told = "".join(pydoc.render_doc(wanzoche.Paths, renderer=pydoc.plaintext).replace("|", "").split())
+        self.assertTrue("Paths(text:'Union[str,bytes]',*,room:" in told, "help doesn't say what Paths takes")
+        self.assertEqual(list(inspect.signature(wanzoche.StoredPaths).parameters)[:2], ["text", "store"])
+
+    def test_of_a_class_of_ones_own(self):
+        class Own(wanzoche.Paths):
+            def __init__(self, first, second):
+                super().__init__(SLOT)
+
+        class Same(wanzoche.Paths):
+            pass
+
+        self.assertEqual(list(inspect.signature(Own).parameters), ["first", "second"])
+        self.assertEqual(inspect.signature(Same), inspect.signature(wanzoche.Paths))
+
+    def test_of_calls(self):
+        paths = Paths(SLOT)
+        for call in (paths, paths.enter, paths.aio, paths.guards):
+            found = inspect.signature(call).parameters
+            self.assertEqual([(each.name, each.default) for each in found.values()], [("operation", inspect.Parameter.empty), ("timeout", None)])
+        with paths("deposit") as entry:
+            for call in (entry.leave, entry.__enter__):
+                self.assertEqual(str(inspect.signature(call)).split(" ->")[0], "()")
+
+
 class Unused(unittest.TestCase):
     """An entry that is dropped before anybody has entered it is a `with` that was forgotten."""
 
@@ -163,7 +197,7 @@ class Unused(unittest.TestCase):
         self.assertEqual(len(self.told_of(holds)), 1)
 
     def test_nothing_else_that_is_legal(self):
-        paths, closed, full = Paths(SLOT), Paths(SLOT), Paths(SLOT, room=1)
+        paths, closed = Paths(SLOT), Paths(SLOT)
         closed.close()
 
         @paths.guards("deposit", timeout=0)
@@ -197,11 +231,19 @@ class Unused(unittest.TestCase):
             asyncio.run(is_cancelled())
             refused(Closed, lambda: closed.enter("deposit"))
             refused(Closed, lambda: closed.try_enter("deposit"))
-            refused(wanzoche.OutOfRoom, lambda: full.enter("deposit"))
             refused(UnknownOperation, lambda: paths("nothing"))
             refused(TypeError, lambda: paths("deposit", timeout="soon"))
 
         self.assertEqual(self.told_of(uses), [])
+
+    def test_nothing_of_one_that_found_no_room(self):
+        paths = Paths(SLOT, room=1)
+
+        def enters():
+            with self.assertRaises(wanzoche.OutOfRoom):
+                paths.enter("deposit")
+
+        self.assertEqual(self.told_of(enters), [])
 
     def test_the_wrong_with_is_told_once(self):
         paths = Paths(SLOT)
@@ -218,11 +260,31 @@ class Unused(unittest.TestCase):
 
         self.assertEqual(self.told_of(enters_as_a_thread), [])
 
+    def test_the_wrong_with_of_one_in_progress(self):
+        """It is left all the same."""
+        paths = Paths(BOOK)
+        write, aio = paths("write"), paths.aio("write")
+
+        async def enters(entry):
+            async with entry:
+                with self.assertRaises(TypeError), aio:
+                    pass
+
+        with write, self.assertRaises(TypeError):
+            asyncio.run(enters(write))
+        self.assertEqual(paths.report().live, ())
+        asyncio.run(enters(aio))
+        self.assertEqual(paths.report().live, ())
+
+    def options(self):
+        """The options of paths that a program opens."""
+        return {}
+
     def test_at_the_exit(self):
         """What a program has left in its names, as any other warning."""
-        program = "from wanzoche import Paths; paths = Paths({!r}); entry = paths('deposit')".format(SLOT)
-        words = [sys.executable, "-W", "always::ResourceWarning", "-c", program]
-        ended = subprocess.run(words, stdout=subprocess.PIPE, stderr=subprocess.PIPE, timeout=60)
+        program = "from wanzoche import Paths; paths = Paths({!r}, **{!r}); entry = paths('deposit')".format(SLOT, self.options())
+        words = [sys.executable, "-u", "-W", "always::ResourceWarning", "-c", program]  # at its exit Python 3.8 may forget what it has buffered
+        ended = subprocess.run(words, stdout=subprocess.PIPE, stderr=subprocess.PIPE, timeout=LONGEST)
         self.assertEqual((ended.stdout, ended.returncode), (b"", 0))
         self.assertRegex(ended.stderr.decode(), "^.*ResourceWarning: an entry of deposit was dropped, .*\n( .*\n)*$")
 
@@ -246,7 +308,7 @@ class Mistakes(unittest.TestCase):
                 while not (paths.waiting() or waits.done() or time.monotonic() > until):
                     time.sleep(0.001)
                 entry.leave()
-                self.assertIsNone(waits.result(60))
+                self.assertIsNone(waits.result(LONGEST))
 
     def test_what_is_no_declaration(self):
         for wrong in (3, None, pathlib.Path("pool.paths"), ["path"]):
@@ -417,10 +479,10 @@ class Exceptions(unittest.TestCase):
 
     def test_another_process(self):
         with concurrent.futures.ProcessPoolExecutor(1, multiprocessing.get_context("spawn")) as pool:
-            error = pool.submit(late).exception(60)
+            error = pool.submit(late).exception(LONGEST)
             self.assertIs(type(error), Timeout)
             self.assertEqual((error.operation, error.path, error.resource, error.text), ("remove", 0, "slot", "deposit ; remove"))
-            self.assertIsNone(pool.submit(len, ()).exception(60))  # the pool goes on
+            self.assertIsNone(pool.submit(len, ()).exception(LONGEST))  # the pool goes on
 
 
 class Logs(unittest.TestCase):
@@ -668,7 +730,7 @@ class Resumed(unittest.TestCase):
             told = []
 
             def gets():
-                with paths("get", timeout=20) as entry:
+                with paths("get", timeout=LONGEST) as entry:
                     told.append(entry.token)
 
             thread = threading.Thread(target=gets)
@@ -676,7 +738,7 @@ class Resumed(unittest.TestCase):
             while not paths.waiting():
                 time.sleep(0.001)
             paths.recover("thread 1")
-            thread.join(20)
+            thread.join(LONGEST)
             self.assertEqual(told, [4])
             entry.leave()
 

@@ -1,5 +1,6 @@
 """The command `wanzoche` over a log in PostgreSQL."""
 
+import json
 import os
 import re
 import signal
@@ -7,10 +8,15 @@ import socket
 import subprocess
 import sys
 import tempfile
+import time
 import unittest
 
+from wanzoche._every import seconds_since
+
+from .commands import CROWDED, DELIVERY, LONGEST, running
 from .declarations import BOOK, SLOT
-from .servers import OnServer, folder_of_programs, needs_server
+from .servers import SHORT_GRACE, OnServer, folder_of_programs, needs_server
+from .test_command_every import NIGHTLY
 
 TOP = os.path.dirname(os.path.dirname(os.path.dirname(os.path.abspath(__file__))))
 PROGRAMS = os.path.join(os.path.dirname(os.path.dirname(os.path.abspath(os.environ.get("WANZOCHE_LIBRARY", "")))), "bin")
@@ -18,6 +24,8 @@ PROGRAMS = os.path.join(os.path.dirname(os.path.dirname(os.path.abspath(os.envir
 
 @needs_server
 class Commands(OnServer, unittest.TestCase):
+    grace = SHORT_GRACE
+
     def setUp(self):
         super().setUp()
         folder = tempfile.TemporaryDirectory(prefix="wanzoche-")
@@ -32,7 +40,7 @@ class Commands(OnServer, unittest.TestCase):
     def runs(self, command, *words):
         """What it writes, what it writes on standard error, and its status."""
         ended = subprocess.run(
-            self.words(command, *words), stdin=subprocess.DEVNULL, stdout=subprocess.PIPE, stderr=subprocess.PIPE, timeout=60
+            self.words(command, *words), stdin=subprocess.DEVNULL, stdout=subprocess.PIPE, stderr=subprocess.PIPE, timeout=LONGEST
         )
         return ended.stdout.decode(), ended.stderr.decode(), ended.returncode
 
@@ -65,19 +73,113 @@ class Commands(OnServer, unittest.TestCase):
         with subprocess.Popen(words, stdin=subprocess.PIPE, stdout=subprocess.PIPE) as process:
             self.assertEqual(process.stdout.readline(), b"ready\n")
             process.kill()
-            process.wait(60)
+            process.wait(LONGEST)
             paths = self.open(BOOK)
             with self.assertRaises(TimeoutError):
                 paths.enter("read", timeout=4 * self.grace)
             process.stdin.close()
             process.stdout.read()  # until it has ended
-        paths.enter("read", timeout=20).leave()
+        paths.enter("read", timeout=LONGEST).leave()
+
+    def test_what_comes_next_hangs_on_how_it_ended(self):
+        with open(self.declaration, "w") as file:
+            file.write(DELIVERY)
+        words = ["exec", "--declaration", self.declaration, "--passed", "built", "--failed", "broken", "build", "--"]
+        self.assertEqual(self.runs(*words, "sh", "-c", "exit 3"), ("", "", 3))
+        self.assertEqual(self.runs("exec", "--nonblock", "--quiet", "deploy", "--", "true"), ("", "", 1))
+        self.assertEqual(self.runs(*words, "true"), ("", "", 0))
+        steps = re.findall(r"^\d+ (?:start (\w+): started|finish) \d+", self.runs("log")[0], re.M)
+        self.assertEqual(steps, ["build", "", "broken", "", "build", "", "built", ""])
+        self.assertEqual(self.runs("exec", "--nonblock", "deploy", "--", "echo", "deployed")[0], "deployed\n")
+        unknown = "wanzoche: no operation 'none' is declared; there are build, built, broken, deploy\n"
+        self.assertEqual(self.runs("exec", "--failed", "none", "build", "--", "true"), ("", unknown, 125))
+
+    def test_a_pass_that_waits(self):
+        """It is ended by a signal, by its limit, or by a kill; then it is made by hand."""
+        with open(self.declaration, "w") as file:
+            file.write(CROWDED)
+        paths = self.open(CROWDED)
+        for options, number in (([], signal.SIGTERM), (["--timeout", "0.05"], None), (["--nonblock"], None), ([], signal.SIGKILL)):
+            words = self.words("exec", "--passed", "built", *options, "build", "--", "true")
+            with paths("inspect"), running(words, stderr=subprocess.PIPE) as process:
+                if number is not None:
+                    self.until(self.waits)
+                    process.send_signal(number)
+                told = process.stderr.read().decode()
+                self.assertEqual(process.wait(LONGEST), 0 if number != signal.SIGKILL else -signal.SIGKILL)
+                if number != signal.SIGKILL:
+                    self.assertRegex(told, "^wanzoche: built wasn't passed: .*; `wanzoche pass` makes up for it\n$")
+                self.assertEqual(self.runs("pass", "built")[2], 1)
+            self.assertRegex(self.runs("pass", "built")[0], "^passed [0-9]+\n$")
+            self.assertTrue(paths.can_start("build"))
+
+    def waits(self):
+        told, why, status = self.runs("status", "--json")
+        self.assertEqual((why, status), ("", 0))
+        return json.loads(told)["counts"]["waiting"]
+
+    def test_as_json(self):
+        paths = self.open(BOOK)
+        me = {"since": None, "pid": os.getpid(), "host": socket.gethostname()}
+        with open("/proc/self/cmdline") as file:
+            me["command"] = " ".join(file.read().split("\0")).strip()
+        with paths("write"):
+            with running(self.words("exec", "--quiet", "read", "--", "true")) as process:
+                self.until(self.waits)
+                told = json.loads(self.runs("status", "--json")[0])
+                process.terminate()
+        self.assertEqual(told["counts"], {"in_progress": 1, "lost": 0, "waiting": 1})
+        (found,), (waits,) = told["in_progress"], told["waiting"]
+        worker = int(paths.worker.split()[-1])
+        self.assertEqual(found, {"activation": 0, "operation": "write", "worker": worker, "lost": False, **me})
+        told = {name: waits[name] for name in ("operation", "count", "pid", "host")}
+        self.assertEqual(told, {"operation": "read", "count": 1, "pid": process.pid, "host": socket.gethostname()})
+        self.assertRegex(waits["since"], r"^\d{4}-\d\d-\d\dT\d\d:\d\d:\d\dZ$")
+        words = self.words("exec", "write", "--", "sh", "-c", "echo; read line; exit")
+        with running(words, stdin=subprocess.PIPE, stdout=subprocess.PIPE) as process:
+            process.stdout.readline()
+            (found,) = json.loads(self.runs("status", "--json")[0])["in_progress"]
+            self.assertEqual((found["pid"], found["command"]), (process.pid, "sh -c echo; read line; exit"))
+            process.stdin.close()
+
+    def test_at_most_once_in_some_time(self):
+        """By the server's clock, whatever that of the machine shows."""
+        with open(self.declaration, "w") as file:
+            file.write(NIGHTLY)
+        words = self.words("exec", "--declaration", self.declaration, "--every", "1h", "nightly", "--", "echo", "ran")
+        asking = [subprocess.Popen(words, stdout=subprocess.PIPE, stderr=subprocess.PIPE) for _ in range(3)]
+        self.assertEqual(sorted(each.communicate(timeout=LONGEST)[0] for each in asking), [b"", b"", b"ran\n"])
+        self.assertEqual(sorted(each.returncode for each in asking), [0, 1, 1])
+        paths, kept = self.open(NIGHTLY), time.time_ns
+        time.time_ns = lambda: 0
+        self.addCleanup(setattr, time, "time_ns", kept)
+        with paths("nightly") as entry:
+            self.assertLess(seconds_since(paths, entry, 3600), 600)
+            last = entry.look()
+        with paths("nightly") as entry:
+            entry.put(last - 7200 * 1000)
+            self.assertIsNone(seconds_since(paths, entry, 3600))
+            self.assertGreaterEqual(entry.look(), last)
+
+    def test_status_again_and_again(self):
+        paths = self.open(BOOK)
+        with running(self.words("status", "--json", "--watch", "600"), stdout=subprocess.PIPE) as process:
+            for count in (0, 1, 0):
+                self.assertEqual(json.loads(process.stdout.readline())["counts"]["in_progress"], count)
+                if count == 0 and not paths.report().live:
+                    entry = paths.enter("write")
+                else:
+                    entry.leave()
+            self.assertEqual(json.loads(process.stdout.readline())["counts"]["in_progress"], 1)
+            process.send_signal(signal.SIGTERM)
+            self.assertEqual((process.stdout.read(), process.wait(LONGEST)), (b"", 128 + signal.SIGTERM))
+            entry.leave()
 
     def test_recovery(self):
         self.dies(lambda: setattr(self, "kept", self.made(BOOK).enter("write")))
         paths = self.open(BOOK, lost="keep")
         self.until(lambda: paths.report().lost)
-        self.until(lambda: self.runs("recover", "1") == ("finished 1\n", "", 0), 60)  # when the grace is over that the command gives
+        self.until(lambda: self.runs("recover", "1") == ("finished 1\n", "", 0))  # when the grace is over that the command gives
         self.assertNotIn("lost", self.runs("status")[0])
         with paths("read"):
             worker = paths.worker.split()[-1]
@@ -91,7 +193,7 @@ class Commands(OnServer, unittest.TestCase):
                 self.assertIn(b"start write", process.stdout.readline())
                 self.assertIn(b"finished", process.stdout.readline())
             process.send_signal(signal.SIGINT)
-            self.assertEqual(process.wait(60), 128 + signal.SIGINT)
+            self.assertEqual(process.wait(LONGEST), 128 + signal.SIGINT)
 
     def test_lines_that_are_moved(self):
         """To the commands nothing changes."""
@@ -104,7 +206,7 @@ class Commands(OnServer, unittest.TestCase):
                 paths.rotate()
                 told += b"".join(process.stdout.readline() for _ in range(3))
             process.send_signal(signal.SIGINT)
-            self.assertEqual(process.wait(60), 128 + signal.SIGINT)
+            self.assertEqual(process.wait(LONGEST), 128 + signal.SIGINT)
         self.assertEqual(told.decode(), paths.journal())
         self.assertEqual(self.runs("log"), (paths.journal(), "", 0))
         self.assertEqual(self.runs("audit"), ("sound\n", "", 0))
@@ -118,7 +220,7 @@ class Commands(OnServer, unittest.TestCase):
     def test_faults(self):
         self.assertRegex(self.runs("status")[1], "^wanzoche: there is no log .*: `wanzoche exec` with --declaration makes one\n$")
         words = [sys.executable, "-m", "wanzoche", "status", "--store", self.server.url]
-        ended = subprocess.run(words, stderr=subprocess.PIPE, timeout=60)
+        ended = subprocess.run(words, stderr=subprocess.PIPE, timeout=LONGEST)
         self.assertEqual(ended.stderr, b"wanzoche: --name is wanted for a store in PostgreSQL, and for no other\n")
         self.assertEqual(self.runs("exec", "--declaration", self.declaration, "steal", "--", "true")[1:], (
             "wanzoche: no operation 'steal' is declared; there are read, write\n", 125))  # fmt: skip
@@ -154,7 +256,7 @@ class Page(OnServer, unittest.TestCase):
         """What it writes."""
         words = {"python": [sys.executable, "-W", "ignore", "-c"], "sh": ["sh", "-e", "-c"]}[language]
         words.append(block.replace(self.URL, self.server.url))
-        ended = subprocess.run(words, cwd=self.folder, env=self.environment, stdout=subprocess.PIPE, stderr=subprocess.PIPE, timeout=60)
+        ended = subprocess.run(words, cwd=self.folder, env=self.environment, stdout=subprocess.PIPE, stderr=subprocess.PIPE, timeout=LONGEST)
         self.assertEqual((ended.returncode, ended.stderr), (0, b""), block)
         return ended.stdout.decode()
 

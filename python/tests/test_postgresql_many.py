@@ -1,206 +1,33 @@
-"""Many processes over one log in PostgreSQL, which are killed, cut off, or see their server die: nothing is lost, and nobody is stuck.
-
-The witness is a file that each body locks without waiting: it knows nothing of the paths. A writer also adds 1 to a number, in two steps.
-Each process notes what it entered and left. WANZOCHE_ROUNDS makes more rounds, and WANZOCHE_SEED repeats one.
+"""Many processes over one log in PostgreSQL, which are killed, cut off, or see their server die: nothing is lost, and nobody is stuck
+(witness.py). WANZOCHE_ROUNDS makes more rounds, and WANZOCHE_SEED repeats one.
 """
 
-import faulthandler
-import fcntl
 import os
 import random
 import re
-import signal
 import sys
-import tempfile
 import threading
 import time
 import unittest
-import warnings
 from unittest import mock
 
 import wanzoche
 from wanzoche import Lost, Paths, Timeout, _clerk, _log, _postgresql
 
-from .declarations import BOOK, LINE, SLOT
+from . import witness
+from .declarations import BOOK, SLOT
+from .limits import LONGEST
 from .servers import Server, needs_server, new_name, the_server
 from .stores import THOROUGH
 from .test_postgresql import Cutting
-
-ROUNDS = int(os.environ.get("WANZOCHE_ROUNDS", "1"))
-SHARED = {"read"}
-PATIENCE = 60
-BUFFER = LINE.replace("path put end\npath get end", "path put , get end")
-"""A buffer at which one works at a time."""
+from .witness import BUFFER, ROUNDS
 
 
-class Round:
-    """So many processes with so many entries each, of which some are killed, and something that disturbs them."""
-
-    worker: "type[Worker]"
-
-    def __init__(
-        self, text, processes, entries, *, server, kills=0.0, disturb=None, url=None, grace=1.0, patience=PATIENCE, sync=True, room=None
-    ):
-        self.text, self.processes, self.entries, self.room = text, processes, entries if THOROUGH else entries // 2, room
-        self.server, self.kills, self.disturb, self.grace, self.patience = server, kills, disturb, grace, patience
-        self.url, self.sync = url or server.url, sync
-        self.name = new_name()
-        self.seed = int(os.environ.get("WANZOCHE_SEED") or random.randrange(1 << 32))
-        self.chance = random.Random(self.seed)
-        self.alive, self.killed, self.begun, self.lost, self.wrong = {}, 0, 0, 0, []
-
-    def open(self, url=None):
-        return Paths(self.text, store=url or self.url, name=self.name, grace=self.grace, patience=60, sync=self.sync, room=self.room)
-
-    def run(self):
-        """What was wrong."""
-        with tempfile.TemporaryDirectory(prefix="wanzoche-") as self.folder:
-            self.open(self.server.url).close()
-            for _ in range(self.processes):
-                self.begin(self.entries)
-            over = threading.Event()
-            beside = threading.Thread(target=self.disturb, args=(over, self.chance, self.noted, self)) if self.disturb else None
-            if beside:
-                beside.start()
-            try:
-                self.wait()
-            finally:
-                over.set()
-                if beside:
-                    beside.join()
-            try:
-                self.judge()
-            except wanzoche.StoreError as error:
-                self.wrong.append(str(error))
-        return self.wrong and ["seed {}".format(self.seed)] + self.wrong
-
-    def begin(self, entries):
-        sys.stdout.flush()
-        child = os.fork()
-        if child == 0:
-            try:
-                self.worker(self, self.begun).run(entries)
-                os._exit(0)
-            except BaseException as error:
-                with open("{}/wrong.{}".format(self.folder, self.begun), "w") as file:
-                    file.write("{}: {}".format(type(error).__name__, error))
-            finally:
-                os._exit(1)
-        self.alive[child] = self.begun
-        self.begun += 1
-
-    def wait(self):
-        """Until all have ended. Kills some, for each of which another takes its place."""
-        moved, size = time.monotonic(), 0
-        while self.alive:
-            child, status = os.waitpid(-1, os.WNOHANG)
-            if child in self.alive:
-                del self.alive[child]
-                if os.WIFSIGNALED(status):
-                    self.killed += 1
-                    if self.killed <= 3 * self.processes:
-                        self.begin(self.entries // 2)
-                continue
-            if self.kills and self.chance.random() < self.kills and self.killed < 3 * self.processes:
-                os.kill(self.chance.choice(sorted(self.alive)), signal.SIGKILL)
-            now = self.noted()
-            moved, size = (time.monotonic(), now) if now != size else (moved, size)
-            if time.monotonic() - moved > self.patience:
-                self.wrong.append("stuck: {}".format(sorted(self.alive.values())))
-                self.ask_where()
-                self.end_all()
-            time.sleep(0.005)
-
-    def ask_where(self):
-        """Where those are that are stuck."""
-        for child in self.alive:
-            os.kill(child, signal.SIGUSR1)
-        time.sleep(1)
-        for name in os.listdir(self.folder):
-            if name.startswith("where."):
-                with open(os.path.join(self.folder, name)) as file:
-                    self.wrong.append(file.read())
-
-    def noted(self):
-        """How much was noted so far."""
-        return sum(entry.stat().st_size for entry in os.scandir(self.folder) if entry.name.startswith("notes."))
-
-    def end_all(self):
-        for child in list(self.alive):
-            os.kill(child, signal.SIGKILL)
-            os.waitpid(child, 0)
-        self.alive.clear()
-
-    def judge(self):
-        """Compares the log with what each has noted."""
-        with self.open(self.server.url) as paths:
-            until = time.monotonic() + 3 * self.grace + 5
-            while paths.report().live and time.monotonic() < until:
-                time.sleep(0.1)
-            live, journal, verdict = paths.report().live, paths.journal(), paths.audit()
-        if live or not verdict:
-            self.wrong.append("live: {}; {}".format(live, verdict))
-        if self.room:
-            self.judge_places(journal)
-        starts = {number: name for name, number in re.findall(r"^\d+ start (\w+): started (\d+)$", journal, re.M)}
-        finishes = re.findall(r"^\d+ finish (\d+): finished$", journal, re.M)
-        if len(set(finishes)) != len(finishes) or set(finishes) != set(starts):
-            self.wrong.append("starts and finishes aren't the same")
-        alone = 0
-        for name in os.listdir(self.folder):
-            with open(os.path.join(self.folder, name), errors="replace") as file:
-                if name.startswith("wrong."):
-                    self.wrong.append(file.read())
-                elif name.startswith("notes."):
-                    alone += self.compare(file, starts, set(finishes))
-        total = 0
-        if os.path.exists(self.folder + "/total"):
-            with open(self.folder + "/total") as file:
-                total = int(file.read() or 0)
-        if not alone <= total <= alone + self.killed:
-            self.wrong.append("{} bodies were alone, and the number is {}".format(alone, total))
-
-    def judge_places(self, journal):
-        """Each line of the journal stands in one place, of a segment or of the table, and most were moved."""
-        told = "select place, {} from wanzoche.{} join wanzoche.log using (log) where name = %s"
-        found = self.server.run(told.format("text", "segment"), self.name)
-        moved = sum(text.count("\n") + 1 for _, text in found)
-        found += self.server.run(told.format("line", "line"), self.name)
-        lines = [(place + n, line) for place, text in found for n, line in enumerate(text.split("\n"))]
-        if sorted(lines) != list(enumerate(journal.splitlines())):
-            self.wrong.append("lines are missing, or stand twice")
-        if moved < len(lines) // 2:
-            self.wrong.append("only {} of {} lines were moved".format(moved, len(lines)))
-
-    def compare(self, notes, starts, finishes):
-        alone = 0
-        for line in notes:
-            word, *rest = line.split()
-            if word == "breach" or word == "entered" and starts.get(rest[0]) != rest[1] or word == "left" and rest[0] not in finishes:
-                self.wrong.append(line.strip())
-            alone += word == "body" and rest[1] not in SHARED
-            self.lost += word == "lost"
-        return alone
-
-
-class Worker:
+class Worker(witness.Worker):
     """One process of a round."""
 
-    def __init__(self, round, number):
-        self.round = round
-        self.witness = os.open(round.folder + "/witness", os.O_RDWR | os.O_CREAT)
-        self.total = os.open(round.folder + "/total", os.O_RDWR | os.O_CREAT)
-        self.notes = os.open("{}/notes.{}".format(round.folder, number), os.O_WRONLY | os.O_CREAT | os.O_APPEND)
-        random.seed(round.seed * 1000 + number)
-        self.where = open("{}/where.{}".format(round.folder, number), "w")
-        faulthandler.register(signal.SIGUSR1, self.where)
-        warnings.simplefilter("ignore", ResourceWarning)
-
-    def note(self, *words):
-        os.write(self.notes, (" ".join(map(str, words)) + "\n").encode())
-
     def opened(self):
-        until = time.monotonic() + 60
+        until = time.monotonic() + LONGEST
         while True:
             try:
                 return self.round.open()
@@ -214,12 +41,12 @@ class Worker:
     def run(self, entries):
         paths = self.opened()
         if self.round.kills:
-            self.dies_around(_postgresql.Session, "call")
+            self.dies_around(_postgresql.Session, "call", 0.002)
         is_book = self.round.text == BOOK
         for each in range(entries):
             operation = random.choice(paths.operations) if is_book else paths.operations[each % 2]
             try:
-                entry = paths.enter(operation, timeout=60 if is_book else 0.3)
+                entry = paths.enter(operation, timeout=LONGEST if is_book else 0.3)
             except Timeout:
                 if is_book:
                     raise
@@ -240,35 +67,39 @@ class Worker:
                 self.note("lost", token)
         paths.close()
 
-    def dies_around(self, of, name, chance=0.002):
-        """Sometimes this process is killed just before or behind a call."""
-        call = getattr(of, name)
 
-        def dying(*given):
-            if random.random() < chance:
-                os.kill(os.getpid(), signal.SIGKILL)
-            found = call(*given)
-            if random.random() < chance:
-                os.kill(os.getpid(), signal.SIGKILL)
-            return found
+class Round(witness.Round):
+    """Processes over one log."""
 
-        setattr(of, name, dying)
+    worker = Worker
 
-    def body(self, operation, token):
-        try:
-            fcntl.lockf(self.witness, (fcntl.LOCK_SH if operation in SHARED else fcntl.LOCK_EX) | fcntl.LOCK_NB)
-        except OSError:
-            self.note("breach", token)
-        if operation not in SHARED:
-            before = int(os.pread(self.total, 20, 0) or b"0")
-            if random.random() < 0.3:
-                time.sleep(random.random() * 0.002)
-            os.pwrite(self.total, b"%020d" % (before + 1), 0)
-        fcntl.lockf(self.witness, fcntl.LOCK_UN)
-        self.note("body", token, operation)
+    def __init__(
+        self, text, processes, entries, *, server, kills=0.0, disturb=None, url=None, grace=1.0, patience=LONGEST, sync=True, room=None
+    ):
+        super().__init__(text, processes, entries if THOROUGH else entries // 2, kills=kills, patience=patience, disturb=disturb)
+        self.server, self.grace, self.url, self.sync, self.room = server, grace, url or server.url, sync, room
+        self.name = new_name()
 
+    def open(self, url=None):
+        """Opens the log, at a server or beside it."""
+        return Paths(self.text, store=url or self.url, name=self.name, grace=self.grace, patience=LONGEST, sync=self.sync, room=self.room)
 
-Round.worker = Worker
+    def again(self):
+        return self.open(self.server.url)
+
+    def judge_journal(self, journal):
+        """Each line of the journal stands in one place, of a segment or of the table, and some were moved."""
+        if not self.room:
+            return
+        told = "select place, {} from wanzoche.{} join wanzoche.log using (log) where name = %s"
+        found = self.server.run(told.format("text", "segment"), self.name)
+        moved = sum(text.count("\n") + 1 for _, text in found)
+        found += self.server.run(told.format("line", "line"), self.name)
+        lines = [(place + n, line) for place, text in found for n, line in enumerate(text.split("\n"))]
+        if sorted(lines) != list(enumerate(journal.splitlines())):
+            self.wrong.append("lines are missing, or stand twice")
+        if not moved:
+            self.wrong.append("none of {} lines was moved".format(len(lines)))
 
 
 def restarts(server, count):
@@ -286,11 +117,10 @@ def restarts(server, count):
 
 
 def waits_for_progress(over, noted):
-    """Until somebody has got on, but for no longer than some seconds: a busy machine needs them to connect again."""
-    before, until = noted(), time.monotonic() + 10
-    while noted() == before and time.monotonic() < until:
-        if over.wait(0.01):
-            break
+    """Until somebody has got on, or all is over: a busy machine needs long to connect again."""
+    before = noted()
+    while noted() == before and not over.wait(0.01):
+        pass
 
 
 def ends_sessions(server, pause):
@@ -376,19 +206,19 @@ class Many(unittest.TestCase):
         self.rounds(BUFFER, 6, 60, kills=0.01)
 
     def test_sessions_that_the_server_ends(self):
-        self.rounds(BOOK, 6, 60, disturb=ends_sessions(the_server(), 0.05), grace=5.0)
+        self.rounds(BOOK, 6, 60, disturb=ends_sessions(the_server(), 0.05), grace=LONGEST)
 
     def test_connections_that_are_cut(self):
         proxy = Cutting(the_server().port)
         self.addCleanup(proxy.close)
         url = the_server().tcp_url(port=proxy.port)
         for text in (BOOK, BUFFER):
-            self.rounds(text, 4, 60, disturb=cuts(proxy, 0.3), url=url, grace=5.0)
+            self.rounds(text, 4, 60, disturb=cuts(proxy, 0.3), url=url, grace=LONGEST)
 
     def test_a_server_that_dies(self):
         server = Server(wal_writer_delay="10s")
         self.addCleanup(server.end)
-        self.rounds(BOOK, 6, 100, server=server, disturb=restarts(server, 3), grace=10.0)
+        self.rounds(BOOK, 6, 100, server=server, disturb=restarts(server, 3), grace=LONGEST)
 
     def moving(self, *given, **named):
         """While lines are moved, by who appends and by another, too."""
@@ -408,12 +238,12 @@ class Many(unittest.TestCase):
         proxy = Cutting(the_server().port)
         self.addCleanup(proxy.close)
         url = the_server().tcp_url(port=proxy.port)
-        self.moving(BOOK, 4, 60, disturb=moves_lines(the_server(), 0.05, cuts(proxy, 0.3)), url=url, grace=5.0)
+        self.moving(BOOK, 4, 60, disturb=moves_lines(the_server(), 0.05, cuts(proxy, 0.3)), url=url, grace=LONGEST)
 
     def test_lines_that_are_moved_at_a_server_that_dies(self):
         server = Server(wal_writer_delay="10s")
         self.addCleanup(server.end)
-        self.moving(BOOK, 6, 100, server=server, disturb=moves_lines(server, 0.05, restarts(server, 3)), grace=10.0)
+        self.moving(BOOK, 6, 100, server=server, disturb=moves_lines(server, 0.05, restarts(server, 3)), grace=LONGEST)
 
 
 @needs_server

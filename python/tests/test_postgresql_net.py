@@ -10,6 +10,7 @@ from unittest import mock
 from wanzoche import Lost, Paths, Timeout, _postgresql
 
 from .declarations import BOOK
+from .limits import LONGEST
 from .servers import Server, needs_server, new_name
 
 _NEW_NETWORK = 0x40000000
@@ -102,7 +103,7 @@ class Partitions(unittest.TestCase):
         self.name = new_name()
 
     def made(self, network):
-        return Paths(BOOK, store=self.server.tcp_url(network.here), name=self.name, grace=1.0, patience=60)
+        return Paths(BOOK, store=self.server.tcp_url(network.here), name=self.name, grace=20.0, patience=LONGEST)
 
     def first(self):
         """Holds a write while its link is cut for a moment, and then for long."""
@@ -114,7 +115,7 @@ class Partitions(unittest.TestCase):
             entry.leave()
         except Lost:
             yield "lost"
-        with paths("read", timeout=30) as again:
+        with paths("read", timeout=LONGEST) as again:
             yield "in as {} by {}".format(again.worker, again.token)
 
     def second(self):
@@ -125,7 +126,7 @@ class Partitions(unittest.TestCase):
         except Timeout:
             yield "blocked"
         began = time.monotonic()
-        with paths("read", timeout=60) as entry:
+        with paths("read", timeout=LONGEST) as entry:
             yield "in as {} by {} {}".format(entry.worker, entry.token, "soon" if time.monotonic() - began < 1 else "later")
         yield "sound" if paths.audit() else "broken"
 

@@ -1,12 +1,15 @@
 """The tests of paths in memory, over a log in PostgreSQL: what holds of a process's own paths holds of those that machines share."""
 
+import threading
 import unittest
 from unittest import mock
 
 import wanzoche
 
-from . import test_paths, test_tasks, test_threads
-from .servers import needs_server, new_name, the_server
+from . import test_paths, test_tasks, test_threads, test_watching
+from .declarations import BOOK
+from .limits import LONGEST
+from .servers import SHORT_GRACE, OnServer, needs_server, new_name, the_server
 from .stores import THOROUGH
 
 FEWER = 1600 if THOROUGH else 640
@@ -35,6 +38,60 @@ class OverServer:
 @needs_server
 class ServedEntries(OverServer, test_paths.Entries):
     module = test_paths
+
+
+@needs_server
+class ServedUnused(OverServer, test_paths.Unused):
+    module = test_paths
+    test_nothing_of_one_that_found_no_room = None  # lines of the log make room by themselves
+
+    def options(self):
+        return {"store": the_server().url, "name": new_name()}
+
+
+@needs_server
+class ServedMetrics(OverServer, test_watching.Counted):
+    module = test_watching
+
+    def is_refused(self, paths):
+        """Who has only asked waits for an answer."""
+        try:
+            return any(each.has_waited for queue in list(paths._served.clerk._starts.values()) for each in list(queue))
+        except RuntimeError:  # the clerk has changed a queue meanwhile
+            return False
+
+
+@needs_server
+class ServedTold(OnServer, unittest.TestCase):
+    """What the program's log says of a log on a server."""
+
+    grace = SHORT_GRACE
+
+    def test_who_waits_and_for_whom(self):
+        seen = test_watching.Seen(self, "has waited")
+        paths = self.open(BOOK)
+        with paths("read"):
+            thread = threading.Thread(target=lambda: paths.enter("write").leave(), name="printer")
+            thread.start()
+            self.assertTrue(seen.come.wait(LONGEST))
+        thread.join()
+        wanted = r"^thread 2 \(printer\) has waited for \d+ s: write is blocked: path 0 of .*; in progress: read by process 1$"
+        self.assertRegex(seen.messages[0], wanted)
+
+    def test_a_process_that_died(self):
+        seen, held = test_watching.Seen(self, "is dead"), []
+        paths = self.open(BOOK)
+        self.dies(lambda: held.append(self.made(BOOK).enter("write")))
+        paths.enter("read", timeout=LONGEST).leave()
+        self.assertEqual(seen.messages, ["process 2 is dead, and what it had in progress is finished: write"])
+
+    def test_a_session_that_the_server_ends(self):
+        seen = test_watching.Seen(self, "the server")
+        paths = self.open(BOOK)
+        self.server.run("select pg_terminate_backend(pid) from pg_stat_activity where application_name = 'wanzoche' and pid <> pg_backend_pid()")
+        paths.enter("read", timeout=LONGEST).leave()
+        self.assertRegex(seen.messages[0], "^the log {}: the server doesn't answer: ".format(self.name))
+        self.assertRegex(seen.messages[-1], "^the log {}: the server is there again, after .* s$".format(self.name))
 
 
 @needs_server

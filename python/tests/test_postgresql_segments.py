@@ -13,7 +13,8 @@ import wanzoche
 from wanzoche import CorruptStore, Lost, StoreError, _clerk, _log
 
 from .declarations import BOOK, LINE, SLOT
-from .servers import NEEDED, OnServer, Server, needs_server
+from .limits import LONGEST
+from .servers import NEEDED, SHORT_GRACE, OnServer, Server, needs_server
 from .test_postgresql import Cutting
 
 OLD_PUT = """insert into wanzoche.line (log, place, line, by) select $1::int, $3::bigint, $5, $2::int
@@ -46,12 +47,20 @@ class Rotating(OnServer):
 
     def enters(self, paths, count, operation="read"):
         for _ in range(count):
-            paths.enter(operation, timeout=20).leave()
+            paths.enter(operation, timeout=LONGEST).leave()
 
     def moves(self, paths, count=3):
         """Appends lines, and moves all but the last."""
         self.enters(paths, count)
         paths.rotate()
+
+    def rotated(self, paths):
+        """Moves all lines but the last, if that can be now."""
+        try:
+            paths.rotate()
+            return True
+        except StoreError:
+            return False
 
     def asks(self, paths, question):
         """What a question gives at the desk."""
@@ -125,7 +134,7 @@ class Segments(Rotating, unittest.TestCase):
                 self.until(lambda: len(clerk._inbox) == 3)
                 log.due = 5
             for thread in waits:
-                thread.join(20)
+                thread.join(LONGEST)
             self.until(lambda: len(self.lines()) < 5)
         self.assertLess(names.index(b"begin"), 3)
         self.assertGreater(names.count(b"rotate"), 15)
@@ -144,7 +153,7 @@ class Segments(Rotating, unittest.TestCase):
             for thread in threads:
                 thread.start()
             for thread in threads:
-                thread.join(20)
+                thread.join(LONGEST)
             self.assertEqual((len(ended), len(self.lines())), (2, 1))
         self.assertEqual(len(self.standing()), 200)
         self.assertTrue(both[0].audit() and both[1].audit())
@@ -196,7 +205,7 @@ class Segments(Rotating, unittest.TestCase):
                 thread.start()
             self.until(lambda: len(paths._served.clerk._inbox) == 6)
         for thread in threads:
-            thread.join(30)
+            thread.join(LONGEST)
 
     def test_who_was_asleep_and_has_something_in_progress(self):
         a, b = self.open(BOOK), self.open(BOOK)
@@ -210,7 +219,7 @@ class Segments(Rotating, unittest.TestCase):
         for thread in threads:
             thread.start()
         for thread in threads:
-            thread.join(20)
+            thread.join(LONGEST)
         self.assertEqual((a.report().live, b.report().live), ((), ()))
         self.assertEqual(len(self.standing()), 6 + 18 + 1)
         self.assertTrue(a.audit() and b.audit())
@@ -219,12 +228,12 @@ class Segments(Rotating, unittest.TestCase):
         with mock.patch.object(_clerk, "CHECK", 1000.0):
             a, b = self.open(SLOT), self.open(SLOT)
             for _ in range(3):
-                waits = threading.Thread(target=lambda: b.enter("remove", timeout=20).leave())
+                waits = threading.Thread(target=lambda: b.enter("remove", timeout=LONGEST).leave())
                 waits.start()
                 self.until(lambda: b.waiting() == {"remove": 1})
                 with a("deposit"):
                     a.rotate()
-                waits.join(20)
+                waits.join(LONGEST)
                 self.assertFalse(waits.is_alive())
                 a.rotate()
         self.assertTrue(a.audit() and b.audit())
@@ -281,7 +290,7 @@ class Segments(Rotating, unittest.TestCase):
                 thread.start()
             self.until(lambda: len(clerk._inbox) == 4)
         for thread in threads:
-            thread.join(20)
+            thread.join(LONGEST)
         self.assertEqual(sorted(told), ["left", "left", "lost", "lost"])
         self.assertEqual(a.report().live, ())
         self.assertTrue(a.audit() and b.audit())
@@ -400,7 +409,7 @@ class Answers(Rotating, unittest.TestCase):
 
     def test_a_start(self):
         self.loses_answer()
-        entry = self.a.enter("read", timeout=20)
+        entry = self.a.enter("read", timeout=LONGEST)
         self.assertEqual(entry.token, 1)
         entry.leave()
         self.judge()
@@ -436,7 +445,7 @@ class Answers(Rotating, unittest.TestCase):
 
     def test_several_lines(self):
         entries = []
-        threads = [threading.Thread(target=lambda: entries.append(self.a.enter("read", timeout=20))) for _ in range(6)]
+        threads = [threading.Thread(target=lambda: entries.append(self.a.enter("read", timeout=LONGEST))) for _ in range(6)]
         with self.a._served.clerk._desk:  # so that all go in one call
             for thread in threads:
                 thread.start()
@@ -452,7 +461,7 @@ class Answers(Rotating, unittest.TestCase):
 
             self.a._served._log.session.call = calls
         for thread in threads:
-            thread.join(20)
+            thread.join(LONGEST)
         self.assertEqual(len({entry.token for entry in entries}), 6)
         self.leave_together(entries)
         self.judge()
@@ -467,7 +476,7 @@ class Answers(Rotating, unittest.TestCase):
             self.until(lambda: len(self.a._served.clerk._inbox) == len(entries))
             self.loses_answer()
         for thread in threads:
-            thread.join(20)
+            thread.join(LONGEST)
 
     def test_a_rotation(self):
         self.enters(self.b, 3)
@@ -569,17 +578,25 @@ class Inserts(Rotating, unittest.TestCase):
         self.enters(a, 2)
         b.report()
         place, stamp = self.asks(a, lambda: a._served._log.place)
-        # The same statement, but that it is slow on its way to its turn.
-        put = _log.PUT.replace("pg_advisory_xact_lock(", "pg_sleep(0.7), pg_advisory_xact_lock(")
+        # The same statement, but that it is held up on its way to its turn.
+        put, holds = _log.PUT.replace("pg_advisory_xact_lock(", "pg_advisory_xact_lock(4711), pg_advisory_xact_lock("), self.connection()
+        holds.execute("select pg_advisory_lock(4711)")
         connection, found = self.connection().pgconn, []
         connection.prepare(b"put", put.encode())
         log = a._served._log._log
         given = [log, b"9", b"%d" % place, stamp, b"9 start read: started 2"]
         late = threading.Thread(target=lambda: found.append(connection.exec_prepared(b"put", given).ntuples))
         late.start()
-        self.until(lambda: self.server.run("select 1 from pg_stat_activity where wait_event = 'PgSleep'"))
-        self.moves(b, 4)
-        late.join(20)
+        self.until(lambda: self.server.run("select 1 from pg_locks where objid = 4711 and not granted"))
+        self.enters(b, 4)
+        moves = threading.Thread(target=lambda: self.until(lambda: self.rotated(b)))
+        moves.start()
+        sleeps = "select 1 from pg_stat_activity where wait_event = 'PgSleep'"  # as who waits for inserts that are under way
+        self.until(lambda: self.server.run(sleeps) or not moves.is_alive())
+        holds.execute("select pg_advisory_unlock(4711)")
+        for thread in (moves, late):
+            thread.join(LONGEST)
+        self.assertEqual(len(self.lines()), 1)
         self.assertEqual(found, [0])
         self.assertEqual(len(self.standing()), 12)
         self.assertTrue(a.audit() and b.audit())
@@ -597,7 +614,7 @@ class Inserts(Rotating, unittest.TestCase):
         late = threading.Thread(target=lambda: found.append(connection.exec_prepared(b"put", given).ntuples))
         with mock.patch.object(b._served._log, "_move", self.while_locked(b, late)):
             b.rotate()
-        late.join(20)
+        late.join(LONGEST)
         self.assertEqual(found, [0])
         self.assertEqual(len(self.standing()), 12)
         self.assertTrue(a.audit() and b.audit())
@@ -631,7 +648,7 @@ class Inserts(Rotating, unittest.TestCase):
         with mock.patch.object(a._served.clerk, "_follow", lambda: None):  # as if it had been followed before
             with mock.patch.object(b._served._log, "_move", self.while_locked(b, late)):
                 b.rotate()
-            late.join(20)
+            late.join(LONGEST)
         self.assertEqual(told, [True])
         self.assertEqual(sum("finish 0" in line for line in self.standing()), 1)
         self.assertTrue(a.audit() and b.audit())
@@ -711,8 +728,6 @@ class Deaths(Rotating, unittest.TestCase):
 class Crashes(Rotating, unittest.TestCase):
     """Of the server itself, which is another one for each test. It may take long to start."""
 
-    grace = 60
-
     def setUp(self):
         super().setUp()
         self.server = Server(wal_writer_delay="10s")
@@ -736,7 +751,7 @@ class Crashes(Rotating, unittest.TestCase):
             self.server.kill()
             self.server.start()
             self.assertEqual(len(self.standing()), before)
-            moves.join(30)
+            moves.join(LONGEST)
             self.assertEqual((len(self.lines()), len(self.standing())), (1, before))  # it is asked again
             self.enters(a, 2)
         self.assertTrue(a.audit())
@@ -762,6 +777,7 @@ class Crashes(Rotating, unittest.TestCase):
         self.enters(a, 1)
         first = a.enter("read")
         self.server.run("checkpoint")
+        self.server.stop_writing()
         entry = b.enter("read")
         self.assertEqual(len(a.report().live), 2)  # a knows what will be gone
         with a._served.clerk._desk:
@@ -817,6 +833,7 @@ class OldProcess:
 class Earlier(Rotating):
     """A schema of an earlier number, which another server has."""
 
+    grace = SHORT_GRACE
     earlier: int
 
     def setUp(self):
@@ -856,13 +873,6 @@ class Earlier(Rotating):
         a.rotate()
         self.assertEqual((self.segments(), len(self.standing())), ([(0, 5)], 6))
         self.assertTrue(a.audit() and self.open(BOOK).audit())
-
-    def rotated(self, paths):
-        try:
-            paths.rotate()
-            return True
-        except StoreError:
-            return False
 
 
 @needs_server
@@ -983,7 +993,7 @@ class FromTwo(Earlier, unittest.TestCase):
         for thread in threads:
             thread.start()
         for thread in threads:
-            thread.join(20)
+            thread.join(LONGEST)
         self.assertEqual((len(found), self.number()), (6, 3))
         self.moves(found[0])
         self.assertTrue(all(each.audit() for each in found))

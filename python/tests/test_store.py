@@ -1,6 +1,5 @@
 """One store and few processes: what is shared, what death leaves, what is refused, and what a crash leaves in the file."""
 
-import asyncio
 import contextlib
 import copy
 import errno
@@ -9,7 +8,6 @@ import gc
 import multiprocessing
 import os
 import pickle
-import random
 import re
 import resource
 import signal
@@ -23,10 +21,8 @@ from unittest import mock
 
 import wanzoche
 from wanzoche import (
-    Closed,
     CorruptStore,
     DeclarationError,
-    Forked,
     Lost,
     OtherDeclaration,
     OutOfRoom,
@@ -41,9 +37,11 @@ from wanzoche._form import core
 from wanzoche._replica import Replica
 from wanzoche._texts import read_declaration
 
+from . import both_stores
 from .declarations import BOOK, LINE, SLOT
+from .limits import LONGEST
 from .test_core import _testcapi, lacking_memory
-from .interrupts import Interrupt, at_instruction, interrupt, no_longer_than
+from .interrupts import Alarms, Interrupt, at_instruction, ends_a_hang, interrupt
 from .stores import ANOTHER, THOROUGH, InFolder, only_in_python
 
 WRITTEN = b"""journal 3 room 1048576
@@ -62,53 +60,11 @@ WRITTEN = b"""journal 3 room 1048576
 """A journal over LINE. Some lines have a mark."""
 
 
-class Sharing(InFolder, unittest.TestCase):
-    def test_an_order_holds_over_all(self):
-        a, b = self.open(BOOK), self.open(BOOK)
-        with a("read") as first, b("read") as second:
-            self.assertEqual((first.token, second.token), (0, 1))
-            self.assertEqual((first.worker, second.worker), ("process 1", "process 2"))
-            told = "^write is blocked for 0.01 seconds: path 0 of book: .* in progress: read by process 1, read by process 2$"
-            for timeout in (0.01, 0):
-                with self.assertRaisesRegex(Timeout, told if timeout else "^write is blocked: path 0"):
-                    b.enter("write", timeout=timeout)
-            told = "^write is blocked: path 0 of book: .* in progress: read by process 1, read by process 2$"
-            self.assertRegex(str(b.why("write")), told)
-        with b("write") as third:
-            self.assertEqual(third.token, 2)
-            self.assertIsNone(a.try_enter("read"))
-            self.assertEqual(a.report().live, (wanzoche.Live(2, "process 2", "write"),))
-        self.assertEqual(a.journal(), b.journal())
-        self.assertEqual(a.journal().count("\n"), 6)
-        self.assertTrue(a.audit() and wanzoche.audit(BOOK, self.text().decode()) and a.audit(self.text().decode()))
-
-    def test_why_says_what_may_begin_next(self):
-        a, b = self.open(SLOT), self.open(SLOT)
-        told = "path 0 of slot: deposit ; remove; in progress: nothing of it; may begin next: "
-        for paths, operation, next_one in ((a, "remove", "deposit"), (b, "deposit", "remove")):
-            why = paths.why(operation)
-            self.assertEqual((why.may_begin, str(why)), ((next_one,), "{} is blocked: {}{}".format(operation, told, next_one)))
-            with self.assertRaisesRegex(Timeout, "; may begin next: {}$".format(next_one)) as caught:
-                paths.enter(operation, timeout=0.01)
-            self.assertEqual(caught.exception.may_begin, (next_one,))
-            paths.enter(next_one).leave()
-        self.assertIsNone(a.why("deposit"))
-
+class Sharing(both_stores.Sharing, InFolder, unittest.TestCase):
     def test_why_says_that_nothing_may_begin(self):
         paths = self.open("resource r cell operation a, b path a ; b end path b ; a end end")
         self.assertEqual((paths.why("a").may_begin, paths.why("b").may_begin), ((), ()))
         self.assertRegex(str(paths.why("b")), "; may begin next: nothing$")
-
-    def test_devices_are_shared(self):
-        a, b = self.open(LINE), self.open(LINE)
-        for number in (7, 8):
-            with a("put") as entry:
-                entry.put(number)
-        with b("get") as entry:
-            self.assertEqual((entry.look(), entry.take(), entry.look()), (7, 7, 8))
-            with self.assertRaisesRegex(wanzoche.UseRefused, "^add 3 in get: not offered: line is a queue 8, which has put, take and look$"):
-                entry.add(3)
-        self.assertTrue(b.audit())
 
     def test_who_waits_is_woken(self):
         a, b = self.open(SLOT), self.open(SLOT)
@@ -116,14 +72,14 @@ class Sharing(InFolder, unittest.TestCase):
 
         def remove():
             for _ in range(200):
-                with b("remove", timeout=20):
+                with b("remove", timeout=LONGEST):
                     got.append(1)
 
         thread = threading.Thread(target=remove)
         thread.start()
         for _ in range(200):
-            a.enter("deposit", timeout=20).leave()
-        thread.join(20)
+            a.enter("deposit", timeout=LONGEST).leave()
+        thread.join(LONGEST)
         self.assertEqual(len(got), 200)
 
     def test_nobody_waits_for_the_clock(self):
@@ -137,45 +93,14 @@ class Sharing(InFolder, unittest.TestCase):
         code, seen = store.start(begun, b"read", 1, True)
         self.assertEqual(code, wanzoche._native.BLOCKED)
         entry.leave()
-        self.assertTrue(store.sleep(0, seen, 20))
-        code, _ = store.wait_for_start(begun, b"read", 1, seen, time.monotonic() + 20)
+        self.assertTrue(store.sleep(0, seen, LONGEST))
+        code, _ = store.wait_for_start(begun, b"read", 1, seen, time.monotonic() + LONGEST)
         self.assertEqual(code, wanzoche._native.STARTED)
         store.finish(begun)
 
     def test_without_a_futex(self):
         with mock.patch.dict(os.environ, {"WANZOCHE_FUTEX": "none"}):
             self.test_who_waits_is_woken()
-
-    def test_tasks(self):
-        a, b = self.open(SLOT), self.open(SLOT, sync=False)
-
-        async def deposits():
-            for _ in range(30):
-                async with a.aio("deposit") as entry:
-                    self.assertEqual(entry.worker, "process 1")
-
-        async def removes():
-            for _ in range(30):
-                async with b.aio("remove", timeout=20):
-                    pass
-            with self.assertRaisesRegex(Timeout, "in progress: nothing of it"):
-                async with b.aio("remove", timeout=0.01):
-                    pass
-
-        async def both():
-            await asyncio.gather(deposits(), removes())
-
-        asyncio.run(both())
-        self.assertTrue(a.audit())
-
-    def test_what_was_stored_is_there_later(self):
-        with Paths(SLOT, store=self.file) as paths:
-            with paths("deposit") as entry:
-                entry.put(5)
-        again = self.open(SLOT)
-        self.assertEqual(again.worker, "process 2")
-        with again("remove") as entry:
-            self.assertEqual((entry.look(), entry.token), (5, 1))
 
     def test_no_file_becomes_a_standard_stream(self):
         """Where these are closed: what a program writes there would stand in a file of the store."""
@@ -206,22 +131,22 @@ class Sharing(InFolder, unittest.TestCase):
 
         def slow(fd):
             synced.append(fd)
-            going.wait(20)
+            going.wait(LONGEST)
             fdatasync(fd)
 
         def read():
-            entered.wait(20)
+            entered.wait(LONGEST)
             entries.append(paths.enter("read"))
 
         with mock.patch.object(os, "fdatasync", slow):
             threads = [threading.Thread(target=read) for _ in range(8)]
             for thread in threads:
                 thread.start()
-            entered.wait(20)
+            entered.wait(LONGEST)
             self.until(lambda: self.text().count(b"started") == 8)
             going.set()
             for thread in threads:
-                thread.join(20)
+                thread.join(LONGEST)
         self.assertLessEqual(len(synced), 2)
         self.assertEqual(self.text().count(b"+"), 7)
         for entry in entries:
@@ -361,6 +286,26 @@ class Sharing(InFolder, unittest.TestCase):
         self.assertFalse(os.path.exists(self.file + ".new"))
         self.assertEqual(self.access(), before)
         paths.enter("remove").leave()
+        self.assertTrue(paths.audit())
+
+    def test_a_move_that_is_undone_while_another_opens(self):
+        """Who opens has counted the names of the file when the one that a dead process gave it goes."""
+        paths = self.open(SLOT)
+        paths.enter("deposit").leave()
+        os.link(self.file, self.file + ".1")
+        count = _store.Store._count_moved
+        counts = []
+
+        def is_undone(store):
+            counts.append(count(store))
+            if len(counts) == 1:
+                os.unlink(self.file + ".1")
+            return counts[-1]
+
+        with mock.patch.object(_store.Store, "_count_moved", is_undone):
+            other = self.open(SLOT)
+        self.assertEqual(counts[:2], [1, 0])
+        other.enter("remove").leave()
         self.assertTrue(paths.audit())
 
     def moves_until(self, step, is_behind):
@@ -504,29 +449,36 @@ class TurnsInC(InFolder, unittest.TestCase):
                 a.enter("read")
             told.append("asked")
 
-        def gives(*_):
-            beside.give_turn()
+        def comes():
+            try:
+                self.until(self.waits_for_turn)
+                signal.pthread_kill(main, signal.SIGUSR1)
+                self.until(lambda: told)
+                thread.start()
+            finally:
+                beside.give_turn()
 
-        before = signal.signal(signal.SIGALRM, asks)
-        self.addCleanup(signal.signal, signal.SIGALRM, before)
-        thread = threading.Thread(target=lambda: told.append(a.enter("read", timeout=20).leave()))
+        before, main = signal.signal(signal.SIGUSR1, asks), threading.get_ident()
+        self.addCleanup(signal.signal, signal.SIGUSR1, before)
+        thread = threading.Thread(target=lambda: told.append(a.enter("read", timeout=LONGEST).leave()))
         beside.take_turn()
-        timer = threading.Timer(0.3, gives)
-        timer.start()
-        threading.Timer(0.15, thread.start).start()
-        signal.setitimer(signal.ITIMER_REAL, 0.05)
+        coming = threading.Thread(target=comes)
+        coming.start()
         self.one(a)
-        timer.join()
+        coming.join()
         self.until(lambda: not thread.is_alive() and len(told) == 2)
         self.assertEqual(told, ["asked", None])
-        signal.signal(signal.SIGALRM, lambda *_: interrupt())
         beside.take_turn()
-        signal.setitimer(signal.ITIMER_REAL, 0.05)
-        with self.assertRaises(Interrupt):
-            a.enter("write")
+        self.assertTrue(Alarms(self).cut_off_waiting(lambda: a.enter("write"), self.waits_for_turn))
         beside.give_turn()
         self.one(a)
         self.assertEqual((a.report().live, a.waiting()), ((), {}))
+
+    def waits_for_turn(self):
+        """Whether somebody waits for a turn at this store that another has."""
+        place = ":{} ".format(os.stat(self.file + ".shared").st_ino)
+        with open("/proc/locks") as file:
+            return any(" -> " in line and place in line for line in file)
 
     @unittest.skipUnless(_testcapi and hasattr(_testcapi, "set_nomemory"), "this Python can't be made to lack memory")
     def test_each_allocation_that_fails(self):
@@ -594,17 +546,7 @@ class TurnsInC(InFolder, unittest.TestCase):
         self.assertEqual([core.highest_worker(text) for text in (b"", b"\n", b"12 a\n+7 b\n99\n+3", b"+", b"9" * 30 + b" x\n8 y")], [0, 0, 12, 0, 8])
 
 
-class Deaths(InFolder, unittest.TestCase):
-    def holds_a_write(self):
-        self.kept = Paths(BOOK, store=self.file).enter("write")
-
-    def test_what_the_dead_had_is_finished(self):
-        a = self.open(BOOK)
-        self.dies(self.holds_a_write)
-        a.enter("read", timeout=20).leave()
-        self.assertEqual(a.journal(), "2 start write: started 0\n2 finish 0: finished\n1 start read: started 1\n1 finish 1: finished\n")
-        self.assertTrue(a.audit())
-
+class Deaths(both_stores.Deaths, InFolder, unittest.TestCase):
     def test_one_who_waits_hears_of_a_death(self):
         a = self.open(BOOK)
         ready, die = multiprocessing.Event(), multiprocessing.Event()
@@ -612,13 +554,13 @@ class Deaths(InFolder, unittest.TestCase):
         def holds():
             entry = Paths(BOOK, store=self.file).enter("write")
             ready.set()
-            die.wait(20)
+            die.wait(LONGEST)
             self.assertTrue(entry)
 
         child = self.child(holds)
-        ready.wait(20)
+        ready.wait(LONGEST)
         threading.Timer(0.05, die.set).start()
-        a.enter("read", timeout=20).leave()
+        a.enter("read", timeout=LONGEST).leave()
         os.waitpid(child, 0)
         self.assertTrue(a.audit())
 
@@ -633,114 +575,23 @@ class Deaths(InFolder, unittest.TestCase):
         os.waitpid(child, os.WUNTRACED)
         a._store._beside.give_turn()
         told = []
-        thread = threading.Thread(target=lambda: told.append(b.enter("read", timeout=20)))
+        thread = threading.Thread(target=lambda: told.append(b.enter("read", timeout=LONGEST)))
         thread.start()
         self.until(lambda: a._store._beside.waiting[0] == 2)
         entry.leave()
         os.kill(child, signal.SIGKILL)
         os.waitpid(child, 0)
-        thread.join(20)
+        thread.join(LONGEST)
         self.assertEqual(len(told), 1)
         told.pop().leave()
-        a.enter("write", timeout=20).leave()
+        a.enter("write", timeout=LONGEST).leave()
 
     def test_an_exit_is_a_death(self):
         opened = "Paths({!r}, store={!r})".format(BOOK, self.file)
         program = "import os\nfrom wanzoche import Paths\nentry = {}.enter('write')\nos._exit(0)".format(opened)
-        subprocess.run([sys.executable, "-c", program], check=True, timeout=60)
+        subprocess.run([sys.executable, "-c", program], check=True, timeout=LONGEST)
         self.assertEqual(self.text().count(b"finish"), 0)
         self.open(BOOK).enter("read", timeout=0).leave()
-
-    def test_the_living_are_not_taken_for_dead(self):
-        a, b = self.open(BOOK), self.open(BOOK)
-        with a("write"):
-            for _ in range(3):
-                with self.assertRaises(Timeout):
-                    b.enter("read", timeout=0.15)
-            self.assertEqual(b.report().lost, ())
-
-    def test_kept_and_recovered(self):
-        a = self.open(BOOK, lost="keep")
-        self.dies(self.holds_a_write)
-        with self.assertRaisesRegex(Timeout, "in progress: write by process 2$"):
-            a.enter("read", timeout=0.25)
-        (lost,) = a.report().lost
-        self.assertEqual((lost.worker, lost.operation), ("process 2", "write"))
-        self.assertEqual(a.recover(lost), 1)
-        self.assertEqual((a.recover("process 2"), a.recover(2)), (0, 0))
-        a.enter("read", timeout=0).leave()
-        self.assertTrue(a.audit())
-
-    def test_the_living_may_lose_what_they_have(self):
-        a, b = self.open(BOOK), self.open(BOOK)
-        entry, other = a.enter("write"), a("write")
-        for worker in (a.worker, 1):
-            with self.assertRaisesRegex(ValueError, "^process 1 is alive$"):
-                b.recover(worker)
-        self.assertEqual(b.recover(a.worker, even_alive=True), 1)
-        with b("read"):
-            with self.assertRaises(Lost):
-                entry.put(1)
-            with self.assertRaisesRegex(Lost, "^activation 0 was finished by others"):
-                entry.leave()
-        with self.assertRaises(wanzoche.NotInProgress):
-            entry.leave()
-        with other:
-            pass
-        with self.assertRaises(Lost):
-            with a("write"):
-                b.recover(a.worker, even_alive=True)
-        self.assertTrue(a.audit())
-
-    def test_a_child_of_a_fork_keeps_nothing_alive(self):
-        pids = os.pipe()
-
-        def forks():
-            self.holds_a_write()
-            child = os.fork()
-            if child == 0:
-                time.sleep(60)
-            os.write(pids[1], str(child).encode())
-
-        self.dies(forks)
-        self.open(BOOK).enter("read", timeout=20).leave()
-        os.kill(int(os.read(pids[0], 20)), signal.SIGKILL)
-
-    def test_a_child_of_a_fork_opens_its_own(self):
-        paths = self.open(BOOK)
-        entry = paths.enter("read")
-        child = os.fork()
-        if child == 0:
-            told = []
-            for call in (entry.leave, paths.report, paths.journal, lambda: paths.enter("read"), lambda: paths.recover(1)):
-                try:
-                    call()
-                except Forked:
-                    told.append(True)
-            paths.close()
-            with Paths(BOOK, store=self.file)("read") as own:
-                told.append(own.worker == "process 2")
-            os._exit(0 if told == [True] * 6 else 1)
-        self.assertEqual(os.waitpid(child, 0)[1], 0)
-        entry.leave()
-        self.assertEqual(paths.report().live, ())
-
-    def test_a_thread_that_drops_its_entry(self):
-        paths = self.open(BOOK)
-        with self.assertWarns(ResourceWarning):
-            thread = threading.Thread(target=lambda: paths.enter("write") and None)
-            thread.start()
-            thread.join(20)
-            gc.collect()
-        self.open(BOOK).enter("read", timeout=0).leave()
-
-    def test_closing_finishes(self):
-        paths, other = self.open(BOOK), self.open(BOOK)
-        entry = paths.enter("write")
-        paths.close()
-        other.enter("read", timeout=0).leave()
-        with self.assertRaises(Closed):
-            entry.leave()
 
     def test_numbers_are_not_given_twice(self):
         numbers = []
@@ -801,7 +652,7 @@ class Refusals(InFolder, unittest.TestCase):
         self.until(lambda: b.waiting() == {"write": 1})
         with open(self.file, "ab") as file:
             file.write(b"hello\n")
-        thread.join(20)
+        thread.join(LONGEST)
         self.assertEqual(told, [3])
         with self.assertRaises(CorruptStore):
             entry.leave()
@@ -1178,7 +1029,7 @@ class Disks(InFolder, unittest.TestCase):
             with self.assertRaisesRegex(StoreError, "can't be synced"):
                 call()
         paths.close()
-        with other("write", timeout=20):
+        with other("write", timeout=LONGEST):
             pass
         self.assertTrue(other.audit())
 
@@ -1300,7 +1151,7 @@ class Interrupts(InFolder, unittest.TestCase):
 
     def setUp(self):
         super().setUp()
-        guard = no_longer_than(300)
+        guard = ends_a_hang()
         guard.__enter__()
         self.addCleanup(guard.__exit__, None, None, None)
 
@@ -1354,27 +1205,22 @@ class Interrupts(InFolder, unittest.TestCase):
         self.each(late, 5)
 
     def test_signals_at_random_moments(self):
-        before = signal.signal(signal.SIGALRM, lambda *_: interrupt())
-        self.addCleanup(signal.signal, signal.SIGALRM, before)
         unraisable = mock.patch.object(sys, "unraisablehook", lambda what: self.assertIs(what.exc_type, Interrupt))
         unraisable.start()
         self.addCleanup(unraisable.stop)
+        alarms = Alarms(self)
         for number in range(4):
             with Paths(BOOK, store="{}/{}.log".format(self.folder, number), sync=False) as paths:
                 for _ in range(25):
-                    self.interrupted(paths)
+                    self.interrupted(alarms, paths)
                 self.assertTrue(paths.audit())
 
-    def interrupted(self, paths):
-        try:
-            signal.setitimer(signal.ITIMER_REAL, random.uniform(1e-5, 3e-4), 0.5)
-            while True:
-                with paths("write"):
-                    pass
-        except Interrupt:
-            pass
-        finally:
-            signal.setitimer(signal.ITIMER_REAL, 0)
+    def interrupted(self, alarms, paths):
+        def write():
+            with paths("write"):
+                pass
+
+        alarms.cut_off(write, 1e-5, 3e-4)
         gc.collect()
         self.assertEqual(paths.report().live, ())
 

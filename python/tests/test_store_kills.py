@@ -17,12 +17,14 @@ import wanzoche
 from wanzoche import Paths
 
 from .declarations import BOOK
+from .limits import LONGEST
 from .stores import THOROUGH
 
 KILLS = int(os.environ.get("WANZOCHE_KILLS", "200" if THOROUGH else "20"))
 SEED = int(os.environ.get("WANZOCHE_SEED", "1974"))
 WORKERS = 4
-LONGEST = 0.02
+PAUSE = 0.02
+"""So many seconds at most are between two kills."""
 LINE = re.compile(r"^\d+ (?:start (\w+): started|finish) (\d+)", re.M)
 
 
@@ -52,7 +54,7 @@ class Load:
     def work(self, paths, chance):
         while True:
             operation = "write" if chance.random() < 0.3 else "read"
-            entry = paths.enter(operation, timeout=60)
+            entry = paths.enter(operation, timeout=LONGEST)
             token = entry.token
             os.write(self.into, b"%s %d\n" % (operation.encode(), token))
             entry.leave()
@@ -76,7 +78,7 @@ class Load:
 
     def first(self):
         """The same, once there is something to tell."""
-        select.select([self.out], [], [], 60)
+        select.select([self.out], [], [], LONGEST)
         return self.answered()
 
     def lines(self):
@@ -113,7 +115,7 @@ class Kills(unittest.TestCase):
                 load.begin()
             for _ in range(count):
                 told.update(load.first())
-                time.sleep(load.chance.uniform(0, LONGEST))
+                time.sleep(load.chance.uniform(0, PAUSE))
                 is_killed = load.kill() == signal.SIGKILL
                 told.update(load.answered())
                 self.assertEqual([each for each in told if each.startswith("wrong")], [])

@@ -1,159 +1,40 @@
-"""Many processes over one store, killed at random moments, with a witness that knows nothing of paths.
-
-The witness is a file that each body locks, shared or alone, without waiting; the bodies that are alone also add 1 to a number in a file, in
-two steps. Each process notes what it has entered and left. Wrong stores, made by changing one thing each, show that this is noticed.
+"""Many processes over one store, killed at random moments (witness.py). Wrong stores, made by changing one thing each, show that what is
+wrong is noticed. WANZOCHE_ROUNDS makes more rounds, and WANZOCHE_SEED repeats one.
 """
 
-import fcntl
 import os
 import random
-import re
-import signal
-import sys
-import tempfile
-import time
 import unittest
-import warnings
 from unittest import mock
 
-import wanzoche
 from wanzoche import Paths, Timeout, _beside, _store
 
-from .declarations import BOOK, LINE, SLOT
+from . import witness
+from .declarations import BOOK, SLOT
+from .limits import LONGEST
 from .stores import THOROUGH, only_in_python
+from .witness import BUFFER, ROUNDS
 
-ROUNDS = int(os.environ.get("WANZOCHE_ROUNDS", "1"))
-"""More find more."""
-SHARED = {"read"}
-PATIENCE = 20
-
-
-class Round:
-    """So many processes with so many entries each, of which some are killed."""
-
-    def __init__(self, text, processes, entries, *, kills=0.0, sync=False, room=1048576, patience=PATIENCE):
-        self.text, self.processes, self.entries = text, processes, entries
-        self.kills, self.sync, self.patience = kills, sync, patience
-        self.room = room
-        self.alive, self.killed, self.begun, self.wrong = {}, 0, 0, []
-
-    def run(self):
-        """What was wrong."""
-        with tempfile.TemporaryDirectory(prefix="wanzoche-") as self.folder:
-            self.store = self.folder + "/door.log"
-            Paths(self.text, store=self.store, room=self.room).close()
-            for _ in range(self.processes):
-                self.begin(self.entries)
-            self.wait()
-            try:
-                self.judge()
-            except wanzoche.StoreError as error:
-                self.wrong.append(str(error))
-        return self.wrong
-
-    def begin(self, entries):
-        child = os.fork()
-        if child == 0:
-            try:
-                Worker(self, self.begun).run(entries)
-                os._exit(0)
-            except BaseException as error:
-                with open("{}/wrong.{}".format(self.folder, self.begun), "w") as file:
-                    file.write("{}: {}".format(type(error).__name__, error))
-            finally:
-                os._exit(1)
-        self.alive[child] = self.begun
-        self.begun += 1
-
-    def wait(self):
-        """Until all have ended. Kills some, for each of which another takes its place."""
-        moved, size = time.monotonic(), 0
-        while self.alive:
-            child, status = os.waitpid(-1, os.WNOHANG)
-            if child in self.alive:
-                del self.alive[child]
-                if os.WIFSIGNALED(status):
-                    self.killed += 1
-                    if self.killed <= 4 * self.processes:
-                        self.begin(self.entries // 3)
-                continue
-            if self.kills and random.random() < self.kills and self.killed < 3 * self.processes:
-                os.kill(random.choice(list(self.alive)), signal.SIGKILL)
-            now = sum(entry.stat().st_size for entry in os.scandir(self.folder) if entry.name.startswith("notes."))
-            moved, size = (time.monotonic(), now) if now != size else (moved, size)
-            if time.monotonic() - moved > self.patience:
-                self.wrong.append("stuck: {}".format(sorted(self.alive.values())))
-                self.end_all()
-            time.sleep(0.003)
-
-    def end_all(self):
-        for child in list(self.alive):
-            os.kill(child, signal.SIGKILL)
-            os.waitpid(child, 0)
-        self.alive.clear()
-
-    def judge(self):
-        """Compares the journal with what each has noted."""
-        with Paths(self.text, store=self.store) as paths:
-            live = paths.report().live
-            journal, verdict = paths.journal(), paths.audit()
-        if live or not verdict:
-            self.wrong.append("live: {}; {}".format(live, verdict))
-        starts = dict(re.findall(r"^\d+ start (\w+): started (\d+)$", journal, re.M)[i][::-1] for i in range(journal.count("started")))
-        finishes = re.findall(r"^\d+ finish (\d+): finished$", journal, re.M)
-        if len(set(finishes)) != len(finishes) or set(finishes) != set(starts):
-            self.wrong.append("starts and finishes aren't the same")
-        alone = 0
-        for name in os.listdir(self.folder):
-            with open(os.path.join(self.folder, name), errors="replace") as file:
-                if name.startswith("wrong."):
-                    self.wrong.append(file.read())
-                elif name.startswith("notes."):
-                    alone += self.compare(file, starts, set(finishes))
-        total = 0
-        if os.path.exists(self.folder + "/total"):
-            with open(self.folder + "/total") as file:
-                total = int(file.read() or 0)
-        if not alone <= total <= alone + self.killed:
-            self.wrong.append("{} bodies were alone, and the number is {}".format(alone, total))
-
-    def compare(self, notes, starts, finishes):
-        alone = 0
-        for line in notes:
-            word, *rest = line.split()
-            if word == "breach" or word == "entered" and starts.get(rest[0]) != rest[1] or word == "left" and rest[0] not in finishes:
-                self.wrong.append(line.strip())
-            alone += word == "body" and rest[1] not in SHARED
-        return alone
+IMPATIENCE = 20
+"""After so many seconds in which nobody gets on a wrong store is found."""
 
 
-class Worker:
-    """One process of a round."""
-
-    def __init__(self, round, number):
-        self.round = round
-        self.witness = os.open(round.folder + "/witness", os.O_RDWR | os.O_CREAT)  # before the store: the kernel gives it back first
-        self.total = os.open(round.folder + "/total", os.O_RDWR | os.O_CREAT)
-        self.notes = os.open("{}/notes.{}".format(round.folder, number), os.O_WRONLY | os.O_CREAT | os.O_APPEND)
-        random.seed(number)
-        warnings.simplefilter("ignore", ResourceWarning)  # of entries that an exception drops
-
-    def note(self, *words):
-        os.write(self.notes, (" ".join(map(str, words)) + "\n").encode())
+class Worker(witness.Worker):
+    """One process of a round, half of them with their turns in Python."""
 
     def run(self, entries):
         paths = Paths(self.round.text, store=self.round.store, sync=self.round.sync)
         if random.random() < 0.5:
             only_in_python(paths._store)
         if self.round.kills:
-            self.dies_between(_store.Store, "_append")
-            self.dies_between(_beside.Beside, "give_turn")
-            self.dies_between(os, "rename", 0.02)
-            self.dies_between(os, "link", 0.02)
+            self.dies_around(_store.Store, "_append", 0.001)
+            self.dies_around(_beside.Beside, "give_turn", 0.001)
+            self.dies_around(os, "rename", 0.02)
+            self.dies_around(os, "link", 0.02)
         for each in range(entries):
             operation = paths.operations[each % 2] if self.round.text != BOOK else random.choice(paths.operations)
             try:
-                entry = paths.enter(operation, timeout=60 if self.round.text == BOOK else 0.2)
+                entry = paths.enter(operation, timeout=LONGEST if self.round.text == BOOK else 0.2)
             except Timeout:
                 if self.round.text == BOOK:
                     raise
@@ -165,35 +46,25 @@ class Worker:
             self.note("left", token)
         paths.close()
 
-    def dies_between(self, of, name, chance=0.001):
-        """Sometimes this process is killed just before or behind a call."""
-        call = getattr(of, name)
 
-        def dying(*given):
-            if random.random() < chance:
-                os.kill(os.getpid(), signal.SIGKILL)
-            call(*given)
-            if random.random() < chance:
-                os.kill(os.getpid(), signal.SIGKILL)
+class Round(witness.Round):
+    """Processes over one file."""
 
-        setattr(of, name, dying)
+    worker = Worker
 
-    def body(self, operation, token):
-        try:
-            fcntl.lockf(self.witness, (fcntl.LOCK_SH if operation in SHARED else fcntl.LOCK_EX) | fcntl.LOCK_NB)
-        except OSError:
-            self.note("breach", token)
-        if operation not in SHARED:
-            before = int(os.pread(self.total, 20, 0) or b"0")
-            if random.random() < 0.3:
-                time.sleep(random.random() * 0.001)
-            os.pwrite(self.total, b"%020d" % (before + 1), 0)
-        fcntl.lockf(self.witness, fcntl.LOCK_UN)
-        self.note("body", token, operation)
+    def __init__(self, text, processes, entries, *, kills=0.0, sync=False, room=1048576, patience=LONGEST):
+        super().__init__(text, processes, entries, kills=kills, patience=patience)
+        self.sync, self.room = sync, room
 
+    @property
+    def store(self):
+        return self.folder + "/door.log"
 
-BUFFER = LINE.replace("path put end\npath get end", "path put , get end")
-"""A buffer at which one works at a time."""
+    def first(self):
+        return Paths(self.text, store=self.store, room=self.room)
+
+    def again(self):
+        return Paths(self.text, store=self.store)
 
 
 class Many(unittest.TestCase):
@@ -237,12 +108,12 @@ class Many(unittest.TestCase):
 class WrongStores(unittest.TestCase):
     """One thing is changed in each, and a round has to find it."""
 
-    def found(self, *patches, text=BOOK, kills=0.0, patience=PATIENCE):
+    def found(self, *patches, text=BOOK, kills=0.0, patience=IMPATIENCE):
         patches += (mock.patch.object(_store.Store, "_be_ready", lambda *given: None),)  # what is changed is Python
         for patch in patches:
             patch.start()
         try:
-            for _ in range(5):
+            for _ in range(20):
                 wrong = Round(text, 6, 150, kills=kills, patience=patience).run()
                 if wrong:
                     return

@@ -7,7 +7,7 @@ from unittest import mock
 
 import wanzoche
 
-from . import test_paths, test_tasks, test_threads
+from . import test_paths, test_tasks, test_threads, test_watching
 
 FEWER = 12800
 """So many entries, where paths in memory make 200,000."""
@@ -22,6 +22,7 @@ class OverStores:
         super().setUp()
         folder = tempfile.TemporaryDirectory(prefix="wanzoche-")
         self.addCleanup(folder.cleanup)
+        self.folder = folder.name
         self.opened = 0
         patched = mock.patch.object(self.module, "Paths", lambda text, **options: self.over_store(folder.name, text, options))
         patched.start()
@@ -39,6 +40,18 @@ class OverStores:
 
 class StoredEntries(OverStores, test_paths.Entries):
     module = test_paths
+
+
+class StoredUnused(OverStores, test_paths.Unused):
+    module = test_paths
+    test_nothing_of_one_that_found_no_room = None  # a store's room is for lines, of which it has another file
+
+    def options(self):
+        return {"store": os.path.join(self.folder, "exit.log")}
+
+
+class StoredMetrics(OverStores, test_watching.Counted):
+    module = test_watching
 
 
 class StoredRefusals(OverStores, test_paths.Refusals):

@@ -8,6 +8,7 @@ import unittest
 from wanzoche import Paths, Timeout
 
 from .declarations import BOOK, LINE, SLOT
+from .limits import LONGEST
 
 
 class Tasks(unittest.TestCase):
@@ -45,7 +46,7 @@ class Tasks(unittest.TestCase):
                 await waiting
             async with paths.aio("deposit"):
                 pass
-            await asyncio.wait_for(other, 5)
+            await asyncio.wait_for(other, LONGEST)
 
         asyncio.run(main())
         self.assertEqual(paths.report().live, ())
@@ -61,25 +62,27 @@ class Tasks(unittest.TestCase):
             async with paths.aio("deposit"):
                 pass
             first.cancel()  # it was woken, and hasn't run since
-            await asyncio.wait_for(second, 5)
+            await asyncio.wait_for(second, LONGEST)
 
         asyncio.run(main())
         self.assertTrue(paths.audit())
 
     def test_a_body_that_is_cancelled_is_finished(self):
-        paths = Paths(BOOK)
+        paths, begun = Paths(BOOK), []
 
         async def write():
             async with paths.aio("write"):
-                await asyncio.sleep(60)
+                begun.append(True)
+                await asyncio.sleep(4 * LONGEST)
 
         async def main():
             task = asyncio.ensure_future(write())
-            await asyncio.sleep(0.01)
+            while not begun:
+                await asyncio.sleep(0.001)
             task.cancel()
             with self.assertRaises(asyncio.CancelledError):
                 await task
-            async with paths.aio("write", timeout=1):
+            async with paths.aio("write", timeout=LONGEST):
                 pass
 
         asyncio.run(main())
@@ -126,7 +129,7 @@ class Tasks(unittest.TestCase):
         thread = threading.Thread(target=deposits)
         thread.start()
         asyncio.run(main())
-        thread.join(10)
+        thread.join(LONGEST)
         self.assertTrue(paths.audit())
 
     def test_a_loop_that_has_ended_holds_nobody_up(self):
@@ -134,8 +137,7 @@ class Tasks(unittest.TestCase):
             paths = Paths(SLOT)
             loop = asyncio.new_event_loop()
             left = loop.create_task(self.remove(paths))
-            loop.run_until_complete(asyncio.sleep(0.01))
-            self.assertEqual(paths.waiting(), {"remove": 1})
+            loop.run_until_complete(self.until_one_waits(paths))
             if close:
                 loop.close()
             thread = threading.Thread(target=lambda: paths.enter("remove").leave())
@@ -147,17 +149,17 @@ class Tasks(unittest.TestCase):
                 waiting = asyncio.ensure_future(self.remove(paths))
                 await asyncio.sleep(0.01)
                 for _ in range(2):
-                    async with paths.aio("deposit", timeout=20):
+                    async with paths.aio("deposit", timeout=LONGEST):
                         pass
-                await asyncio.wait_for(waiting, 20)
+                await asyncio.wait_for(waiting, LONGEST)
 
             asyncio.run(main())
-            thread.join(20)
+            thread.join(LONGEST)
             self.assertFalse(thread.is_alive())
             with paths("deposit"):
                 pass
             if not close:  # it may go on, and then has its turn
-                loop.run_until_complete(asyncio.wait_for(left, 20))
+                loop.run_until_complete(asyncio.wait_for(left, LONGEST))
                 loop.close()
             left._log_destroy_pending = False
 
@@ -173,7 +175,7 @@ class Tasks(unittest.TestCase):
             cancelled = waiting.cancel()
             await asyncio.wait([waiting, deposit])
             if waiting.cancelled():
-                await asyncio.wait_for(other, 20)
+                await asyncio.wait_for(other, LONGEST)
             else:
                 other.cancel()
             return cancelled
@@ -185,6 +187,11 @@ class Tasks(unittest.TestCase):
                 paths.enter("remove").leave()
             steps += 1
         self.assertGreater(steps, 2)
+
+    @staticmethod
+    async def until_one_waits(paths):
+        while paths.waiting() != {"remove": 1}:
+            await asyncio.sleep(0.001)
 
     @staticmethod
     async def deposit(paths):

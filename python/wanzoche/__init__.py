@@ -31,9 +31,10 @@ from ._errors import (
     WanzocheError,
 )
 from ._exploring import Exploration, explore
+from ._metrics import Histogram, Metrics
 from ._paths import Paths, audit
 from ._stored import StoredPaths
-from ._texts import Live, Path, Report, Verdict
+from ._texts import Live, Path, Report, Verdict, Worker
 
 __all__ = [
     "AsyncEntry",
@@ -44,9 +45,11 @@ __all__ = [
     "Entry",
     "Exploration",
     "Forked",
+    "Histogram",
     "JournalError",
     "Live",
     "Lost",
+    "Metrics",
     "NoJournal",
     "NotInProgress",
     "OtherDeclaration",
@@ -63,6 +66,7 @@ __all__ = [
     "UseRefused",
     "Verdict",
     "WanzocheError",
+    "Worker",
     "audit",
     "explore",
 ]

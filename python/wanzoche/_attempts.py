@@ -111,8 +111,7 @@ def watched(operation: Operation, worker: int, waiter: Waiter) -> Waiter:
     """The waiter of this worker, which is going to wait."""
     if waiter.loop is None and asyncio._get_running_loop() is not None:
         warn_in_loop(operation)
-    if operation._paths._looks:
-        waiter.paths, waiter.worker = operation._paths, worker
+    waiter.paths, waiter.worker = operation._paths, worker
     return waiter
 
 
@@ -121,9 +120,18 @@ def raise_if_late(operation: Operation, waiter: Waiter) -> None:
     left, paths = waiter.left(), operation._paths
     if left is None or left > 0:
         return
-    why = paths._why(operation._name, [waiter.worker]) if waiter.worker else paths.why(operation._name)
+    why = paths._why(operation._name, [waiter.worker]) if waiter.worker and paths._looks else paths.why(operation._name)
     if why is not None:
         raise Timeout(why.operation, why.path, why.resource, why.text, why.in_progress, operation._timeout, why.may_begin, why.own)
+
+
+def _until_admitted(operation: Operation, worker: int, waiter: Waiter) -> Generator[Waiter, None, None]:
+    """Of one that has joined its queue: yields the waiter each time it has to wait."""
+    # A function of its own, as is each loop of the package that stands in a `try` or `with`: in CPython 3.13 no handler of the function
+    # itself sees an interrupt that comes as a loop jumps back by its condition.
+    while not _admitted_by_now(operation, worker, waiter):
+        yield waiter
+        operation._paths._queues.asks(waiter)
 
 
 def _admitted_by_now(operation: Operation, worker: int, waiter: Waiter) -> bool:
@@ -157,9 +165,7 @@ def waiting(operation: Operation, code: int, worker: int, waiter_of: Type[Waiter
                 queue = operation._paths._queues.join(waiter)
                 if waiter.paths is not None:
                     queue.look_later()
-                while not _admitted_by_now(operation, worker, waiter):
-                    yield waiter
-                    operation._paths._queues.asks(waiter)
+                yield from _until_admitted(operation, worker, waiter)
                 operation._paths._queues.quit(waiter)
         except BaseException as error:
             undo(operation, error, worker, waiter)

@@ -8,6 +8,8 @@ and reads the log from its begin: what is known is what stands there, and what t
 
 from __future__ import annotations
 
+import itertools
+import logging
 import random
 import select
 import threading
@@ -36,6 +38,7 @@ PAUSE, LONGEST_PAUSE = 0.01, 1.0
 """So many seconds pass before the server is asked again; from one failure to the next the pause doubles, up to the longest."""
 
 T = TypeVar("T")
+_logger = logging.getLogger("wanzoche")
 
 _VERBS = {native.PUT: b"put %d", native.TAKE: b"take", native.LOOK: b"look", native.ADD: b"add %d"}
 
@@ -61,6 +64,8 @@ class Clerk:
         self.log = log
         self.held: Dict[int, Held] = {}
         self.fault: Optional[BaseException] = None
+        self.waits_long: Callable[[int, int, float], None] = lambda op, caller, since: None
+        """Called at the desk of a start that has waited for a second, for two, four and so on, since then."""
         self.away: Optional[Exception] = None
         """Why the server can't be reached, or what it refuses; None while all is well."""
         self.is_over = False
@@ -207,8 +212,7 @@ class Clerk:
                 self._send(only)
             elif self._waits_here is request:
                 self.log.session.look()
-            while not (request.is_over() or self._inbox) and self._do_next():
-                pass
+            self._do_all(request)
         except Cut:
             pass  # the clerk begins another session, and sends again what was on its way
         except Gone:
@@ -227,6 +231,11 @@ class Clerk:
             if not (is_usual and self._is_idle()):
                 self.ring()
         self._here = None
+
+    def _do_all(self, request: Request) -> None:
+        """Until the request is over, or something else comes, or nothing is to be done."""
+        while not (request.is_over() or self._inbox) and self._do_next():
+            pass
 
     def _has_failed(self) -> bool:
         """Whether something has gone wrong that the clerk has yet to set right."""
@@ -303,10 +312,8 @@ class Clerk:
     def _run(self) -> None:
         with self._desk:
             try:
-                while not self._ends:
-                    self._through_outages(self._work)
-                while not self._through_outages(self._finish_all):
-                    pass
+                self._work_to_the_end()
+                self._finish_through_outages()
             except BaseException as error:
                 self.fault = self.fault or error
             self.is_over = True
@@ -314,6 +321,14 @@ class Clerk:
             self.log.replica.close()
             self._poller.close()
             self._refuse_all()
+
+    def _work_to_the_end(self) -> None:
+        while not self._ends:
+            self._through_outages(self._work)
+
+    def _finish_through_outages(self) -> None:
+        while not self._through_outages(self._finish_all):
+            pass
 
     def _through_outages(self, work: Callable[[], None]) -> bool:
         """Does that: False if the session was cut meanwhile, or the server has lost lines."""
@@ -671,12 +686,19 @@ class Clerk:
         """To those that don't wait, unless a dead worker was in their way. A request stays where it is until no call may be cut off."""
         if not self._has_waiters():
             return
+        self._note_waits()
         blocked = self._blocked()
         if blocked and self._finishes_lost and self._bury_dead():
             blocked = self._blocked()
         for start in blocked:
             self._starts[start.held._op].remove(start)
             start.reply(native.BLOCKED)
+
+    def _note_waits(self) -> None:
+        """Of those that have to wait."""
+        queues = [queue for op, queue in self._starts.items() if queue and not self.log.replica.can_start(op)]
+        for start in itertools.chain.from_iterable(queues):
+            start.has_waited = start.waits and start.has_looked
 
     def _blocked(self) -> List[Start]:
         """Those that don't wait, and for which the log was looked at, where a path forbids the start."""
@@ -743,6 +765,15 @@ class Clerk:
         if self._finishes_lost:
             self._bury_dead()
         self._reply_blocked()
+        self._tell_waits()
+
+    def _tell_waits(self) -> None:
+        """Of each operation: who has waited longest for it, if that is a second, two, four and so on."""
+        first = [queue[0] for op, queue in self._starts.items() if queue and queue[0].has_waited]
+        for start in first:
+            if time.monotonic() - start.since >= start.looks:
+                start.looks *= 2
+                self.waits_long(start.held._op, start.caller, start.since)
 
     def _follow(self) -> None:
         self.log.follow()
@@ -776,7 +807,10 @@ class Clerk:
         """Finishes that: whether there was any."""
         found = self.lost()
         for worker in {each.worker for each in found}:
-            self.bury(worker, [each for each in found if each.worker == worker], False)
+            own = [each for each in found if each.worker == worker]
+            if self.bury(worker, own, False):
+                names = ", ".join(self._names[each.operation].decode() for each in own)
+                _logger.info("process %d is dead, and what it had in progress is finished: %s", worker, names)
         if found:
             self._follow()
         return bool(found)
@@ -792,6 +826,7 @@ class Clerk:
         """Begins another session, however often that takes. Requests that are older than the patience fail."""
         outage = Outage()
         is_same: Optional[bool] = None
+        _logger.info("the log %s: the server doesn't answer: %s", self.log.name, error)
         while is_same is None:
             self.away = StoreError("the log {}: the server doesn't answer: {}".format(self.log.name, error))
             self._read_inbox()
@@ -806,7 +841,9 @@ class Clerk:
                 if self.log.is_removed:
                     raise
                 error = told
+                _logger.info("the log %s: the server is asked again: %s", self.log.name, told)
                 self._wait(outage.pause())
+        _logger.info("the log %s: the server is there again, after %.1f s", self.log.name, time.monotonic() - outage.begun)
         self.away, self._watched = None, -1
         flight = self._flight
         self._is_unsure = self._is_unsure or flight is not None and not flight.is_stepped and flight.before != self.log.place

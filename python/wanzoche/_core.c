@@ -46,12 +46,13 @@ typedef struct Calls {
     begin_call *begin;
     end_call *end;
     can_start_call *can_start;
+    uint64_t entries[WANZOCHE_MOST_OPERATIONS]; /* how often each operation was begun */
 } Calls;
 
 /* The base of Paths. */
 typedef struct System {
     PyObject_HEAD
-    uint64_t serial;   /* no other system of this process has it */
+    uint64_t serial;   /* no other system of this process has it; 0 where a thread isn't one worker, but each of its greenlets is */
     Calls *calls;      /* null until it is set up, as are those below */
     PyObject *numbers; /* of the operations, by their names: a dict */
     PyObject *queues;  /* those that wait */
@@ -84,6 +85,7 @@ enum Name {
     ITS_NUMBER,
     ITS_WORKER,
     JOIN,
+    LEAVE,
     LIVE,
     NEW_WAITER,
     NOT_IN_PROGRESS,
@@ -107,6 +109,7 @@ static const char *const spelled[NAMES] = {
     [ITS_NUMBER] = "_number",
     [ITS_WORKER] = "_worker",
     [JOIN] = "join",
+    [LEAVE] = "leave",
     [LIVE] = "_live",
     [NEW_WAITER] = "_new_waiter",
     [NOT_IN_PROGRESS] = "_not_in_progress",
@@ -202,7 +205,14 @@ static PyObject *calls_is_blocked(PyObject *self, PyObject *operation) {
     return PyBool_FromLong(calls->can_start(calls->handle, number).code == WANZOCHE_BLOCKED);
 }
 
+static PyObject *calls_entries(PyObject *self, PyObject *operation) {
+    uint32_t number;
+    if (!number_in(operation, &number)) return NULL;
+    return PyLong_FromUnsignedLongLong(number < WANZOCHE_MOST_OPERATIONS ? ((Calls *)self)->entries[number] : 0);
+}
+
 static PyMethodDef calls_methods[] = {
+    {"entries", calls_entries, METH_O, "How often the operation of this number was begun."},
     {"is_blocked", calls_is_blocked, METH_O, "Whether a path forbids the operation of this number now."},
     {NULL, NULL, 0, NULL},
 };
@@ -236,7 +246,7 @@ static _Thread_local struct {
 static bool number_of_thread(Entry *entry, uint32_t *worker) {
     System *system = entry->system;
     size_t place = system->serial % KNOWN;
-    if (known[place].serial != system->serial) {
+    if (known[place].serial != system->serial || system->serial == 0) {
         PyObject *number = answer_of(entry, THREAD_WORKER, NULL, NULL);
         bool is_number = number != NULL && number_in(number, worker);
         Py_XDECREF(number);
@@ -275,6 +285,7 @@ static bool wake(System *system) {
 static bool begin(Entry *entry, uint32_t worker, uint32_t *code) {
     Calls *calls = entry->system->calls;
     *code = calls->begin(calls->handle, worker, entry->operation, &entry->record);
+    if (*code == WANZOCHE_STARTED) calls->entries[entry->operation]++;
     if (*code != WANZOCHE_NOT_YOURS) return true;
     PyErr_Format(in_use, "this entry of %S is in progress already", entry->name);
     return false;
@@ -418,7 +429,9 @@ static bool join(Wait *wait) {
 static bool quit(Wait *wait) {
     System *system = wait->entry->system;
     Calls *calls = system->calls;
-    if (PyObject_DelItem(wait->waiters, wait->waiter) < 0 || PySet_Add(system->due, wait->queue) < 0) return false;
+    PyObject *nothing = answer_of(system->queues, LEAVE, wait->queue, wait->waiter);
+    Py_XDECREF(nothing);
+    if (nothing == NULL || PySet_Add(system->due, wait->queue) < 0) return false;
     if (PyObject_Size(wait->waiters) == 0) return true;
     if (calls->can_start(calls->handle, wait->entry->operation).code == WANZOCHE_BLOCKED) return true;
     return call(system->queues, WAKE_ALL, Py_False);
@@ -652,13 +665,15 @@ static void put(PyObject **place, PyObject *object) {
 static PyObject *system_set_up(PyObject *self, PyObject *args) {
     System *system = (System *)self;
     PyObject *calls, *numbers, *queues, *due, *entry_class;
-    if (!PyArg_ParseTuple(args, "O!O!OO!O!:_set_up", calls_type, &calls, &PyDict_Type, &numbers, &queues, &PySet_Type, &due, &PyType_Type,
-                          &entry_class))
+    int has_threads;
+    if (!PyArg_ParseTuple(args, "O!O!OO!O!p:_set_up", calls_type, &calls, &PyDict_Type, &numbers, &queues, &PySet_Type, &due, &PyType_Type,
+                          &entry_class, &has_threads))
         return NULL;
     if (!PyType_IsSubtype((PyTypeObject *)entry_class, entry_type)) {
         PyErr_SetString(PyExc_TypeError, "the class of entries isn't one of _core.Entry");
         return NULL;
     }
+    if (!has_threads) system->serial = 0;
     put(&system->numbers, numbers);
     put(&system->queues, queues);
     put(&system->due, due);

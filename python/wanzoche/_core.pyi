@@ -11,11 +11,19 @@ class InUse(RuntimeError): ...
 class Calls:
     def __new__(cls, begin: int, end: int, can_start: int, at: int, holder: object, /) -> Calls: ...
     def is_blocked(self, operation: int, /) -> bool: ...
+    def entries(self, operation: int, /) -> int: ...
 
 class System:
     def __call__(self, operation: str, timeout: Optional[float] = None) -> _PublicEntry: ...
     def _set_up(
-        self, calls: Calls, numbers: Dict[str, int], queues: Queues, due: Set[Queue], entry_class: Type[_PublicEntry], /
+        self,
+        calls: Calls,
+        numbers: Dict[str, int],
+        queues: Queues,
+        due: Set[Queue],
+        entry_class: Type[_PublicEntry],
+        has_threads: bool,
+        /,
     ) -> None: ...
 
 class Entry:

@@ -106,7 +106,7 @@ class Entry(Base):
         """Adds to the resource's tally: the new total."""
         return self._use(native.ADD, number)
 
-    async def __aenter__(self) -> NoReturn:
+    async def __aenter__(self: "AsyncWithIsForAio") -> NoReturn:  # type: ignore[misc]  # so that a checker of types refuses it
         self._is_told()
         raise TypeError("write `async with paths.aio({!r})`: this entry is for `with` in a thread".format(self.operation))
 
@@ -147,13 +147,22 @@ class Entry(Base):
         warnings.warn(told.format(self.operation, self._written.format(self.operation)), ResourceWarning, frames_of_package(), self)
 
     def _is_told(self) -> None:
-        """Nobody has entered it, and is told so by an exception."""
-        self._operation._worker = NOBODY
+        """Nobody enters it so, who is told by an exception: nothing has to be said again when it is dropped."""
+        if self._operation._worker == 0:  # else it is somebody's
+            self._operation._worker = NOBODY
 
     def __repr__(self) -> str:
         operation = self._operation
         state = "activation {} of {}".format(operation._number, worker_name(operation._worker)) if operation._live else "not in progress"
         return "<Entry of {}: {}>".format(operation._name, state)
+
+
+class AsyncWithIsForAio(Entry):
+    """What `async with paths(..)` would be of, which is refused: write `async with paths.aio(..)`."""
+
+
+class AioIsForAsyncWith(Entry):
+    """What `with paths.aio(..)` would be of, which is refused: write `async with paths.aio(..)`, or `with paths(..)` for threads."""
 
 
 class AsyncEntry(Entry):
@@ -164,7 +173,7 @@ class AsyncEntry(Entry):
 
     _written = "async with paths.aio({!r}):"
 
-    def __enter__(self) -> "AsyncEntry":
+    def __enter__(self: "AioIsForAsyncWith") -> NoReturn:  # type: ignore[misc]  # likewise
         self._is_told()
         raise TypeError("write `async with paths.aio({!r})`, or `with paths({!r})` for threads".format(self.operation, self.operation))
 

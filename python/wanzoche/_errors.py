@@ -4,6 +4,8 @@ from __future__ import annotations
 
 from typing import Any, Optional, Sequence, Tuple
 
+from ._texts import Worker
+
 
 class WanzocheError(Exception):
     """What goes wrong with paths. Each of these can be copied and pickled, as it is when it comes from another process."""
@@ -80,15 +82,16 @@ class UnknownOperation(WanzocheError, LookupError):
 
 
 def _runs(operations: Sequence[Tuple[str, str]]) -> str:
-    return ", ".join("{} by {}".format(*each) for each in operations)
+    return ", ".join("{} by {}".format(name, worker.told if isinstance(worker, Worker) else worker) for name, worker in operations)
 
 
 class Blocked(WanzocheError):
     """A path forbids the start.
 
     `path` is its number and `text` what it says, `resource` whose it is, `in_progress` the operations of the path that are in progress,
-    each with who runs it, and `may_begin` those of its operations that no path forbids now. `own` is for who waits within itself: what it
-    has in progress, with its name, where the operation can't begin before that is left, whatever others do; else it is empty.
+    each with who runs it (a `Worker`), and `may_begin` those of its operations that no path forbids now. `own` is for who waits within
+    itself: what it has in progress, with its name, where the operation can't begin before that is left, whatever others do; else it is
+    empty.
     """
 
     def __init__(

@@ -39,12 +39,17 @@ def no_stream_is_free() -> Iterator[None]:
     stand. Nothing can be read from or written to what stands in its place."""
     taken: List[int] = []
     try:
-        while not taken or taken[-1] <= 2:
-            taken.append(os.open("/", os.O_PATH | os.O_CLOEXEC))
+        _take_streams(taken)
         yield
     finally:
         for each in taken:
             os.close(each)
+
+
+def _take_streams(taken: List[int]) -> None:
+    """Opens files until no standard stream is free, and adds them."""
+    while not taken or taken[-1] <= 2:
+        taken.append(os.open("/", os.O_PATH | os.O_CLOEXEC))
 
 
 def open_file(path: str, flags: int, mode: int = 0o666) -> int:

@@ -3,6 +3,9 @@
 from __future__ import annotations
 
 import argparse
+import re
+
+_UNITS = {"s": 1, "m": 60, "h": 3600, "d": 86400}
 
 
 def parser(version: str) -> argparse.ArgumentParser:
@@ -22,15 +25,43 @@ def parser(version: str) -> argparse.ArgumentParser:
         return made
 
     _add_exec(command("exec", "run a command as an operation"))
-    command("status", "say what can be started, which path blocks what, what is in progress, and what of it is a dead worker's")
+    told = "say what can be started, which path blocks what, what is in progress, and what of it is a dead worker's"
+    _add_status(command("status", told))
     command("log", "write the lines of the journal")
     command("audit", "say whether each reply in the journal was owed")
     command("watch", "write the lines of the journal as they come")
     recover = command("recover", "finish what a dead worker has in progress")
     recover.add_argument("worker", metavar="WORKER", help="its number, as `status` says it")
     recover.add_argument("--even-alive", action="store_true", help="also if it is alive: then it loses what it has")
+    by_hand = command("pass", "begin an operation and end it at once, so that the paths go on to what stands behind it")
+    told = "wait so long for the operation's turn; else it is passed now or not at all"
+    by_hand.add_argument("--timeout", type=float, default=0.0, metavar="SECONDS", help=told)
+    by_hand.add_argument("operation", metavar="OPERATION", help="the operation; options stand before it")
     command("operations", "write the operations that are declared, one in a line", False)
     return whole
+
+
+def _add_status(status: argparse.ArgumentParser) -> None:
+    """What `status` takes besides."""
+    status.add_argument("--json", action="store_true", help="as one line of JSON")
+    told = "go on, and say it again when it has changed; look for what has died at least each so many seconds (1)"
+    status.add_argument("--watch", type=_more_than_none, nargs="?", const=1.0, metavar="SECONDS", help=told)
+
+
+def _more_than_none(text: str) -> float:
+    """A number of seconds. Raises ValueError for what isn't more than 0."""
+    seconds = float(text)
+    if not 0 < seconds < float("inf"):
+        raise argparse.ArgumentTypeError("more than no seconds are wanted, not {}".format(text))
+    return seconds
+
+
+def _seconds_of(text: str) -> int:
+    """The seconds in a duration as `90s`, `15m`, `23h` or `7d`. Raises ArgumentTypeError for anything else."""
+    found = re.fullmatch(r"([1-9][0-9]{0,8})([smhd])", text)
+    if found is None:
+        raise argparse.ArgumentTypeError("a duration is wanted, as 90s, 15m, 23h or 7d, and not {}".format(text))
+    return int(found.group(1)) * _UNITS[found.group(2)]
 
 
 def _add_exec(run: argparse.ArgumentParser) -> None:
@@ -40,6 +71,14 @@ def _add_exec(run: argparse.ArgumentParser) -> None:
     told = "the status where the operation isn't admitted in time (%(default)s)"
     run.add_argument("--conflict-status", type=int, default=1, metavar="N", help=told)
     run.add_argument("--token-env", metavar="NAME", help="the variable in which the command gets the operation's token")
+    told = "run it at most once in that time, as 15m, 23h or 7d, whoever asks; else it is a conflict. The resource's cell keeps the time"
+    run.add_argument("--every", type=_seconds_of, metavar="DURATION", help=told)
+    told = "the operation that begins and ends behind a command that succeeded"
+    run.add_argument("--passed", metavar="OPERATION", help=told)
+    told = "the same behind one that failed: that ended with another status than 0, by a signal, or that couldn't be run"
+    run.add_argument("--failed", metavar="OPERATION", help=told)
+    told = "say nothing of what it waits for, nor where the operation isn't admitted in time"
+    run.add_argument("--quiet", action="store_true", help=told)
     told = "what happens to an operation in the way whose process is dead: it is finished, or kept until `recover` (%(default)s)"
     run.add_argument("--lost", choices=["finish", "keep"], default="finish", metavar="finish|keep", help=told)
     run.add_argument("--no-sync", action="store_true", help="don't wait for the disk")

@@ -3,31 +3,64 @@
 from __future__ import annotations
 
 import asyncio
+import collections
 import ctypes
 import functools
 import inspect
 import itertools
 import logging
 import os
+import socket
 import threading
+import time
 import warnings
 import weakref
 from types import TracebackType
-from typing import Any, Awaitable, Callable, Dict, Iterable, Iterator, List, NoReturn, Optional, Sequence, Tuple, Type, TypeVar, Union, cast
+from typing import (
+    Any,
+    Awaitable,
+    Callable,
+    Dict,
+    Iterable,
+    Iterator,
+    List,
+    Mapping,
+    NoReturn,
+    Optional,
+    Sequence,
+    Tuple,
+    Type,
+    TypeVar,
+    Union,
+    cast,
+)
 
 from . import _native as native
 from ._entries import AsyncEntry, Calls, Entry, System, new_async_entry, new_entry, not_copied
 from ._errors import Blocked, Closed, DeclarationError, Forked, JournalError, NoJournal, UnknownOperation
 from ._held_up import held_up
+from ._metrics import Metrics
 from ._resumed import Journal, live_workers
-from ._texts import TASKS, Live, Path, Report, Verdict, read_declaration, read_report, without_marks, worker_name
-from ._waiting import Queues, Waiter
+from ._signature import Signature
+from ._texts import TASKS, Live, Path, Report, Verdict, Worker, read_declaration, read_report, without_marks, worker_name
+from ._waiting import Queues, Waiter, patched_by
+from ._workers import Workers
 
 Call = TypeVar("Call", bound=Callable[..., Any])
 Own = TypeVar("Own", bound="Paths")
 Log = Union[Callable[[str], Any], List[str], Any]
 
 _logger = logging.getLogger("wanzoche")
+
+
+@functools.lru_cache(maxsize=None)
+def _host() -> str:
+    return socket.gethostname()
+
+
+def _call(self: Any, operation: str, timeout: Optional[float] = None) -> Entry:
+    """What the core takes where paths are called."""
+    raise NotImplementedError
 
 
 class Paths(System):
@@ -63,6 +96,8 @@ class Paths(System):
 
     _looks = True
     """Whether it is known which thread or task has what in progress, so that it can be told that it is in its own way."""
+
+    __signature__ = Signature(_call)
 
     def __new__(cls, *given: Any, **named: Any) -> Any:
         if cls is Paths and named.get("store") is not None:
@@ -124,7 +159,7 @@ class Paths(System):
         self._local = threading.local()
         self._threads: Iterator[int] = itertools.count(1)
         self._tasks: Iterator[int] = itertools.count(TASKS + 1)
-        self._task_workers: "weakref.WeakKeyDictionary[Any, int]" = weakref.WeakKeyDictionary()
+        self._workers = Workers()
         self._rotation = threading.RLock()
         self._rotations = ctypes.c_uint64()
         self._logged = (0, 0)  # how often the journal had been rotated, and how much of its text since then the log has
@@ -259,26 +294,43 @@ class Paths(System):
         operation = self._operations[waiters[0].op]
         try:
             report = self.report()
-            busy = {each.worker for each in report.live}
-            for waiter in waiters:
-                workers = [each for each in self._held_up_by(waiter) if worker_name(each) in busy]
-                own = self._own_of(operation, report, workers)
-                if own:
-                    waiter.paths = None  # once is enough
-                    why = self._blocked(operation, report.blocked[operation], report, own)
-                    _logger.warning("%s waits for itself: %s", worker_name(waiter.worker), why)
+            self._tell_held_up(operation, report, waiters)
+            self._tell_waits(operation, report, waiters)
         except (Closed, MemoryError):
             pass  # the first is told to all that wait, and without memory the wait goes on
+
+    def _tell_waits(self, operation: str, report: Report, waiters: Sequence[Waiter]) -> None:
+        """Of those of these that aren't in their own way."""
+        waiting = [each for each in waiters if each.paths is not None]
+        if waiting:
+            self._tell_wait(operation, report, waiting[0].worker, waiting[0].since, len(waiting) - 1)
+
+    def _tell_wait(self, operation: str, report: Report, worker: int, since: float, others: int) -> None:
+        """Writes to the log that this one has waited since then, and so many others, too, and for whom."""
+        if operation in report.blocked and _logger.isEnabledFor(logging.INFO):
+            who = self._worker(worker).told + (" (and {} more)".format(others) if others else "")
+            why = self._blocked(operation, report.blocked[operation], report, ())
+            _logger.info("%s has waited for %.0f s: %s", who, time.monotonic() - since, why)
+
+    def _tell_held_up(self, operation: str, report: Report, waiters: Sequence[Waiter]) -> None:
+        busy = {each.worker for each in report.live}
+        for waiter in waiters:
+            workers = [each for each in self._held_up_by(waiter) if worker_name(each) in busy]
+            own = self._own_of(operation, report, workers)
+            if own:
+                waiter.paths = None  # once is enough
+                why = self._blocked(operation, report.blocked[operation], report, own)
+                _logger.warning("%s waits for itself: %s", self._worker(waiter.worker).told, why)
 
     def _held_up_by(self, waiter: Waiter) -> List[int]:
         """Who doesn't go on while it waits: itself, and of a thread, which is the one that asks, the task in which it waits."""
         task = asyncio.current_task() if waiter.loop is None and asyncio._get_running_loop() else None
-        of_task = None if task is None else self._task_workers.get(task)
+        of_task = None if task is None else self._workers.of_task(task)
         return [waiter.worker] if of_task is None else [waiter.worker, of_task]
 
     def report(self) -> Report:
         """What can be started now, which path blocks what, and what is in progress."""
-        told = read_report(self._text_of(native.report))
+        told = read_report(self._text_of(native.report), self._worker)
         if not self._gone:
             return told
         names = [worker_name(worker) for worker in self._gone]
@@ -303,6 +355,24 @@ class Paths(System):
             raise self._closed()
         waiting = {name: self._queues.waiting(op) for name, op in self._numbers.items()}
         return {name: number for name, number in waiting.items() if number}
+
+    def metrics(self) -> Dict[str, Metrics]:
+        """What was counted of each operation in this process since the paths were opened: how often it was begun, how many had to wait for
+        it, for how long, and how many do so now. Costs about what a report does."""
+        waiting, waits = self.waiting(), self._queues.waits
+        live = self._in_progress()
+        found = ((name, waits.of(op), op) for name, op in self._numbers.items())
+        return {
+            name: Metrics(self._entries(op), sum(waited.counts), waited, waiting.get(name, 0), live.get(name, 0))
+            for name, waited, op in found
+        }
+
+    def _entries(self, op: int) -> int:
+        return self._calls.entries(op)
+
+    def _in_progress(self) -> Mapping[str, int]:
+        """How often each operation is in progress in this process, of those that are."""
+        return collections.Counter(each.operation for each in self.report().live)
 
     def journal(self) -> str:
         """The lines that the log hasn't got, since the last rotation, as a text: one for each start, use and finish, and for each that
@@ -364,9 +434,9 @@ class Paths(System):
         self._handle = handle
         self._at = ctypes.addressof(handle)
         self._numbers = numbers
-        self._calls = Calls(handle)
+        self._calls = Calls(handle, len(numbers))
         self._queues = self._new_queues()
-        self._set_up(self._calls, numbers, self._queues, self._queues.due, new_entry)
+        self._set_up(self._calls, numbers, self._queues, self._queues.due, new_entry, patched_by() is None)
 
     def _new_queues(self) -> Queues:
         return Queues(self._calls)
@@ -386,18 +456,23 @@ class Paths(System):
             raise UnknownOperation("no operation {!r} is declared; there are {}".format(operation, known)) from None
 
     def _thread_worker(self) -> int:
-        try:
-            worker: int = self._local.worker
-        except AttributeError:
+        worker: Optional[int] = getattr(self._local, "worker", None)
+        if worker is None:
             worker = self._local.worker = next(self._threads)
+            self._workers.add_this_thread(worker)
         return worker
 
     def _task_worker(self) -> int:
         task = asyncio.current_task()
-        worker = self._task_workers.get(task)
+        worker = self._workers.of_task(task)
         if worker is None:
-            worker = self._task_workers[task] = next(self._tasks)
+            worker = next(self._tasks)
+            self._workers.add_task(task, worker)
         return worker
+
+    def _worker(self, number: int) -> Worker:
+        """Who a worker is, with the name that its thread or task has now."""
+        return Worker(worker_name(number), self._workers.name(number), os.getpid(), _host())
 
     def _closed(self) -> Closed:
         if self._forked:
@@ -558,6 +633,11 @@ def _close(handle: native.Handle) -> None:
 
 
 _all: "weakref.WeakSet[Paths]" = weakref.WeakSet()
+
+
+def all_paths() -> "Sequence[Paths]":
+    """All that this process has open, or had and still holds."""
+    return [each for each in list(_all) if not each._forked]
 
 
 def _forget_all() -> None:

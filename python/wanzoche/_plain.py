@@ -9,6 +9,7 @@ from typing import TYPE_CHECKING, Any, Dict, Generator, Optional, Set, Type, Typ
 
 from . import _native as native
 from ._attempts import Operation, admitted, check_seconds, in_use, undo, waiting, warn_in_loop
+from ._metrics import new_counters, value_of
 from ._waiting import Queue, Queues, TaskWaiter, ThreadWaiter, Waiter
 
 if TYPE_CHECKING:
@@ -22,14 +23,19 @@ _STARTED, _FINISHED = native.STARTED, native.FINISHED
 class Calls:
     """What is called of a handle."""
 
-    __slots__ = ("_at",)
+    __slots__ = ("_at", "begun")
 
-    def __init__(self, handle: native.Handle) -> None:
+    def __init__(self, handle: native.Handle, operations: int) -> None:
         self._at = addressof(handle)
+        self.begun = new_counters(operations)
 
     def is_blocked(self, op: int) -> bool:
         """Whether a path forbids the operation of this number now."""
         return bool(native.can_start(self._at, op).code == native.BLOCKED)
+
+    def entries(self, op: int) -> int:
+        """How often the operation of this number was begun."""
+        return value_of(self.begun[op])
 
 
 class System:
@@ -38,7 +44,13 @@ class System:
     _entry_class: "Type[PublicEntry]"
 
     def _set_up(
-        self, calls: Calls, numbers: Dict[str, int], queues: Queues, due: Set[Queue], entry_class: "Type[PublicEntry]"
+        self,
+        calls: Calls,
+        numbers: Dict[str, int],
+        queues: Queues,
+        due: Set[Queue],
+        entry_class: "Type[PublicEntry]",
+        has_threads: bool,
     ) -> None:
         """What belongs to it."""
         self._entry_class = entry_class
@@ -90,6 +102,7 @@ def _turn(operation: _Operation, worker: int, waiter_of: Optional[Type[Waiter]])
                     yield from waiting(operation, code, worker, waiter_of)
                 elif not admitted(operation, code, worker):
                     return int(code)
+            next(paths._calls.begun[operation._op])
             yield None
             code = _end(paths._at, operation._at)
             if paths._queues.due:
@@ -117,6 +130,22 @@ def _new_worker(operation: Operation) -> int:
     return operation._paths._thread_worker()
 
 
+def _wait_for_turn(turn: _Turn) -> None:
+    """Goes on with a turn until it is in progress."""
+    waiter = next(turn)
+    while waiter is not None:
+        cast(ThreadWaiter, waiter).wait()
+        waiter = next(turn)
+
+
+async def _wait_for_turn_as_task(turn: _Turn) -> None:
+    """The same in a task."""
+    waiter = next(turn)
+    while waiter is not None:
+        await cast(TaskWaiter, waiter).wait()
+        waiter = next(turn)
+
+
 _Self = TypeVar("_Self", bound="Entry")
 
 
@@ -137,10 +166,7 @@ class Entry:
         operation = self._operation
         turn = self._new_turn(getattr(operation._paths._local, "worker", None) or _new_worker(operation), ThreadWaiter)
         try:
-            waiter = next(turn)
-            while waiter is not None:
-                cast(ThreadWaiter, waiter).wait()
-                waiter = next(turn)
+            _wait_for_turn(turn)
         except BaseException as error:
             turn.throw(error)  # which raises it again, when nothing of the turn is left
             raise
@@ -150,10 +176,7 @@ class Entry:
     async def _enter_as_task(self) -> None:
         turn = self._new_turn(self._operation._paths._task_worker(), TaskWaiter)
         try:
-            waiter = next(turn)
-            while waiter is not None:
-                await cast(TaskWaiter, waiter).wait()
-                waiter = next(turn)
+            await _wait_for_turn_as_task(turn)
         except BaseException as error:
             turn.throw(error)
             raise

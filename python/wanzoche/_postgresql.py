@@ -6,7 +6,7 @@ import importlib
 import os
 import select
 import time
-from typing import Any, Callable, List, NamedTuple, Optional, Sequence
+from typing import Any, Callable, Dict, List, Mapping, NamedTuple, Optional, Sequence
 
 from ._errors import StoreError
 from ._libpq import Result, direct
@@ -85,8 +85,7 @@ class Session:
         self._pq = psycopg(".pq")
         conninfo = psycopg(".conninfo")
         try:
-            given = conninfo.conninfo_to_dict(url)
-            made = conninfo.make_conninfo(url, **{key: value for key, value in FOR_LIBPQ.items() if key not in given})
+            made = conninfo.make_conninfo(url, **_besides(conninfo.conninfo_to_dict(url)))
         except Exception as error:
             raise StoreError("this isn't a URL of PostgreSQL: {}".format(str(error).strip())) from error
         self._info = made.encode()
@@ -212,18 +211,13 @@ class Session:
 
     def _send(self, calls: Sequence[Call]) -> int:
         """Sends calls: how many synchronizations will be answered."""
-        connection, syncs = self._calls, 0
+        connection = self._calls
         if connection is None or self._connection.pgconn_ptr is None:
             raise self._cut("the connection was closed")
         try:
-            for each in calls:
-                connection.send_query_prepared(each.name, each.given)
-                if each.ends:
-                    connection.pipeline_sync()
-                    syncs += 1
+            return _send_to(connection, calls)
         except Exception as error:
             raise self._cut(str(error)) from error
-        return syncs
 
     def _answers(self, syncs: int, until: float) -> List[List[Row]]:
         """What comes until so many synchronizations, or until the end of a script."""
@@ -287,23 +281,43 @@ class Session:
             connection.consume_input()
             if self._connection.status == self._pq.ConnStatus.BAD:
                 raise self._cut(_message(self._connection))
-            while not connection.is_busy():
-                result = connection.get_result()
-                if result is None:
-                    break
-                if result.status == self._pq.ExecStatus.FATAL_ERROR:
-                    raise self._cut(result.error_message.decode("utf-8", "replace"))
+            self._read_unasked(connection)
         except Cut:
             raise
         except Exception as error:
             raise self._cut(str(error)) from error
         self._take_notices()
 
+    def _read_unasked(self, connection: Any) -> None:
+        """What the server has said of itself. Raises Cut if that is an error."""
+        while not connection.is_busy():
+            result = connection.get_result()
+            if result is None:
+                break
+            if result.status == self._pq.ExecStatus.FATAL_ERROR:
+                raise self._cut(result.error_message.decode("utf-8", "replace"))
+
     def _take_notices(self) -> None:
         notice = self._calls.notifies()
         while notice is not None:
             self.notices.append(bytes(notice.extra))
             notice = self._calls.notifies()
+
+
+def _besides(given: Mapping[str, Any]) -> Dict[str, str]:
+    """What a connection is told besides what is given."""
+    return {key: value for key, value in FOR_LIBPQ.items() if key not in given}
+
+
+def _send_to(connection: Any, calls: Sequence[Call]) -> int:
+    """Sends calls: how many synchronizations will be answered."""
+    syncs = 0
+    for each in calls:
+        connection.send_query_prepared(each.name, each.given)
+        if each.ends:
+            connection.pipeline_sync()
+            syncs += 1
+    return syncs
 
 
 def _message(connection: Any) -> str:

@@ -22,7 +22,7 @@ _STARTED = native.STARTED
 _BEGIN, _END, _CAN_START = (native.address(name) for name in ("begin", "end", "can_start"))
 
 
-def Calls(handle: native.Handle) -> CoreCalls:
+def Calls(handle: native.Handle, operations: int) -> CoreCalls:
     """What is called of a handle."""
     return CoreCalls(_BEGIN, _END, _CAN_START, addressof(handle), handle)
 

@@ -54,6 +54,10 @@ class Start(Request):
         self.bell: Optional[Bell] = None
         """Rung when a thread that waits for the session itself is to look whether it still does."""
         self.has_looked = False
+        self.has_waited = False
+        """Whether a path forbade it when the log was looked at, and it waits."""
+        self.looks = 1.0
+        """After so many seconds of waiting it is told of in the program's log."""
         self.is_late = False
         """Its time is over: it is blocked if it isn't started by now."""
         self.is_unwanted = False

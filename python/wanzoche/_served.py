@@ -7,7 +7,7 @@ import copy
 import threading
 import time
 from types import TracebackType
-from typing import Any, Callable, Dict, List, Optional, Tuple, Type, TypeVar, cast
+from typing import Any, Callable, Dict, List, NoReturn, Optional, Tuple, Type, TypeVar, cast
 
 from . import _native as native
 from ._attempts import InUse, admitted, in_use
@@ -19,7 +19,7 @@ from ._postgresql import Cut
 from ._requests import Finish, Question, Request, Start, Use, wake_nobody
 from ._store import Store
 from ._stored import Begun, StoredPaths, _Stored
-from ._texts import read_declaration
+from ._texts import Report, read_declaration
 from ._waiting import Queues
 
 OPENING = 10.0
@@ -116,6 +116,8 @@ class ServedStore:
         except BaseException:
             self.give_up(begun)
             raise
+        finally:
+            _note_wait(begun, start)
         return self.code_of(start)
 
     def late(self, start: Start) -> None:
@@ -200,6 +202,19 @@ class ServedStore:
         log.follow()
         return len(found)
 
+    def tell_long_waits(self, tell: Callable[[int, int, float], None]) -> None:
+        """Has this called, at the desk, of a start that has waited for a second, for two, four and so on: its operation, by whom, and since
+        when."""
+        self.clerk.waits_long = tell
+
+    @property
+    def held(self) -> Dict[int, Any]:
+        """What this process has in progress, by its numbers."""
+        return self.clerk.held
+
+    def pid_of(self, worker: int) -> None:
+        """It isn't known without a call: see `process_of`."""
+
     def process_of(self, worker: int) -> Optional[str]:
         """The process of a worker, and its machine; None if that isn't known."""
         return self.ask(lambda: self._log.process_of(worker))
@@ -281,6 +296,12 @@ class ServedBegun(Begun):
         return native.FINISHED
 
 
+def _note_wait(begun: ServedBegun, start: Start) -> None:
+    """Notes how long it has waited, if it had to."""
+    if start.has_waited:
+        begun._paths._queues.waits.note(begun._op, time.monotonic() - start.since)
+
+
 class _Served(_Stored):
     """An entry of paths over a server's log."""
 
@@ -291,11 +312,13 @@ class _Served(_Stored):
 
     def __enter__(self: T) -> T:
         begun = cast(ServedBegun, cast(_Served, self)._begun)
+        begun._is_tried = True
         worker = begun._paths._thread_worker()
         if begun._live:
             raise in_use(begun)
         try:
             _begin(begun, worker)
+            next(begun._paths._begun[begun._op])
         except InUse:
             raise
         except BaseException:
@@ -305,10 +328,14 @@ class _Served(_Stored):
 
     def _try(self, worker: int) -> bool:
         begun = cast(ServedBegun, self._begun)
+        begun._is_tried = True
         if begun._live:
             raise in_use(begun)
         try:
-            return admitted(begun, _code_of_start(begun, worker, 0.0), worker)
+            if not admitted(begun, _code_of_start(begun, worker, 0.0), worker):
+                return False
+            next(begun._paths._begun[begun._op])
+            return True
         except InUse:
             raise
         except BaseException:
@@ -323,6 +350,8 @@ class _Served(_Stored):
         if begun._live and not store._is_closed:
             store.drop(begun)
             begun._paths._dropped(begun._name)
+        elif not begun._is_tried:
+            self._unused()
 
 
 def _begin(begun: ServedBegun, worker: int) -> None:
@@ -358,16 +387,18 @@ class ServedAsyncEntry(_Served, AsyncEntry):
 
     __slots__ = ("_begun",)
 
-    def __enter__(self) -> "ServedAsyncEntry":
-        return cast("ServedAsyncEntry", AsyncEntry.__enter__(self))
+    def __enter__(self) -> NoReturn:
+        AsyncEntry.__enter__(self)  # type: ignore[arg-type]
 
     async def _enter_as_task(self) -> None:
         begun = cast(ServedBegun, self._begun)
+        begun._is_tried = True
         worker = begun._paths._task_worker()
         if begun._live:
             raise in_use(begun)
         try:
             await self._begin(begun, worker)
+            next(begun._paths._begun[begun._op])
         except InUse:
             raise
         except BaseException:
@@ -383,6 +414,7 @@ class ServedAsyncEntry(_Served, AsyncEntry):
             try:
                 await _replied(begun.store(), start)
             finally:
+                _note_wait(begun, start)
                 if alarm is not None:
                     alarm.cancel()
             if admitted(begun, _code_unless_closed(begun, start), worker):
@@ -469,6 +501,9 @@ class ServedPaths(StoredPaths):
 
     def _new_queues(self) -> Queues:
         return ServedQueues(self._calls, self._served.clerk)
+
+    def _report_for_log(self) -> Report:
+        return self._read_report()  # it is the desk that asks
 
     def _blocked_now(self, operation: str) -> Optional[Blocked]:
         """At the desk: what forbids the operation."""

@@ -4,6 +4,7 @@ from __future__ import annotations
 
 import contextlib
 import fcntl
+import logging
 import os
 import re
 import threading
@@ -18,6 +19,7 @@ from ._files import give_access, is_of_system, open_file, read, refused, sync_fo
 from ._form import core
 from ._replica import ROOM, Refusal, Replica
 from ._texts import without_marks
+from ._waiting import FIRST_LOOK
 
 if TYPE_CHECKING or core is None:
     from ._turns import Turns
@@ -25,12 +27,13 @@ else:
     Turns = core.Turns
 
 HEAD = re.compile(rb"journal 3 room ([1-9][0-9]{0,6})\n")
-PATIENCE = 5.0
+PATIENCE = 30.0
 """How many seconds an opening waits for another that makes the store or mends it."""
 CHECK = 0.1
 """After so many seconds who waits looks for dead processes, and for a turn that a process was given that died before it took it."""
 CHUNK = 1 << 20
 T = TypeVar("T")
+_logger = logging.getLogger("wanzoche")
 
 
 class Held(Protocol):
@@ -40,6 +43,14 @@ class Held(Protocol):
     _live: bool
     _number: int
     _worker: int
+
+
+def _inode_of(path: str) -> Optional[int]:
+    """The number of a file; None if it isn't there any more."""
+    try:
+        return os.stat(path).st_ino
+    except FileNotFoundError:
+        return None
 
 
 class Lines:
@@ -117,6 +128,8 @@ class Store(Turns):
         self._syncing = threading.RLock()
         self.held: Dict[int, Held] = {}
         self._dropped: Deque[Held] = deque()
+        self._waits_long: Callable[[int, int, float], None] = lambda op, caller, since: None
+        self._told: Deque[Tuple[str, Tuple[object, ...]]] = deque()  # for the program's log, when this turn is over
         self._due: List[int] = []  # the operations of which one is woken when this turn is over
         self.room = room
 
@@ -174,11 +187,18 @@ class Store(Turns):
 
     def _has_to_have_one_name(self) -> None:
         """Raises `StoreError` if the file of the journal has another name than this one, and those that it gets when it is moved away."""
-        found = os.fstat(self._lines.fd)
-        names = found.st_nlink - self._is_half_moved(found.st_ino)
+        names = self._count_names()
         if names > 1:
             told = "{} has {} names (hard links), and who opens another of them shares nothing with who opens this one: remove all but one"
             raise StoreError(told.format(self.path, names))
+
+    def _count_names(self) -> int:
+        """How many names it has but for that. Counted again if somebody moves the file away meanwhile, or undoes that for one who died."""
+        inode, names, is_half_moved = os.fstat(self._lines.fd).st_ino, 0, False
+        while names != os.fstat(self._lines.fd).st_nlink:
+            names = os.fstat(self._lines.fd).st_nlink
+            is_half_moved = self._is_half_moved(inode)
+        return names - is_half_moved
 
     def _has_to_be_of(self, declaration: str) -> None:
         """Raises `StoreInUse` if others have another file beside the journal, and `OtherDeclaration` if the store is of another one."""
@@ -225,13 +245,17 @@ class Store(Turns):
         """Follows the journal from its begin."""
         now = self._lines
         try:
-            while os.path.exists(self._archive(self._segment)):
-                self._lines = Lines(self._archive(self._segment), 0)
-                self._read_file(False)
-                self._retire(self._lines)
+            self._read_archives()
         finally:
             self._lines = now
         self._read_file(is_alone)
+
+    def _read_archives(self) -> None:
+        """Follows the files of it that were moved away."""
+        while os.path.exists(self._archive(self._segment)):
+            self._lines = Lines(self._archive(self._segment), 0)
+            self._read_file(False)
+            self._retire(self._lines)
 
     def _read_file(self, is_alone: bool) -> None:
         """Follows one file of it."""
@@ -332,6 +356,13 @@ class Store(Turns):
         if not self._is_closed:
             self._be_ready(self._lines.fd, self._beside.fd, self.room - ROOM - self._replica.lines + self._first)
         self._turn.release()
+        while self._told:
+            text, given = self._told.popleft()
+            _logger.info(text, *given)
+
+    def _tell(self, text: str, *given: object) -> None:
+        """Writes to the program's log when this turn is over."""
+        self._told.append((text, given))
 
     def _leave_turn(self) -> None:
         """After an exception."""
@@ -407,6 +438,7 @@ class Store(Turns):
             sync_folder(self.path)
         self._retired.remove(new)
         end = new.size()
+        self._tell("%s was moved to %s", self.path, self._archive(self._segment))
         self._retire(self._lines)
         self._lines, self._end = new, end
         self._lines.path = self.path
@@ -457,7 +489,7 @@ class Store(Turns):
 
     def _is_half_moved(self, inode: int) -> bool:
         """Whether the file of the journal with this number has a name already that it gets when it is moved away."""
-        return any(os.stat(self._archive(each)).st_ino == inode for each in range(self._count_moved()))
+        return any(_inode_of(self._archive(each)) == inode for each in range(self._count_moved()))
 
     # Following
 
@@ -535,17 +567,30 @@ class Store(Turns):
 
     def wait_for_start(self, held: Held, name: bytes, caller: int, seen: int, until: Optional[float]) -> Tuple[int, int]:
         """Waits until the operation is started, or the time is over: the same as of `start`."""
-        code = native.BLOCKED
+        made = [(native.BLOCKED, seen)]
         try:
-            while code == native.BLOCKED and (until is None or time.monotonic() < until):
-                left = CHECK if until is None else min(CHECK, until - time.monotonic())
-                is_late = not self._beside.sleep(held._op, seen, max(left, 0.0))
-                made = None if is_late else self._start_now(held, held._op, name, caller, -1)
-                code, seen = made or self._in_turn(self._start, held, name, caller, -1, is_late)
+            self._start_in_turn(held, name, caller, made, until)
         finally:
-            if code != native.STARTED and not self._is_closed and self._fault is None:
+            if made[0][0] != native.STARTED and not self._is_closed and self._fault is None:
                 self._in_turn(self._stop_waiting, held._op)
-        return code, seen
+        return made[0]
+
+    def _start_in_turn(self, held: Held, name: bytes, caller: int, made: List[Tuple[int, int]], until: Optional[float]) -> None:
+        """Waits and tries again, as long as what `made` has is that it is blocked."""
+        code, seen = made[0]
+        since, looks = time.monotonic(), FIRST_LOOK
+        while code == native.BLOCKED and (until is None or time.monotonic() < until):
+            left = CHECK if until is None else min(CHECK, until - time.monotonic())
+            is_late = not self._beside.sleep(held._op, seen, max(left, 0.0))
+            now = None if is_late else self._start_now(held, held._op, name, caller, -1)
+            made[0] = code, seen = now or self._in_turn(self._start, held, name, caller, -1, is_late)
+            if code == native.BLOCKED and time.monotonic() - since >= looks:
+                self._waits_long(held._op, caller, since)
+                looks *= 2
+
+    def tell_long_waits(self, tell: Callable[[int, int, float], None]) -> None:
+        """Has this called where a thread has waited here for a second, for two, four and so on: of an operation, by whom, and since when."""
+        self._waits_long = tell
 
     def _stop_waiting(self, op: int) -> None:
         waiting = self._beside.waiting
@@ -743,6 +788,8 @@ class Store(Turns):
         found = self.lost()
         for each in found:
             self._write_finish(each.worker, each.number)
+            name = list(self._replica.operations)[each.operation].decode()
+            self._tell("process %d is dead, and its %s is finished", each.worker, name)
         if found:
             self._announce()
         return bool(found)
@@ -834,6 +881,13 @@ class Store(Turns):
         finally:
             os.close(file)
         return [without_marks(each.decode("ascii")).partition("\n")[2] for each in texts]
+
+    def pid_of(self, worker: int) -> Optional[int]:
+        """The same as a number, for which nothing is asked but the page."""
+        try:
+            return self._beside.process_of(worker)
+        except OSError:
+            return None
 
     def process_of(self, worker: int) -> Optional[str]:
         """The process of a worker, by the number that it gave itself; None if it isn't known."""

@@ -3,28 +3,41 @@
 from __future__ import annotations
 
 import asyncio
+import collections
 import concurrent.futures
 import ctypes
+import logging
+import os
 import threading
 import time
+import warnings
 import weakref
 from types import TracebackType
-from typing import Any, Callable, Dict, List, Optional, Tuple, Type, TypeVar, Union, cast
+from typing import Any, Callable, Dict, Iterator, List, Mapping, NoReturn, Optional, Sequence, Tuple, Type, TypeVar, Union, cast
 
 from . import _native as native
-from ._attempts import admitted, check_seconds, in_use, raise_if_late, undo, waiting
+from ._attempts import admitted, check_seconds, frames_of_package, in_use, raise_if_late, undo, waiting
 from ._entries import AsyncEntry, Entry, check_number, raise_refused_use
 from ._errors import Blocked, Closed, Lost, StoreError, WanzocheError
-from ._paths import Paths, audit, declaration_error
+from ._metrics import new_counters, value_of
+from ._paths import Paths, _host, audit, declaration_error
 from ._replica import Replica
 from ._store import CHECK, Store
-from ._texts import Live, Report, Verdict, read_report
-from ._waiting import Calls, Queue, Queues, TaskWaiter, ThreadWaiter, Waiter
+from ._texts import Live, Report, Verdict, Worker, read_report
+from ._waiting import Calls, Queue, Queues, TaskWaiter, ThreadWaiter, Waiter, patched_by
 
 LINGER = 1.0
 """So many seconds a follower stays for the next who waits."""
 T = TypeVar("T")
 _STARTED, _BLOCKED, _FINISHED = native.STARTED, native.BLOCKED, native.FINISHED
+
+
+_logger = logging.getLogger("wanzoche")
+
+
+def _told_of(paths: "Optional[StoredPaths]", op: int, worker: int, since: float) -> None:
+    if paths is not None:
+        paths._waits_long(op, worker, since)
 
 
 def process_name(worker: int) -> str:
@@ -42,7 +55,7 @@ def _worker_number(name: Union[str, int]) -> int:
 class Begun:
     """An operation that is to begin, in progress or over: what its turn has to know. The turn has to do without the entry itself."""
 
-    __slots__ = ("_paths", "_op", "_name", "_word", "_timeout", "_live", "_number", "_worker", "__weakref__")
+    __slots__ = ("_paths", "_op", "_name", "_word", "_timeout", "_live", "_number", "_worker", "_is_tried", "__weakref__")
 
     def __init__(self, paths: "StoredPaths", name: str, timeout: Optional[float]) -> None:
         check_seconds(timeout)
@@ -53,6 +66,8 @@ class Begun:
         self._timeout = timeout
         self._live = False
         self._number = self._worker = 0
+        self._is_tried = False
+        """Whether somebody has tried to begin it."""
 
     def _begin(self, worker: int) -> int:
         """Starts it, if it is admitted now. Then it is on the disk."""
@@ -106,6 +121,7 @@ class _Stored(Entry):
 
     def __enter__(self: T) -> T:
         begun = cast(_Stored, self)._begun
+        begun._is_tried = True
         worker = begun._paths._thread_worker()
         if begun._live:
             raise in_use(begun)
@@ -114,6 +130,7 @@ class _Stored(Entry):
             if code != _STARTED:
                 for waiter in waiting(begun, code, worker, ThreadWaiter):
                     cast(ThreadWaiter, waiter).wait()
+            next(begun._paths._begun[begun._op])
         except BaseException as error:
             undo(begun, error, worker, None)
             raise
@@ -158,11 +175,15 @@ class _Stored(Entry):
 
     def _try(self, worker: int) -> bool:
         begun = self._begun
+        begun._is_tried = True
         if begun._live:
             raise in_use(begun)
         try:
             code = begun._begin(worker)
-            return code == native.STARTED or admitted(begun, code, worker)
+            if code != native.STARTED and not admitted(begun, code, worker):
+                return False
+            next(begun._paths._begun[begun._op])
+            return True
         except BaseException as error:
             undo(begun, error, worker, None)
             raise
@@ -181,9 +202,16 @@ class _Stored(Entry):
 
     def __del__(self) -> None:
         begun: Optional[Begun] = getattr(self, "_begun", None)
-        if begun is not None and begun._live and not begun._paths._forked and not begun._paths._store._is_closed:
+        if begun is None or begun._paths._forked:
+            return
+        if begun._live and not begun._paths._store._is_closed:
             begun._paths._store.drop(begun)
             begun._paths._dropped(begun._name)
+        elif not begun._is_tried:
+            self._unused()
+
+    def _is_told(self) -> None:
+        self._begun._is_tried = True
 
 
 def _begun_alone(begun: Begun, worker: int) -> int:
@@ -206,16 +234,25 @@ def _begun_alone(begun: Begun, worker: int) -> int:
 def _waited_for(begun: Begun, worker: int, waits: bool, told: int) -> Tuple[int, int]:
     """Of one that was blocked: waits for its turn, if it is to be waited for here. The same as of `Store.start`."""
     store, queues, limit = begun._paths._store, cast(StoreQueues, begun._paths._queues), begun._timeout
-    me, code = object(), native.BLOCKED
+    me, code, since = object(), native.BLOCKED, time.monotonic()
     try:
         if waits:
             queues.alone[me] = begun._op
             code, told = store.wait_for_start(begun, begun._word, worker, told, None if limit is None else time.monotonic() + limit)
-        while code == native.BLOCKED and limit is not None and (waits or limit <= 0):
-            raise_if_late(begun, Waiter(begun._op, 0.0))
-            code, told = store.start(begun, begun._word, worker)
+        if code == native.BLOCKED and limit is not None and (waits or limit <= 0):
+            code, told = _started_late(begun, worker)
     finally:
         queues.alone.pop(me, None)
+        queues.waits.note(begun._op, time.monotonic() - since)
+    return code, told
+
+
+def _started_late(begun: Begun, worker: int) -> Tuple[int, int]:
+    """Of one that is blocked, and its time is over: starts it if no path forbids it after all. Raises `Timeout`."""
+    code, told = native.BLOCKED, 0
+    while code == native.BLOCKED:
+        raise_if_late(begun, Waiter(begun._op, 0.0))
+        code, told = begun._paths._store.start(begun, begun._word, worker)
     return code, told
 
 
@@ -230,11 +267,12 @@ class StoredAsyncEntry(_Stored, AsyncEntry):
 
     __slots__ = ("_begun",)
 
-    def __enter__(self) -> "StoredAsyncEntry":
-        return cast("StoredAsyncEntry", AsyncEntry.__enter__(self))
+    def __enter__(self) -> NoReturn:
+        AsyncEntry.__enter__(self)  # type: ignore[arg-type]
 
     async def _enter_as_task(self) -> None:
         begun = self._begun
+        begun._is_tried = True
         worker = begun._paths._task_worker()
         if begun._live:
             raise in_use(begun)
@@ -242,19 +280,14 @@ class StoredAsyncEntry(_Stored, AsyncEntry):
         queues = begun._paths._queues
         try:
             code, end = begun._begin_unsynced(worker)
-            while code != native.STARTED and not admitted(begun, code, worker):
-                if waiter is None:
-                    waiter = TaskWaiter(begun._op, begun._timeout)
-                    queues.join(waiter)
-                else:
-                    raise_if_late(begun, waiter)
-                    await waiter.wait()
-                    queues.asks(waiter)
-                if not begun._paths._calls.is_blocked(begun._op):
-                    code, end = begun._begin_unsynced(worker)
-            if waiter is not None:
+            if code != native.STARTED and not admitted(begun, code, worker):
+                waiter = TaskWaiter(begun._op, begun._timeout)
+                waiter.paths, waiter.worker = begun._paths, worker
+                queues.join(waiter).look_later()
+                end = await _begun_in_turn(begun, worker, waiter)
                 queues.quit(waiter)
             await self._synced(end)
+            next(begun._paths._begun[begun._op])
         except BaseException as error:
             undo(begun, error, worker, waiter)
             raise
@@ -272,6 +305,19 @@ class StoredAsyncEntry(_Stored, AsyncEntry):
         store = self._begun._paths._store
         if store.is_ahead_of_disk(end):
             await _aside(self._begun._paths._pool(), store.wait_for_sync, end)
+
+
+async def _begun_in_turn(begun: Begun, worker: int, waiter: TaskWaiter) -> int:
+    """Of one that has joined its queue: waits until the operation is begun, and returns up to where the journal has yet to be synced."""
+    paths = begun._paths
+    while True:
+        if not paths._calls.is_blocked(begun._op):
+            code, end = begun._begin_unsynced(worker)
+            if code == native.STARTED or admitted(begun, code, worker):
+                return end
+        raise_if_late(begun, waiter)
+        await waiter.wait()
+        paths._queues.asks(waiter)
 
 
 async def _aside(pool: concurrent.futures.Executor, call: Callable[..., T], *given: Any) -> T:
@@ -347,6 +393,8 @@ class Follower(threading.Thread):
         self._called.set()
         self._ending = threading.Lock()
         self._is_over = False
+        self._counts = 1
+        """By how many the next look changes how many are counted at the store; 0 once this one is."""
 
     def goes_on(self) -> bool:
         """Called when somebody has joined: whether this follower will see it. It has ended otherwise."""
@@ -355,15 +403,18 @@ class Follower(threading.Thread):
 
     def run(self) -> None:
         try:
-            while self._called.wait(LINGER):
-                self._called.clear()
-                self._follow()
+            self._follow_while_called()
         except (WanzocheError, MemoryError, OSError, AttributeError):
             pass  # whoever waits gets the same exception when it asks
         self._is_over = True
         if self._called.is_set() or self._queues.waiting_here(self._op):
             self._queues.wake_every(self._op)
             self._restart()
+
+    def _follow_while_called(self) -> None:
+        while self._called.wait(LINGER):
+            self._called.clear()
+            self._follow()
 
     def _restart(self) -> None:
         """For one that joined as this one ended."""
@@ -374,18 +425,23 @@ class Follower(threading.Thread):
 
     def _follow(self) -> None:
         """While somebody waits."""
-        store, queues, op = self._store, self._queues, self._op
-        counts, is_late = 1, False
+        store, op = self._store, self._op
+        self._counts = 1
         try:
-            while queues.waiting_here(op):
-                seen = store.look(op, counts, is_late)
-                counts = 0
-                queues.wake_due(op)
-                is_late = not store.sleep(op, seen, CHECK)
+            self._hand_turns_on()
         finally:
-            if not counts and not store._is_closed and store._fault is None:
+            if not self._counts and not store._is_closed and store._fault is None:
                 store.look(op, -1, False)
                 store.pass_on(op)
+
+    def _hand_turns_on(self) -> None:
+        store, queues, op = self._store, self._queues, self._op
+        is_late = False
+        while queues.waiting_here(op):
+            seen = store.look(op, self._counts, is_late)
+            self._counts = 0
+            queues.wake_due(op)
+            is_late = not store.sleep(op, seen, CHECK)
 
 
 class StoredPaths(Paths):
@@ -410,6 +466,9 @@ class StoredPaths(Paths):
         if lost not in ("finish", "keep"):
             raise ValueError("`lost` is 'finish' or 'keep', not {!r}".format(lost))
         source = self._source_of(text, room)
+        if patched_by() is not None:
+            told = "{} has put greenlets in the place of threads, and over a store who waits holds up all of them: docs/shared.md has what helps"
+            warnings.warn(told.format(patched_by()), RuntimeWarning, frames_of_package())
         handle = native.Handle()
         opened = self._new_store(store, source, handle, other, room=room, sync=sync, finishes_lost=lost == "finish")
         self._store = opened
@@ -421,8 +480,12 @@ class StoredPaths(Paths):
         if answer.code != native.OPENED:
             raise declaration_error(answer, source)
         self._executor: Optional[concurrent.futures.Executor] = None
+        self._begun: List[Iterator[int]] = []
         self._set_out(source, opened.room, None)
         self._read_names(handle)
+        self._begun = new_counters(len(self._numbers))
+        this = weakref.ref(self)
+        opened.tell_long_waits(lambda op, worker, since: _told_of(this(), op, worker, since))
         self._finalizer = weakref.finalize(self, opened.end)
         self._finalizer.atexit = False
 
@@ -454,9 +517,34 @@ class StoredPaths(Paths):
         return self._asked(self._read_report)
 
     def _read_report(self) -> Report:
-        told = read_report(self._text_of(native.report), process_name)
+        told = read_report(self._text_of(native.report), self._process)
         gone = {each.number for each in self._store.lost()}
         return told._replace(lost=tuple(each for each in told.live if each.activation in gone))
+
+    def _look_at(self, waiters: Sequence[Waiter]) -> None:
+        self._waits_long(waiters[0].op, waiters[0].worker, waiters[0].since, len(waiters) - 1)
+
+    def _waits_long(self, op: int, worker: int, since: float, others: int = 0) -> None:
+        """Writes to the log who waits, and for whom."""
+        try:
+            if _logger.isEnabledFor(logging.INFO):
+                self._tell_wait(self._operations[op], self._report_for_log(), worker, since, others)
+        except (WanzocheError, MemoryError, OSError):
+            pass  # who waits is told the same
+
+    def _report_for_log(self) -> Report:
+        return self.report()
+
+    def _process(self, worker: int) -> Worker:
+        """Who a worker is."""
+        pid = os.getpid() if worker == self._store.worker else self._store.pid_of(worker)
+        return Worker(process_name(worker), None, pid, None if pid is None else _host())
+
+    def _entries(self, op: int) -> int:
+        return value_of(self._begun[op])
+
+    def _in_progress(self) -> Mapping[str, int]:
+        return collections.Counter(self._operations[each._op] for each in list(self._store.held.values()))
 
     def recover(self, worker: Union[str, int, Live], even_alive: bool = False) -> int:
         """Finishes what a dead worker has in progress: how many operations that was. The worker is one of `report().lost`, or its name, or

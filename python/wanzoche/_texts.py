@@ -14,11 +14,35 @@ def worker_name(worker: int) -> str:
     return "task {}".format(worker - TASKS) if worker > TASKS else "thread {}".format(worker)
 
 
+_GENERIC = re.compile(r"(MainThread|Thread-\d+( \(.*\))?|Dummy(Thread)?-\d+|Green(let|Thread)-\d+|Task-\d+)?")
+
+
+class Worker(str):
+    """Who has something in progress, as `thread 3`, with what is known of it."""
+
+    name: Optional[str]
+    """The name of the thread or the task; None if that isn't known, as where it has ended."""
+    pid: Optional[int]
+    """The number of its process, as that counts itself; None if that isn't known."""
+    host: Optional[str]
+    """The name of its machine, likewise."""
+
+    def __new__(cls, text: str, name: Optional[str] = None, pid: Optional[int] = None, host: Optional[str] = None) -> "Worker":
+        worker = super().__new__(cls, text)
+        worker.name, worker.pid, worker.host = name, pid, host
+        return worker
+
+    @property
+    def told(self) -> str:
+        """`thread 3 (indexer)`: the text, and the name if the program gave one."""
+        return str(self) if _GENERIC.fullmatch(self.name or "") else "{} ({})".format(self, self.name)
+
+
 class Live(NamedTuple):
     """An operation in progress."""
 
     activation: int
-    worker: str
+    worker: Worker
     operation: str
 
 
@@ -41,7 +65,7 @@ class Report(NamedTuple):
         return self.text
 
 
-def read_report(text: str, name: Callable[[int], str] = worker_name) -> Report:
+def read_report(text: str, name: Callable[[int], Worker]) -> Report:
     """The report in a text of the library, with these names of workers."""
     startable: Tuple[str, ...] = ()
     blocked: Dict[str, int] = {}

@@ -17,12 +17,17 @@ import time
 from collections import OrderedDict
 from typing import Dict, Iterator, Optional, Protocol, Sequence, Set, Tuple, cast
 
+from ._metrics import Waits
+
 
 class Calls(Protocol):
     """What is called of a handle."""
 
     def is_blocked(self, op: int, /) -> bool:
         """Whether a path forbids the operation of this number now."""
+
+    def entries(self, op: int, /) -> int:
+        """How often the operation of this number was begun."""
 
 
 class Looking(Protocol):
@@ -34,6 +39,13 @@ class Looking(Protocol):
 
 _new_lock = threading.Lock
 
+
+def patched_by() -> Optional[str]:
+    """`gevent` or `eventlet`, where one has put its greenlets in the place of threads; else None."""
+    name = threading.local.__module__.partition(".")[0]
+    return name if name in ("gevent", "eventlet") else None
+
+
 FIRST_LOOK = 1.0
 """After so many seconds of sleep it is looked whether a waiter is in its own way."""
 
@@ -41,7 +53,7 @@ FIRST_LOOK = 1.0
 class Waiter:
     """Who waits for one operation, and until when."""
 
-    __slots__ = ("op", "loop", "paths", "worker", "looks", "_until")
+    __slots__ = ("op", "loop", "paths", "worker", "looks", "since", "_until")
 
     def __init__(self, op: int, seconds: Optional[float]) -> None:
         self.op = op
@@ -49,6 +61,8 @@ class Waiter:
         self.paths: Optional[Looking] = None
         """Who looks whether it is in its own way; None if that isn't to be found out, or has been."""
         self.worker = self.looks = 0
+        self.since = 0.0
+        """When it joined its queue, by the monotonic clock."""
         self._until = None if seconds is None else time.monotonic() + seconds
 
     def left(self) -> Optional[float]:
@@ -176,16 +190,18 @@ class Queues:
     woken already: that one asks again, or quits, and puts the queue back.
     """
 
-    __slots__ = ("_is_blocked", "_queues", "due")
+    __slots__ = ("_is_blocked", "_queues", "due", "waits")
 
     def __init__(self, calls: Calls) -> None:
         self._is_blocked = calls.is_blocked
         self._queues: Dict[Tuple[int, _Loop], Queue] = {}
         self.due: Set[Queue] = set()
+        self.waits = Waits()
 
     def join(self, waiter: Waiter) -> Queue:
         """The waiter waits for its operation, behind those that wait for it already, in this queue."""
         queue = self._queues.get((waiter.op, waiter.loop)) or self._new_queue(waiter)
+        waiter.since = time.monotonic()
         queue.waiters[waiter] = None
         self.due.add(queue)
         return queue
@@ -201,9 +217,14 @@ class Queues:
         queue = self._queues.get((waiter.op, waiter.loop))
         waiter.paths = None
         if queue is not None:
-            queue.waiters.pop(waiter, None)
+            self.leave(queue, waiter)
             self.due.add(queue)
             self._wake_first(queue)
+
+    def leave(self, queue: Queue, waiter: Waiter) -> None:
+        """The waiter waits no more in this queue; how long it did is noted once."""
+        if queue.waiters.pop(waiter, waiter) is None:
+            self.waits.note(waiter.op, time.monotonic() - waiter.since)
 
     def waiting(self, op: int) -> int:
         """How many wait for the operation."""

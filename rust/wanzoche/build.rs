@@ -1,7 +1,7 @@
-//! Builds the C library from the sources of the repository, or finds an installed one by its `wanzoche.pc`.
+//! Builds the C library from its sources, or finds an installed one by its `wanzoche.pc`.
 //!
-//! The sources lie two folders up. They are taken unless `WANZOCHE_INSTALLED` is set. What is built is what the repository's Makefile
-//! builds: one object, of which only the names of wanzoche.h stay.
+//! The sources lie in the folder `native` of a package, and two folders up in the repository. They are taken unless `WANZOCHE_INSTALLED` is
+//! set. What is built is what the repository's Makefile builds: one object, of which only the names of wanzoche.h stay.
 
 use std::env;
 use std::path::{Path, PathBuf};
@@ -64,8 +64,9 @@ fn said(command: &mut Command) -> String {
 
 /// The folder with the library's sources, if there is one.
 fn sources() -> Option<PathBuf> {
-    let place = Path::new(&of_cargo("CARGO_MANIFEST_DIR")).join("../..");
-    (place.join("c/wanzoche.c").exists() && place.join("dist/system.c").exists()).then_some(place)
+    let crate_folder = PathBuf::from(of_cargo("CARGO_MANIFEST_DIR"));
+    let mut places = ["native", "../.."].iter().map(|place| crate_folder.join(place));
+    places.find(|place| place.join("c/wanzoche.c").exists() && place.join("dist/system.c").exists())
 }
 
 /// Builds `libwanzoche.a` in this folder.
@@ -106,7 +107,8 @@ fn find() {
     let found = Command::new(&program).args(["--print-errors", "--errors-to-stdout", "--exists", &wanted]).output();
     if !found.as_ref().map_or(false, |found| found.status.success()) {
         let why = found.map_or_else(|error| error.to_string(), |found| String::from_utf8_lossy(&found.stdout).into_owned());
-        fail(&format!("{program} doesn't find `{wanted}`:\n{why}\nIn a copy of the whole repository the crate builds the library itself"));
+        let itself = "In its package and in a copy of the whole repository the crate builds the library itself";
+        fail(&format!("{program} doesn't find `{wanted}`:\n{why}\n{itself}"));
     }
     println!("cargo:rustc-link-search=native={}", asks(&["--variable=libdir"]).trim());
     println!("cargo:include={}", asks(&["--variable=includedir"]).trim());

@@ -10,10 +10,10 @@ use Rattle.path_journal.specs.JournalTexts.{IsJournalText}
 use Rattle.path_audit.specs.declared.journals.Verdict.{Verdict}
 use Rattle.path_audit.specs.declared.journals.Verdict.TheVariants.{Sound, WrongLine}
 use Rattle.path_audit.specs.Verdicts.{IsFirstWrong}
-use Rattle.cmd_base.specs.declared.status.Status.{Status}
-use Rattle.cmd_base.specs.declared.status.Status.TheVariants.{Done, Unsound}
-use Rattle.cmd_base.specs.Ends.{Ends, OfJournal, Writes}
-use Rattle.cmd_base.specs.Own.{own_openings}
+use Rattle.tell_base.specs.declared.status.Status.{Status}
+use Rattle.tell_base.specs.declared.status.Status.TheVariants.{Done, Unsound}
+use Rattle.tell_base.specs.Ends.{Ends, OfJournal, Writes}
+use Rattle.tell_base.specs.Own.{own_openings}
 use Rattle.cmd_audit.specs.Audits.{IsAuditOf, TellsVerdict, verdict_line, verdict_status}
 
 -- the line of the verdict on a text is one that its audit may write

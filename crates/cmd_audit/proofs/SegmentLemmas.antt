@@ -17,10 +17,10 @@ use Rattle.path_audit.specs.declared.auditor.AuditFault.TheVariants as audits
 use Rattle.path_audit.specs.Verdicts.{IsAuditFault}
 use Rattle.path_audit.specs.declared.journals.SegmentsVerdict.{SegmentsVerdict}
 use Rattle.path_audit.specs.declared.journals.SegmentsVerdict.TheVariants as verdicts
-use Rattle.cmd_base.specs.Ends.{OfText, RefusesText}
-use Rattle.cmd_base.specs.Own.{own_openings}
-use Rattle.cmd_base.specs.Statuses.{audit_status, text_status}
-use Rattle.cmd_base.proofs.CallerLemmas.{own_refused}
+use Rattle.tell_base.specs.Ends.{OfText, RefusesText}
+use Rattle.tell_base.specs.Own.{own_openings}
+use Rattle.tell_base.specs.Statuses.{audit_status, text_status}
+use Rattle.tell_base.proofs.CallerLemmas.{own_refused}
 use Rattle.cmd_audit.specs.Segments.{AreAuditOf, AreNoSegments, AreSegmentTexts, IsSegmentText, LackRoom, NamesAnother}
 use Rattle.cmd_audit.specs.Audits.{verdict_line, verdict_status}
 use Rattle.cmd_audit.specs.Segments.{TellsSegments, file_of, verdict_in}

@@ -9,12 +9,12 @@ use Rattle.path_journal.specs.JournalFaults.{IsJournalFault}
 use Rattle.path_audit.specs.declared.journals.Verdict.{Verdict}
 use Rattle.path_audit.specs.declared.journals.Verdict.TheVariants.{Sound, WrongLine}
 use Rattle.path_audit.specs.Verdicts.{IsVerdict}
-use Rattle.cmd_base.specs.declared.fault.Fault.{Fault}
-use Rattle.cmd_base.specs.declared.fault.Fault.TheVariants as faults
-use Rattle.cmd_base.specs.declared.status.Status.{Status}
-use Rattle.cmd_base.specs.declared.status.Status.TheVariants as statuses
-use Rattle.cmd_base.specs.Ends.{OfJournal, UnderText, Writes}
-use Rattle.cmd_base.specs.Own.{own_openings}
+use Rattle.tell_base.specs.declared.fault.Fault.{Fault}
+use Rattle.tell_base.specs.declared.fault.Fault.TheVariants as faults
+use Rattle.tell_base.specs.declared.status.Status.{Status}
+use Rattle.tell_base.specs.declared.status.Status.TheVariants as statuses
+use Rattle.tell_base.specs.Ends.{OfJournal, UnderText, Writes}
+use Rattle.tell_base.specs.Own.{own_openings}
 
 -- the text is that of a journal with this verdict, over the program's own devices; its room is the one that the text names, else the
 -- one that is given

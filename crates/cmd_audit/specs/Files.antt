@@ -1,7 +1,7 @@
 -- The status of what refuses the files of a journal.
-use Rattle.cmd_base.specs.declared.status.Status.{Status}
-use Rattle.cmd_base.specs.declared.status.Status.TheVariants as statuses
-use Rattle.cmd_base.specs.Statuses.{audit_status, text_status}
+use Rattle.tell_base.specs.declared.status.Status.{Status}
+use Rattle.tell_base.specs.declared.status.Status.TheVariants as statuses
+use Rattle.tell_base.specs.Statuses.{audit_status, text_status}
 use Rattle.cmd_audit.specs.declared.files.FilesFault.{FilesFault}
 use Rattle.cmd_audit.specs.declared.files.FilesFault.TheVariants as faults
 

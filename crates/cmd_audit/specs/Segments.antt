@@ -10,10 +10,10 @@ use Rattle.path_audit.specs.declared.journals.Verdict.TheVariants as verdicts
 use Rattle.path_audit.specs.declared.journals.SegmentsVerdict.{SegmentsVerdict}
 use Rattle.path_audit.specs.declared.journals.SegmentsVerdict.TheVariants.{Sound, WrongLine}
 use Rattle.path_audit.specs.Judged.{IsSegmentsVerdict}
-use Rattle.cmd_base.specs.declared.status.Status.{Status}
-use Rattle.cmd_base.specs.Ends.{OfText, UnderText, Writes}
-use Rattle.cmd_base.specs.Own.{own_openings}
-use Rattle.cmd_base.specs.Refusals.{IsBadJournal}
+use Rattle.tell_base.specs.declared.status.Status.{Status}
+use Rattle.tell_base.specs.Ends.{OfText, UnderText, Writes}
+use Rattle.tell_base.specs.Own.{own_openings}
+use Rattle.tell_base.specs.Refusals.{IsBadJournal}
 use Rattle.cmd_audit.specs.Audits.{verdict_line, verdict_status}
 
 -- the text is that of a segment with these lines: it names this room, or none

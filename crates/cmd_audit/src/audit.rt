@@ -3,16 +3,15 @@
 ghost use Rattle.std.specs.Prelude.{◌≡◌, ◌≢◌, ℕ, IfOk, IfErr, map, option_map};
 ghost use Rattle.std.specs.String.{string_bytes};
 ghost use Rattle.path_audit.specs.declared.journals.Verdict.{Verdict};
-ghost use Rattle.cmd_base.specs.Ends.{Ends, RefusesText, Writes};
-ghost use Rattle.cmd_base.specs.Refusals.{IsBadJournal, LacksRoom};
-ghost use Rattle.cmd_base.specs.Statuses.{status_of};
+ghost use Rattle.tell_base.specs.Ends.{Ends, RefusesText, Writes};
+ghost use Rattle.tell_base.specs.Refusals.{IsBadJournal, LacksRoom};
+ghost use Rattle.tell_base.specs.Statuses.{status_of};
 ghost use Rattle.cmd_audit.specs.Audits.{AuditEnd, AuditEnds, IsAuditOf, IsSoundText, IsTextFaultOf, IsWrongText};
 ghost use Rattle.cmd_audit.specs.Audits.{verdict_line, verdict_status};
 ghost use Rattle.cmd_audit.specs.Files.{fault_status};
 ghost use Rattle.cmd_audit.specs.Segments.{AreAuditOf, AreNoSegments, LackRoom, SegmentTextsEnd};
 
 use crate::files::{FilesFault, JournalFile, read_segments, tell_of_file};
-use cmd_base::{Fault, Status, own_openings, put_ending, tell};
 use path_audit::{SegmentsVerdict, Verdict, audit, audit_segments};
 use path_decl::Decl;
 use path_journal::read_journal;
@@ -20,6 +19,7 @@ use path_model::OutOfMemory;
 use path_read::read;
 use std::alloc::Allocator;
 use std::io::Write;
+use tell_base::{Fault, Status, own_openings, put_ending, tell};
 
 /// The verdict on the journal in a text, over the program's own devices. The room is the one that the text names, else `room`.
 ///

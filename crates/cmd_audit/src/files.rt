@@ -2,11 +2,10 @@
 
 ghost use Rattle.std.specs.Prelude.{◌≡◌, ◌⊎◌, ◌↔◌, IfOk, IfErr, IsTrue, map};
 ghost use Rattle.std.specs.Option.{unwrap_or};
-ghost use Rattle.cmd_base.specs.Ends.{RefusesText};
+ghost use Rattle.tell_base.specs.Ends.{RefusesText};
 ghost use Rattle.cmd_audit.specs.Files.{fault_status};
 ghost use Rattle.cmd_audit.specs.Segments.{AreNoSegments, AreSegmentTexts, LackRoom};
 
-use cmd_base::{Fault, Status, tell};
 use path_audit::AuditFault;
 use path_decl::Decl;
 use path_journal::read_journal;
@@ -14,6 +13,7 @@ use path_lines::TextFault;
 use path_model::Line;
 use std::alloc::{Allocator, Global};
 use std::io::Write;
+use tell_base::{Fault, Status, tell};
 
 /// A file with a segment of a journal.
 #[derive(Drop)]

@@ -4,9 +4,9 @@ use Rattle.path_model.specs.Declarations.{Declaration, trees}
 use Rattle.path_print.specs.Printed.{printed}
 use Rattle.path_code.specs.Listing.{listing_text}
 use Rattle.path_trim.specs.LeanListing.{lean_text}
-use Rattle.cmd_base.specs.declared.status.Status.{Status}
-use Rattle.cmd_base.specs.declared.status.Status.TheVariants.{Done}
-use Rattle.cmd_base.specs.Ends.{UnderText, Writes}
+use Rattle.tell_base.specs.declared.status.Status.{Status}
+use Rattle.tell_base.specs.declared.status.Status.TheVariants.{Done}
+use Rattle.tell_base.specs.Ends.{UnderText, Writes}
 use Rattle.cmd_check.specs.declared.output.Output.{Output}
 use Rattle.cmd_check.specs.declared.output.Output.TheVariants.{Print, Listings}
 

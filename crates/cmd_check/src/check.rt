@@ -1,13 +1,13 @@
 //! From a declaration to its print.
 
 ghost use Rattle.path_print.specs.Printed.{printed};
-ghost use Rattle.cmd_base.specs.Ends.{Ends};
+ghost use Rattle.tell_base.specs.Ends.{Ends};
 ghost use Rattle.cmd_check.specs.Outputs.{OutputEnds};
 
 use crate::output::{Output, put_output};
-use cmd_base::Status;
 use std::alloc::Allocator;
 use std::io::Write;
+use tell_base::Status;
 
 /// Reads a declaration and writes it in one line, as `print` lays it out. The cost is that of the text.
 ///

@@ -1,12 +1,12 @@
 //! From a declaration to its semaphores.
 
-ghost use Rattle.cmd_base.specs.Ends.{Ends};
+ghost use Rattle.tell_base.specs.Ends.{Ends};
 ghost use Rattle.cmd_check.specs.Outputs.{OutputEnds, compiled_text};
 
 use crate::output::{Output, put_output};
-use cmd_base::Status;
 use std::alloc::Allocator;
 use std::io::Write;
+use tell_base::Status;
 
 /// Reads a declaration and writes what it is compiled to (Campbell and Habermann, 1974): its semaphores, prologues and
 /// epilogues, the line `trimmed`, and what trimming leaves of them. The cost is that of the texts, and of comparing each path

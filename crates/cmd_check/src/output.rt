@@ -2,19 +2,19 @@
 
 ghost use Rattle.std.specs.Prelude.{◌≡◌, IfOk, IfErr};
 ghost use Rattle.std.specs.String.{string_bytes};
-ghost use Rattle.cmd_base.specs.Ends.{Ends};
-ghost use Rattle.cmd_base.specs.Refusals.{IsUndeclared, Under};
-ghost use Rattle.cmd_base.specs.Statuses.{status_of};
+ghost use Rattle.tell_base.specs.Ends.{Ends};
+ghost use Rattle.tell_base.specs.Refusals.{IsUndeclared, Under};
+ghost use Rattle.tell_base.specs.Statuses.{status_of};
 ghost use Rattle.cmd_check.specs.Outputs.{OutputEnds, output_text};
 
 use crate::listings::listings;
-use cmd_base::{Fault, Status, put_text, tell};
 use path_decl::Decl;
 use path_model::OutOfMemory;
 use path_print::print;
 use path_read::read;
 use std::alloc::Allocator;
 use std::io::Write;
+use tell_base::{Fault, Status, put_text, tell};
 
 /// What a command writes of a declaration.
 #[derive(Clone, Copy)]

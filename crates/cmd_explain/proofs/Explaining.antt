@@ -11,8 +11,8 @@ use Rattle.path_lines.specs.AttemptTexts.{Entry}
 use Rattle.path_shelf.specs.States.{State, MayFail}
 use Rattle.path_shelf.specs.Own.{own_state}
 use Rattle.path_system.specs.Accounts.{Account, account_of}
-use Rattle.cmd_base.specs.Own.{own_states}
-use Rattle.cmd_base.proofs.CallerLemmas.{unfailing}
+use Rattle.tell_base.specs.Own.{own_states}
+use Rattle.tell_base.proofs.CallerLemmas.{unfailing}
 use Rattle.cmd_explain.specs.Explanations.{AreExplained, IsExplainedStep, IsExplanation, numbered_line}
 
 -- these attempts are explained by this text, and only the journal and the counts of failures have changed

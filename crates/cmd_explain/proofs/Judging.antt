@@ -11,7 +11,7 @@ use Rattle.path_journal.specs.JournalTexts.{IsJournalText}
 use Rattle.path_audit.specs.declared.auditor.Wrong.{Wrong}
 use Rattle.path_audit.specs.Judged.{ExaminedValue, IsExamined, IsExaminedAs, IsFirstWrongBehind}
 use Rattle.path_audit.specs.Verdicts.{IsFirstWrong}
-use Rattle.cmd_base.specs.Own.{own_openings}
+use Rattle.tell_base.specs.Own.{own_openings}
 use Rattle.cmd_explain.specs.Judgements.{Begins, IsSoundTold, IsWrongTold, owed_lines, sound_line}
 
 -- a text that was empty got these bytes, and then more

@@ -9,10 +9,10 @@ use Rattle.path_model.specs.Owed.{Owed}
 use Rattle.path_lines.specs.LineTexts.{journal_line_text, reply_text}
 use Rattle.path_journal.specs.JournalTexts.{IsJournalText}
 use Rattle.path_audit.specs.Verdicts.{IsFirstWrong}
-use Rattle.cmd_base.specs.declared.status.Status.{Status}
-use Rattle.cmd_base.specs.declared.status.Status.TheVariants as statuses
-use Rattle.cmd_base.specs.Ends.{OfJournal, UnderText}
-use Rattle.cmd_base.specs.Own.{own_openings}
+use Rattle.tell_base.specs.declared.status.Status.{Status}
+use Rattle.tell_base.specs.declared.status.Status.TheVariants as statuses
+use Rattle.tell_base.specs.Ends.{OfJournal, UnderText}
+use Rattle.tell_base.specs.Own.{own_openings}
 use Rattle.cmd_audit.specs.Audits.{IsSoundText}
 
 -- the number of line n in a text, counted from 1, where a head is line 1

@@ -4,22 +4,22 @@ ghost use Rattle.std.specs.Prelude.{◌≡◌, ◌⊎◌, map, IfOk, IfErr};
 ghost use Rattle.std.specs.String.{string_bytes};
 ghost use Rattle.path_shelf.specs.Own.{own_state};
 ghost use Rattle.path_shelf.specs.States.{MayFail};
-ghost use Rattle.cmd_base.specs.Ends.{Ends, RefusesText};
-ghost use Rattle.cmd_base.specs.Refusals.{IsBadAttempts};
-ghost use Rattle.cmd_base.specs.Statuses.{status_of};
-ghost use Rattle.cmd_behind.specs.Behind.{behind_status};
+ghost use Rattle.tell_base.specs.Ends.{Ends, RefusesText};
+ghost use Rattle.tell_base.specs.Refusals.{IsBadAttempts};
+ghost use Rattle.tell_base.specs.Statuses.{status_of};
+ghost use Rattle.tell_journals.specs.Behind.{behind_status};
 ghost use Rattle.cmd_explain.specs.Explanations.{ExplanationBehindEnds, IsExplanationBy};
 
 use crate::explain::explained;
 use crate::faults::{FileNames, Subject, tell_place};
 use cmd_audit::{FilesFault, JournalFile, name_of};
-use cmd_base::{Fault, Status, put_text};
-use cmd_behind::{Behind, BehindFault, read_behind, tell_behind};
 use path_lines::read_attempts;
-use path_locate::TextKind;
 use path_model::{Line, OutOfMemory};
 use std::alloc::Allocator;
 use std::io::Write;
+use tell_base::{Fault, Status, put_text};
+use tell_journals::{Behind, BehindFault, read_behind, tell_behind};
+use tell_places::TextKind;
 
 /// The lines of all segments, in order.
 fn lines_of<A: Allocator + Copy>(

@@ -4,10 +4,10 @@ ghost use Rattle.std.specs.Prelude.{◌≡◌, [], map, IfOk, IfErr, OnOk};
 ghost use Rattle.std.specs.String.{string_bytes};
 ghost use Rattle.path_model.specs.Declarations.{paths_of};
 ghost use Rattle.path_shelf.specs.States.{MayFail};
-ghost use Rattle.cmd_base.specs.Ends.{Ends, MayEnd, RefusesText};
-ghost use Rattle.cmd_base.specs.Own.{own_states};
-ghost use Rattle.cmd_base.specs.Refusals.{HasAttempts, IsBadAttempts, IsUndeclared, IsUnopened, Under};
-ghost use Rattle.cmd_base.specs.Statuses.{status_of};
+ghost use Rattle.tell_base.specs.Ends.{Ends, MayEnd, RefusesText};
+ghost use Rattle.tell_base.specs.Own.{own_states};
+ghost use Rattle.tell_base.specs.Refusals.{HasAttempts, IsBadAttempts, IsUndeclared, IsUnopened, Under};
+ghost use Rattle.tell_base.specs.Statuses.{status_of};
 ghost use Rattle.cmd_explain.specs.Explanations.{AreExplained, IsExplainedStep, IsExplanation, IsExplanationOver};
 ghost use Rattle.cmd_explain.specs.Explanations.{DescriptionEnds, ExplanationEnds};
 
@@ -16,16 +16,16 @@ use crate::faults::{FileNames, Subject, tell_place};
 use crate::held::{Lines, push_held};
 use crate::standing::{Moment, push_standing};
 use crate::why::push_why;
-use cmd_base::{Fault, Status, put_text, read_own};
 use path_decl::Decl;
 use path_lines::{push_line, read_attempts};
-use path_locate::TextKind;
 use path_model::{Attempt, Line, OutOfMemory, Reply};
 use path_read::read;
 use path_shelf::Device;
 use path_system::Controller;
 use std::alloc::Allocator;
 use std::io::Write;
+use tell_base::{Fault, Status, put_text, read_own};
+use tell_places::TextKind;
 
 /// What was said so far of a system's replies.
 #[derive(Drop)]

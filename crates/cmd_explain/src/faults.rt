@@ -1,16 +1,16 @@
 //! Faults of texts, told with their place.
 
 ghost use Rattle.std.specs.Prelude.{◌≡◌, ◌⊎◌};
-ghost use Rattle.cmd_base.specs.Statuses.{status_of};
+ghost use Rattle.tell_base.specs.Statuses.{status_of};
 
-use cmd_base::{Fault, Status, tell};
 use path_decl::Decl;
 use path_lex::DeclFault;
 use path_lines::TextFault;
-use path_locate::{Finding, TextKind, declaration_finding, push_finding, text_finding};
 use path_read::read;
 use std::alloc::Allocator;
 use std::io::Write;
+use tell_base::{Fault, Status, tell};
+use tell_places::{Finding, TextKind, declaration_finding, push_finding, text_finding};
 
 /// What the files are called where a fault of theirs is told.
 #[derive(Clone, Copy)]

@@ -4,8 +4,8 @@ use crate::words::push_operations;
 use path_decl::Decl;
 use path_lines::push_operation;
 use path_model::{Activation, Line, OpId, OutOfMemory};
-use path_waiting::{waits_behind, waits_for};
 use std::alloc::Allocator;
+use tell_waiting::{waits_behind, waits_for};
 
 /// The most activations that are looked at: each takes a pass over the lines.
 const MOST: usize = 64;
@@ -101,7 +101,7 @@ fn push_waiters<A: Allocator + Copy>(
 
 /// Appends who holds what and was refused what, if something is live after these lines, and all of it belongs to workers that wait: their
 /// last attempt was a start that a path refused, and nothing finished since. Then none of these starts is admitted before something
-/// finishes ([`waiting_lasts_until_a_finish`](path_waiting::waiting_lasts_until_a_finish)). Appends nothing otherwise, nor if more than
+/// finishes ([`waiting_lasts_until_a_finish`](tell_waiting::waiting_lasts_until_a_finish)). Appends nothing otherwise, nor if more than
 /// 64 activations are live. The cost is a pass over the lines for each of these.
 pub fn push_held<A: Allocator + Copy>(
     alloc: A,

@@ -6,10 +6,10 @@ ghost use Rattle.path_model.specs.declared.journal.Line.{Line};
 ghost use Rattle.path_model.specs.Declarations.{paths_of};
 ghost use Rattle.path_model.specs.Rooms.{IsBadRoom, IsRoom};
 ghost use Rattle.path_audit.specs.Judged.{IsExamined};
-ghost use Rattle.cmd_base.specs.Ends.{Ends, MayEnd, RefusesText};
-ghost use Rattle.cmd_base.specs.Own as own;
-ghost use Rattle.cmd_base.specs.Refusals.{IsBadJournal, LacksRoom, Under};
-ghost use Rattle.cmd_base.specs.Statuses.{status_of};
+ghost use Rattle.tell_base.specs.Ends.{Ends, MayEnd, RefusesText};
+ghost use Rattle.tell_base.specs.Own as own;
+ghost use Rattle.tell_base.specs.Refusals.{IsBadJournal, LacksRoom, Under};
+ghost use Rattle.tell_base.specs.Statuses.{status_of};
 ghost use Rattle.cmd_explain.specs.Judgements.{Begins, IsJudgedText, JudgementEnds, owed_lines, sound_line};
 
 use crate::faults::{FileNames, Subject, tell_place};
@@ -17,16 +17,16 @@ use crate::held::{Lines, push_held};
 use crate::room::room_hint;
 use crate::standing::{Moment, push_standing};
 use crate::why::push_why;
-use cmd_base::{Fault, Status, own_openings, put_ending};
 use path_audit::{Auditor, Examined, Wrong};
 use path_decl::Decl;
 use path_journal::read_journal;
 use path_lines::{push_line, push_reply};
-use path_locate::TextKind;
 use path_model::{JournalText, Line, OutOfMemory, Reply};
 use path_read::read;
 use std::alloc::Allocator;
 use std::io::Write;
+use tell_base::{Fault, Status, own_openings, put_ending};
+use tell_places::TextKind;
 
 /// Appends the wrong line with its number in the text, where a head is line 1, and the reply that was owed to it.
 fn push_owed<A: Allocator + Copy>(

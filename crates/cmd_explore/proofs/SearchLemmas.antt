@@ -6,14 +6,14 @@ use Rattle.path_script.specs.declared.fault.ScriptFault.TheVariants as scripts
 use Rattle.path_script.specs.ScriptFaults.{IsScriptFault}
 use Rattle.path_script.specs.ScriptTexts.{IsScriptText, IsNoScriptText}
 use Rattle.path_script.specs.Scripts.{Plan}
-use Rattle.path_explore.specs.declared.explored.Explored.{Explored}
-use Rattle.path_explore.specs.declared.explored.Explored.TheVariants.{AllDone, Stalls, Faults, Undecided}
-use Rattle.path_explore.specs.Outcomes.{IsExplored}
-use Rattle.cmd_base.specs.declared.status.Status.{Status}
-use Rattle.cmd_base.specs.Ends.{RefusesText}
-use Rattle.cmd_base.specs.Refusals.{Under}
-use Rattle.cmd_base.specs.Statuses.{script_status}
-use Rattle.cmd_base.proofs.CallerLemmas.{ends_so, ends_under}
+use Rattle.search_schedules.specs.declared.explored.Explored.{Explored}
+use Rattle.search_schedules.specs.declared.explored.Explored.TheVariants.{AllDone, Stalls, Faults, Undecided}
+use Rattle.search_schedules.specs.Outcomes.{IsExplored}
+use Rattle.tell_base.specs.declared.status.Status.{Status}
+use Rattle.tell_base.specs.Ends.{RefusesText}
+use Rattle.tell_base.specs.Refusals.{Under}
+use Rattle.tell_base.specs.Statuses.{script_status}
+use Rattle.tell_base.proofs.CallerLemmas.{ends_so, ends_under}
 use Rattle.path_decl.specs.Text.{IsDeclarationText}
 use Rattle.cmd_explore.specs.declared.searched.Searched.{Searched}
 use Rattle.cmd_explore.specs.declared.searched.Searched.TheVariants.{Ended}

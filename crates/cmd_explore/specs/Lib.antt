@@ -1,2 +1,4 @@
 pub mod Standings
 pub mod Searches
+pub mod Reaches
+pub mod Shared

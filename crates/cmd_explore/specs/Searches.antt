@@ -6,14 +6,14 @@ use Rattle.path_model.specs.Declarations.{Declaration}
 use Rattle.path_journal.specs.JournalTexts.{journal_text}
 use Rattle.path_script.specs.Scripts.{Plan}
 use Rattle.path_script.specs.ScriptTexts.{IsScriptText, IsNoScriptText}
-use Rattle.path_explore.specs.declared.explored.Explored.{Explored}
-use Rattle.path_explore.specs.declared.explored.Explored.TheVariants.{AllDone, Stalls, Faults, Undecided}
-use Rattle.path_explore.specs.Schedules.{IsSchedule, ample}
-use Rattle.path_explore.specs.Outcomes.{GoesOn, IsShortestStall, IsShortestFault, AreStates, AreMore}
-use Rattle.cmd_base.specs.declared.status.Status.{Status}
-use Rattle.cmd_base.specs.declared.status.Status.TheVariants.{Done, Unsound}
-use Rattle.cmd_base.specs.Ends.{Ends, OfText, UnderText, Writes as WritesBytes}
-use Rattle.cmd_base.specs.Statuses.{status_number}
+use Rattle.search_schedules.specs.declared.explored.Explored.{Explored}
+use Rattle.search_schedules.specs.declared.explored.Explored.TheVariants.{AllDone, Stalls, Faults, Undecided}
+use Rattle.search_schedules.specs.Schedules.{IsSchedule, ample}
+use Rattle.search_schedules.specs.Outcomes.{GoesOn, IsShortestStall, IsShortestFault, AreStates, AreMore}
+use Rattle.tell_base.specs.declared.status.Status.{Status}
+use Rattle.tell_base.specs.declared.status.Status.TheVariants.{Done, Unsound}
+use Rattle.tell_base.specs.Ends.{Ends, OfText, UnderText, Writes as WritesBytes}
+use Rattle.tell_base.specs.Statuses.{status_number}
 use Rattle.cmd_explore.specs.declared.searched.Searched.{Searched}
 use Rattle.cmd_explore.specs.declared.searched.Searched.TheVariants as searches
 

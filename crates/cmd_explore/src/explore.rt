@@ -3,23 +3,23 @@
 ghost use Rattle.std.specs.Prelude.{◌≡◌, IfOk, Some};
 ghost use Rattle.std.specs.String.{string_bytes};
 ghost use Rattle.path_journal.specs.JournalTexts.{journal_text};
-ghost use Rattle.path_explore.specs.Schedules.{ample};
-ghost use Rattle.cmd_base.specs.Ends.{Ends, Writes as WritesBytes};
-ghost use Rattle.cmd_base.specs.Refusals.{Under};
+ghost use Rattle.search_schedules.specs.Schedules.{ample};
+ghost use Rattle.tell_base.specs.Ends.{Ends, Writes as WritesBytes};
+ghost use Rattle.tell_base.specs.Refusals.{Under};
 ghost use Rattle.cmd_explore.specs.Searches.{HasSearched, IsOpen, IsUndecided, OfSearch, Says, SearchEnds, done_text};
 
 use crate::searched::Searched;
 use crate::standings::standings_text;
 use crate::telling::{tell_undecided, tell_wrong};
-use cmd_base::{Fault, Status, put_text, tell};
 use path_decl::Decl;
-use path_explore::{Explored, explore};
 use path_journal::write_journal;
 use path_model::{Line, MOST_LINES, OutOfMemory};
 use path_read::read;
 use path_script::{Script, read_script};
+use search_schedules::{Explored, explore};
 use std::alloc::Allocator;
 use std::io::Write;
+use tell_base::{Fault, Status, put_text, tell};
 
 /// What is written if every schedule ends done. Fails only if allocation fails.
 fn done<A: Allocator + Copy>(alloc: A, states: usize) -> Result<String<A>, OutOfMemory>
@@ -90,7 +90,7 @@ fn tell_explored<A: Allocator + Copy, O: Write, E: Write>(
 }
 
 /// Looks at every schedule of a script under a declaration, with new devices of the program's own, and at most at `most`
-/// configurations, as [`explore`](path_explore::explore) does and at its cost.
+/// configurations, as [`explore`](search_schedules::explore) does and at its cost.
 ///
 /// `Done`: every schedule ends done, and `out` gets this, and how many configurations there are. `Unsound`: one doesn't; `out` gets the
 /// journal of a shortest that doesn't, as a text of version 2 with room for [`MOST_LINES`](path_model::MOST_LINES) lines, and `err` a line

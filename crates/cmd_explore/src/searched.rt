@@ -1,6 +1,6 @@
 //! How a search of all schedules ends.
 
-use cmd_base::Status;
+use tell_base::Status;
 
 /// How a search ended. `u8::from` gives the exit status.
 #[derive(Clone, Copy, Debug, PartialEq, Eq)]

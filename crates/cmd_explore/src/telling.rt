@@ -1,11 +1,11 @@
 //! How a search tells what it has found.
 
 ghost use Rattle.std.specs.Prelude.{◌≡◌, ◌⊎◌};
-ghost use Rattle.cmd_base.specs.Ends.{Ends, Writes as WritesBytes};
+ghost use Rattle.tell_base.specs.Ends.{Ends, Writes as WritesBytes};
 
 use crate::searched::Searched;
-use cmd_base::{Status, put_ending};
 use std::io::Write;
+use tell_base::{Status, put_ending};
 
 /// Writes on `out` what a search has found wrong, and then on `err` the words that go with it.
 ///

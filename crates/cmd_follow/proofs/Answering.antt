@@ -1,5 +1,5 @@
 -- What answers a line, and why one is refused.
-use Rattle.std.proofs.Common.{◌≡◌, ℕ, List, [], ◌∷◌, ◌++◌, codes, inl, inr, refl, sym, ap, ◌∙◌, subst}
+use Rattle.std.proofs.Common.{◌≡◌, ℕ, Bool, List, [], ◌∷◌, ◌++◌, codes, inl, inr, refl, sym, ap, ◌∙◌, subst}
 use Rattle.std.proofs.lemmas.List.{append-nil}
 use Rattle.path_model.specs.declared.journal.Attempt.{Attempt}
 use Rattle.path_model.specs.declared.journal.Line.{Line}
@@ -15,10 +15,12 @@ use Rattle.path_lines.specs.declared.entry.LineFault.{LineFault}
 use Rattle.path_lines.specs.LineTexts.{line_text, reply_text}
 use Rattle.path_lines.specs.AttemptTexts.{EntryFits, IsFirstFault, IsFirstLine, IsNoEntry}
 use Rattle.path_system.specs.Accounts.{Account}
-use Rattle.cmd_base.specs.ReportTexts.{IsReportText}
+use Rattle.tell_base.specs.ReportTexts.{IsReportText}
 use Rattle.cmd_trace.specs.Traces.{reply_line, IsAnswered}
+use Rattle.cmd_follow.specs.declared.answer.Answered.{Answered}
+use Rattle.cmd_follow.specs.declared.answer.Answered.TheVariants as answered
 use Rattle.cmd_follow.specs.Follows.{IsAnswer, replies, reports}
-use Rattle.cmd_follow.specs.Inner.Taken.{Answers, IfAnswered, IfRefused, added, outcome}
+use Rattle.cmd_follow.specs.Inner.Taken.{Answers, IfAnswered, IfRefused, TookLine, added, outcome}
 
 -- a line without a line feed is its own first line
 own_first : (line text : List ℕ) → HasNone 10 text → IsFirstLine line text → text ≡ line
@@ -97,3 +99,12 @@ outcome_added ls w a reply_kinds.Finished = refl
 outcome_added ls w a reply_kinds.Stale = refl
 outcome_added ls w a reply_kinds.NotYours = refl
 outcome_added ls w a reply_kinds.NoRoom = sym (append-nil ls)
+
+-- the journal has the line more that was answered
+pub line_journal : (old new : List Line) (a : Answered) (line : Line) → a ≡ answered.Line line → new ≡ old ++ added a → new ≡ old ++ line ∷ []
+line_journal old new a line is more = subst (λ x. new ≡ old ++ added x) is more
+
+pub took_answered : (may_fail : Type 0) (old new : Account) (text bytes : List ℕ) (before : Bool) (a : Answered) (line : Line) (ls : List Line) → a ≡ answered.Line line
+    → IfAnswered a (Answers may_fail old new text bytes) → ls ≡ new.journal → TookLine may_fail old text before ls
+took_answered may_fail old new text bytes before a line ls is answers same =
+    inr (new, before, bytes, inl (subst (λ x. IfAnswered x (Answers may_fail old new text bytes)) is answers, refl), same)

@@ -1,5 +1,5 @@
 -- How a follow ends, and what it wrote then.
-use Rattle.std.proofs.Common.{◌≡◌, ℕ, Bool, false, List, [], ◌⊎◌, inl, inr, Option, refl, sym, ◌∙◌, subst, arith}
+use Rattle.std.proofs.Common.{◌≡◌, ◌≢◌, ℕ, Bool, false, List, [], ◌⊎◌, inl, inr, Option, refl, sym, ◌∙◌, subst, arith}
 use Rattle.path_model.specs.declared.journal.Line.{Line}
 use Rattle.path_model.specs.Declarations.{Declaration}
 use Rattle.path_model.specs.Rooms.{IsBadRoom, IsRoom}
@@ -10,19 +10,20 @@ use Rattle.path_system.specs.declared.fault.OpenFault.{OpenFault}
 use Rattle.path_system.specs.declared.fault.OpenFault.TheVariants as openings
 use Rattle.path_system.specs.Accounts.{Account, account_of}
 use Rattle.path_system.specs.Faults.{IsOpenFault}
-use Rattle.cmd_base.specs.declared.status.Status.{Status}
-use Rattle.cmd_base.specs.declared.status.Status.TheVariants as statuses
-use Rattle.cmd_base.specs.Statuses.{open_status}
-use Rattle.cmd_base.specs.Writes.{AppendsSome}
-use Rattle.cmd_base.specs.Own.{own_states}
-use Rattle.cmd_base.specs.Refusals.{IsUnopened, IsUndeclared}
-use Rattle.cmd_base.proofs.CallerLemmas.{unfailing}
+use Rattle.tell_base.specs.declared.status.Status.{Status}
+use Rattle.tell_base.specs.declared.status.Status.TheVariants as statuses
+use Rattle.tell_base.specs.Statuses.{open_status}
+use Rattle.tell_base.specs.Writes.{AppendsSome}
+use Rattle.tell_base.specs.Own.{own_states}
+use Rattle.tell_base.specs.Refusals.{IsUnopened, IsUndeclared}
+use Rattle.tell_base.proofs.CallerLemmas.{unfailing}
 use Rattle.cmd_follow.specs.declared.stop.Stop.{Stop}
 use Rattle.cmd_follow.specs.declared.stop.Stop.TheVariants as stops
 use Rattle.cmd_follow.specs.Follows.{AnswersFirst, Follows, GaveAll, GaveFirst, IsAnswer, IsFollowOf, WroteAll, WroteFirst, answers, at_end, refuses, replies, reports}
-use Rattle.cmd_follow.specs.Inner.Taken.{Stopped, Through}
+use Rattle.cmd_follow.specs.Inner.Taken.{Stopped, StoppedSent, StoppedTook, Through}
 use Rattle.cmd_follow.specs.Stops.{IsEnding, UnlessWriting, stop_status}
-use Rattle.cmd_follow.proofs.Written.{read_first, read_none, wrote_none}
+use Rattle.cmd_follow.proofs.Passing.{through_sent, through_took}
+use Rattle.cmd_follow.proofs.Written.{all_first, read_first, read_none, wrote_none}
 
 -- how a stop is told
 abbrev pub EndsStop : Status → Type 0
@@ -54,16 +55,19 @@ ending statuses.Unsound h = absurd h
 pub ending_stop : (stop : Stop) (r : Status) → (r ≡ stop_status stop) ⊎ (r ≡ statuses.StreamFailed) → IsEnding r
 ending_stop stop r told = ending r (ends_stop stop r r told refl)
 
--- without memory no write has failed
-pub memory_stop : (stop : Stop) (P : Type 0) (r : Status) → UnlessWriting stop P → (r ≡ stop_status stop) ⊎ (r ≡ statuses.StreamFailed) → r ≡ statuses.NoMemory → P
-memory_stop stops.OutOfMemory P r p told is = p
-memory_stop stops.Unreadable P r p told is = p
-memory_stop stops.TooLong P r p told is = p
-memory_stop stops.Unkept P r p told is = p
-memory_stop stops.Quiet P r p (inl e) is = let no : statuses.StreamFailed ≡ statuses.NoMemory = sym e ∙ is in cc
-memory_stop stops.Quiet P r p (inr e) is = let no : statuses.StreamFailed ≡ statuses.NoMemory = sym e ∙ is in cc
-memory_stop stops.Output P r p (inl e) is = let no : statuses.StreamFailed ≡ statuses.NoMemory = sym e ∙ is in cc
-memory_stop stops.Output P r p (inr e) is = let no : statuses.StreamFailed ≡ statuses.NoMemory = sym e ∙ is in cc
+-- unless a stream failed, no write did
+pub memory_stop : (stop : Stop) (P : Type 0) (r : Status) → UnlessWriting stop P → (r ≡ stop_status stop) ⊎ (r ≡ statuses.StreamFailed) → r ≢ statuses.StreamFailed → P
+memory_stop stops.OutOfMemory P r p told not = p
+memory_stop stops.Unreadable P r p told not = p
+memory_stop stops.TooLong P r p told not = p
+memory_stop stops.Unkept P r p told not = p
+memory_stop stops.Quiet P r p (inl e) not = absurd (not e)
+memory_stop stops.Quiet P r p (inr e) not = absurd (not e)
+memory_stop stops.Output P r p (inl e) not = absurd (not e)
+memory_stop stops.Output P r p (inr e) not = absurd (not e)
+
+pub memory_not_failed : (r : Status) → r ≡ statuses.NoMemory → r ≢ statuses.StreamFailed
+memory_not_failed r is failed = let no : statuses.NoMemory ≡ statuses.StreamFailed = sym is ∙ failed in cc
 
 -- how a system is told that can't be opened
 abbrev pub EndsOpen : Status → Type 0
@@ -103,10 +107,9 @@ pub ends_undeclared : (text : List ℕ) (told result s : Status) → IsUndeclare
 ends_undeclared text told result s undeclared (inl e) is = subst (EndsUndeclared text) (sym e ∙ is) (ends_told text told undeclared)
 ends_undeclared text told result s undeclared (inr e) is = subst (EndsUndeclared text) (sym e ∙ is) tt
 
--- what is kept of a journal
-pub keeps_from : {K : Type 0} (keeps : K → Declaration → List Line → Type 0) (old new : K) (a b : Account) (end : List Line) → a ≡ b
-    → (keeps old a.declaration a.journal → keeps new a.declaration end) → keeps old b.declaration b.journal → keeps new b.declaration end
-keeps_from keeps old new a b end same k = subst (λ (x : Account). keeps old x.declaration x.journal → keeps new x.declaration end) same k
+-- what holds behind the lines of a system holds behind those of an equal one
+pub kept_from : (a b : Account) (P : List Line → Type 0) (Q : Type 0) → a ≡ b → (P a.journal → Q) → P b.journal → Q
+kept_from a b P Q same to p = to (subst (λ (x : Account). P x.journal) (sym same) p)
 
 module _ (may_fail : Type 0) (had wrote writes : Option (List ℕ)) where
   -- a follow that began with no line refused
@@ -117,11 +120,34 @@ module _ (may_fail : Type 0) (had wrote writes : Option (List ℕ)) where
       (subst (λ s. GaveAll had (λ text. Through may_fail a text s x end wrote writes)) none
       (subst (λ s. GaveAll had (λ text. Through may_fail a text before s end wrote writes)) is t))
 
-  pub began_first : (a b : Account) (before : Bool) → a ≡ b → before ≡ false
-      → GaveFirst had (λ text. Stopped may_fail a text before wrote writes) → GaveFirst had (λ text. Stopped may_fail b text false wrote writes)
-  began_first a b before same none t =
-      subst (λ s. GaveFirst had (λ text. Stopped may_fail s text false wrote writes)) same
-      (subst (λ s. GaveFirst had (λ text. Stopped may_fail a text s wrote writes)) none t)
+  -- one that stopped, and one that went on to the end
+  module _ (a b : Account) (before : Bool) (same : a ≡ b) (none : before ≡ false) (P : Account → List Line → List Line → Type 0) where
+    from_first : (stop : Stop) → GaveFirst had (λ text. Stopped may_fail a text before wrote writes stop (P a)) → GaveFirst had (λ text. Stopped may_fail b text false wrote writes stop (P b))
+    from_first stop t =
+        subst (λ s. GaveFirst had (λ text. Stopped may_fail s text false wrote writes stop (P s))) same
+        (subst (λ s. GaveFirst had (λ text. Stopped may_fail a text s wrote writes stop (P a))) none t)
+
+    pub stopped_sent : (stop : Stop) (r : Status) → (r ≡ stop_status stop) ⊎ (r ≡ statuses.StreamFailed) → r ≢ statuses.StreamFailed
+        → GaveFirst had (λ text. Stopped may_fail a text before wrote writes stop (P a)) → GaveFirst had (λ text. StoppedSent may_fail b text wrote writes (P b))
+    stopped_sent stop r told not t =
+        let h = from_first stop t in
+        (h.0, h.1, (h.2.0, h.2.1, h.2.2.taken, memory_stop stop _ r h.2.2.answered told not, h.2.3))
+
+    pub stopped_took : (stop : Stop) → GaveFirst had (λ text. Stopped may_fail a text before wrote writes stop (P a)) → GaveFirst had (λ text. StoppedTook may_fail b text (P b))
+    stopped_took stop t = let h = from_first stop t in (h.0, h.1, (h.2.0, h.2.1, h.2.2.taken, h.2.3))
+
+    pub through_all_sent : (after : Bool) (end : List Line) → GaveAll had (λ text. Through may_fail a text before after end wrote writes) → P a end []
+        → GaveFirst had (λ text. StoppedSent may_fail b text wrote writes (P b))
+    through_all_sent after end t here =
+        let h = subst (λ s. GaveAll had (λ text. Through may_fail s text false after end wrote writes)) same
+        (subst (λ s. GaveAll had (λ text. Through may_fail a text s after end wrote writes)) none t) in
+        (h.0, all_first had h.0 h.1, (end, [], through_took may_fail b h.0 false after end wrote writes h.2, through_sent may_fail b h.0 false after end wrote writes h.2, subst (λ s. P s end []) same here))
+
+    pub through_all_took : (after : Bool) (end : List Line) → GaveAll had (λ text. Through may_fail a text before after end wrote writes) → P a end []
+        → GaveFirst had (λ text. StoppedTook may_fail b text (P b))
+    through_all_took after end t here =
+        let h = through_all_sent after end t here in
+        (h.0, h.1, (h.2.0, h.2.1, h.2.2, h.2.4))
 
   -- a follow by a system in which nothing was attempted
   pub follow_of : (d : Declaration) (states : List State) (room : ℕ) (system : Account) (refused : Bool) → system ≡ account_of d room states
@@ -131,12 +157,13 @@ module _ (may_fail : Type 0) (had wrote writes : Option (List ℕ)) where
       let h = subst (λ s. GaveAll had (λ text. Through may_fail s text false refused end wrote writes)) is t in
       (h.0, h.1, (h.2.0, (end, h.2.1), h.2.2))
 
-  pub first_of : (d : Declaration) (states : List State) (room : ℕ) (system : Account) → system ≡ account_of d room states
-      → GaveFirst had (λ text. Stopped may_fail system text false wrote writes)
+  pub first_of : (d : Declaration) (states : List State) (room : ℕ) (system : Account) (P : List Line → List Line → Type 0) → system ≡ account_of d room states
+      → GaveFirst had (λ text. StoppedSent may_fail system text wrote writes P)
       → GaveFirst had (λ text. AppendsSome wrote writes (AnswersFirst d states may_fail room text))
-  first_of d states room system is t =
-      let h = subst (λ s. GaveFirst had (λ text. Stopped may_fail s text false wrote writes)) is t in
-      (h.0, h.1, (h.2.0, (h.2.1, h.2.2, h.2.3), h.2.4))
+  first_of d states room system P is t =
+      let h = subst (λ s. GaveFirst had (λ text. StoppedSent may_fail s text wrote writes P)) is t in
+      let sent = h.2.3 in
+      (h.0, h.1, (sent.0, (h.2.0, sent.1, sent.2), sent.3))
 
 -- nothing was read or written
 pub first_none : (may_fail : Type 0) (had wrote : Option (List ℕ)) (d : Declaration) (states : List State) (room : ℕ)

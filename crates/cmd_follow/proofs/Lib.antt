@@ -7,3 +7,4 @@ pub mod Ending
 pub mod Behind
 mod Opening
 mod Closing
+pub mod Outlasting

@@ -2,9 +2,6 @@
 use Rattle.std.proofs.Common.{◌≡◌, ◌≢◌, ◌==◌, ℕ, Bool, true, false, List, [], ◌∷◌, ◌++◌, length, arith, inl, inr, Option, refl, sym, ap, ◌∙◌, subst, append_assoc}
 use Rattle.std.proofs.lemmas.Grind.{common_steps}
 use Rattle.std.proofs.lemmas.List.{append-nil, nil_from_length}
-use Rattle.std.proofs.lemmas.Result.{on_ok_weaker}
-use Rattle.std.specs.Prelude.{OnOk}
-use Rattle.std.specs.declared.result.Result.{Result}
 use Rattle.std.specs.Io.KnownBytes.{Keeps}
 use Rattle.path_model.specs.declared.journal.Line.{Line}
 use Rattle.path_model.specs.Declarations.{Declaration}
@@ -12,7 +9,9 @@ use Rattle.path_fields.specs.Splits.{HasNone}
 use Rattle.path_fields.proofs.CallerLemmas.{none_joined}
 use Rattle.path_system.specs.Accounts.{Account}
 use Rattle.cmd_follow.specs.Follows.{IsLine, Follows, at_end, answers, refuses}
-use Rattle.cmd_follow.specs.Inner.Taken.{GoesOn, TakesBy, Takes, Passes, Stopped, Through}
+use Rattle.cmd_follow.specs.declared.stop.Stop.{Stop}
+use Rattle.cmd_follow.specs.Inner.Taken.{GoesOn, TakesBy, Takes, Passes, Took, TookLine, Sent, Stopped, StoppedLine, Through}
+use Rattle.cmd_follow.proofs.Stopping.{unless, unless_so}
 use Rattle.cmd_follow.proofs.Written.{joins, wrote_none, kept_wrote, wrote_same}
 
 -- whether a vector of so many items is empty
@@ -31,23 +30,19 @@ goes_more start now next h k = k ∙ ap (λ (x : Account). record x { journal = 
 pub goes_whole : (start now : Account) → GoesOn start now → start.earlier ≡ [] → now.earlier ≡ []
 goes_whole start now h e = ap (λ (x : Account). x.earlier) h ∙ e
 
--- what is kept of a journal, by the declaration that all of a follow is under
-pub keeps_on : {K : Type 0} (keeps : K → Declaration → List Line → Type 0) (old new : K) (start now : Account) (end : List Line) → GoesOn start now
-    → (keeps old now.declaration now.journal → keeps new now.declaration end) → keeps old start.declaration now.journal → keeps new start.declaration end
-keeps_on keeps old new start now end goes more k =
-    let same : now.declaration ≡ start.declaration = ap (λ (x : Account). x.declaration) goes in
-    subst (λ d. keeps new d end) same (more (subst (λ d. keeps old d now.journal) (sym same) k))
-
-pub keeps_ok : {K T E : Type 0} (keeps : K → Declaration → List Line → Type 0) (r : Result T E) (old new : K) (start now : Account) (end : List Line) → GoesOn start now
-    → (keeps old now.declaration now.journal → OnOk r (keeps new now.declaration end)) → keeps old start.declaration now.journal → OnOk r (keeps new start.declaration end)
-keeps_ok keeps r old new start now end goes more k =
-    let same : now.declaration ≡ start.declaration = ap (λ (x : Account). x.declaration) goes in
-    on_ok_weaker r (λ kept. subst (λ d. keeps new d end) same kept) (more (subst (λ d. keeps old d now.journal) (sym same) k))
-
 pub goes_taken : (may_fail : Type 0) (old new : Account) (line : List ℕ) (before after : Bool) (bytes : List ℕ)
     → TakesBy may_fail old new line before after bytes → GoesOn old new
 goes_taken may_fail old new line before after bytes (inl h) = h.0.0
 goes_taken may_fail old new line before after bytes (inr h) = goes_same old new h.0
+
+-- a line that was pending at first stands so in what is left
+pub pending_line : (pending rest line joined given after : List ℕ) → given ≡ joined → joined ≡ pending ++ line → rest ≡ line ++ 10 ∷ after
+    → HasNone 10 pending → HasNone 10 line → IsLine given (pending ++ rest) after
+pending_line pending rest line joined given after same is cuts clean one =
+    let whole : given ≡ pending ++ line = same ∙ is in (
+      subst (λ x. HasNone 10 x) (sym whole) (none_joined 10 pending line clean one),
+      inl (ap (λ x. pending ++ x) cuts ∙ sym (append_assoc pending line (10 ∷ after)) ∙ ap (λ x. x ++ 10 ∷ after) (sym whole)),
+    )
 
 module _ (may_fail : Type 0) where
   -- a follow of a text by an account
@@ -126,36 +121,106 @@ module _ (may_fail : Type 0) where
         (subst (λ x. Follow start whole start.journal before x end e (p.bytes ++ (q.bytes ++ more))) (sym (append_assoc p.done q.done rest)) all);
   }
 
-  -- it stopped behind the lines that were taken
-  pub stopped_here : (start now : Account) (text left : List ℕ) (before mid : Bool) (wrote writes : Option (List ℕ))
-      → Passes may_fail start now text left before mid wrote writes → Stopped may_fail start text before wrote writes
-  stopped_here start now text left before mid wrote writes p = (
+  -- behind the lines that were taken
+  sent_here : (start now : Account) (text left : List ℕ) (before mid : Bool) (wrote writes : Option (List ℕ))
+      → Passes may_fail start now text left before mid wrote writes → Sent may_fail start text before now.journal wrote writes
+  sent_here start now text left before mid wrote writes p = (
     p.bytes ++ [],
-    now.journal,
     mid,
     subst (λ x. Follow start false start.journal before x now.journal mid (p.bytes ++ [])) (sym p.parts) (p.forth false left now.journal mid [] (at_end tt)),
     wrote_same wrote writes p.bytes (p.bytes ++ []) (sym (append-nil p.bytes)) p.appends,
   )
 
-  pub stopped_kept : (start : Account) (text : List ℕ) (before : Bool) (wrote writing writes : Option (List ℕ))
-      → Stopped may_fail start text before wrote writing → Keeps writing writes → Stopped may_fail start text before wrote writes
-  stopped_kept start text before wrote writing writes s k = (s.0, s.1, s.2, s.3, kept_wrote wrote writing writes s.0 s.4 k)
+  -- a follow of the text that is left is one of the text
+  follow_rest : (start now : Account) (text left : List ℕ) (before mid : Bool) (wrote writes : Option (List ℕ)) (ls : List Line) (e : Bool) (bytes : List ℕ)
+      → (p : Passes may_fail start now text left before mid wrote writes) → Follow now false now.journal mid left ls e bytes
+      → Follow start false start.journal before text ls e (p.bytes ++ bytes)
+  follow_rest start now text left before mid wrote writes ls e bytes p f =
+      let P : Account → Type 0 = λ a. Follow a false now.journal mid left ls e bytes in
+      subst (λ x. Follow start false start.journal before x ls e (p.bytes ++ bytes)) (sym p.parts) (p.forth false left ls e bytes (subst P p.goes_on f))
 
-  -- it stopped in a block
-  pub stopped_block : (start now : Account) (text left block : List ℕ) (before mid : Bool) (wrote writing writes : Option (List ℕ))
-      → Passes may_fail start now text left before mid wrote writing → Stopped may_fail now (left ++ block) mid writing writes
-      → Stopped may_fail start (text ++ block) before wrote writes
-  stopped_block start now text left block before mid wrote writing writes p s =
-      let P : Account → Type 0 = λ a. Follow a false now.journal mid (left ++ block) s.1 s.2 s.0 in
-      let all : Follow start false start.journal before (p.done ++ (left ++ block)) s.1 s.2 (p.bytes ++ s.0) =
-      p.forth false (left ++ block) s.1 s.2 s.0 (subst P p.goes_on s.3) in
-      let parts : text ++ block ≡ p.done ++ (left ++ block) = ap (λ x. x ++ block) p.parts ∙ append_assoc p.done left block in (
-        p.bytes ++ s.0,
-        s.1,
-        s.2,
-        subst (λ x. Follow start false start.journal before x s.1 s.2 (p.bytes ++ s.0)) (sym parts) all,
-        joins wrote writing writes p.bytes s.0 p.appends s.4,
-      )
+  took_rest : (start now : Account) (text left : List ℕ) (before mid : Bool) (wrote writes : Option (List ℕ)) (ls : List Line)
+      → Passes may_fail start now text left before mid wrote writes → Took may_fail now left mid ls → Took may_fail start text before ls
+  took_rest start now text left before mid wrote writes ls p took =
+      (p.bytes ++ took.0, took.1, follow_rest start now text left before mid wrote writes ls took.1 took.0 p took.2)
+
+  sent_rest : (start now : Account) (text left : List ℕ) (before mid : Bool) (wrote writing writes : Option (List ℕ)) (end : List Line)
+      → Passes may_fail start now text left before mid wrote writing → Sent may_fail now left mid end writing writes → Sent may_fail start text before end wrote writes
+  sent_rest start now text left before mid wrote writing writes end p sent =
+      (p.bytes ++ sent.0, sent.1, follow_rest start now text left before mid wrote writing end sent.1 sent.0 p sent.2, joins wrote writing writes p.bytes sent.0 p.appends sent.3)
+
+  -- a line is taken, which stands in a text so
+  took_line : (old : Account) (line text rest : List ℕ) (before : Bool) (ls : List Line) → IsLine line text rest → TookLine may_fail old line before ls
+      → Took may_fail old text before ls
+  took_line old line text rest before ls is (inl same) = ([], before, subst (λ x. Follow old false old.journal before text x before []) (sym same) (at_end tt))
+  took_line old line text rest before ls is (inr (next, after, bytes, takes, same)) = (
+    bytes ++ [],
+    after,
+    subst (λ x. Follow old false old.journal before text x after (bytes ++ [])) (sym same)
+        (step old next line bytes before after takes false text rest is next.journal after [] (at_end tt)),
+  )
+
+  -- nothing more was written
+  sent_none : (old : Account) (text : List ℕ) (before : Bool) (wrote writes : Option (List ℕ)) (end : List Line) → end ≡ old.journal → Keeps wrote writes
+      → Sent may_fail old text before end wrote writes
+  sent_none old text before wrote writes end same k = (
+    [],
+    before,
+    subst (λ x. Follow old false old.journal before text x before []) (sym same) (at_end tt),
+    kept_wrote wrote wrote writes [] (wrote_none wrote) k,
+  )
+
+  -- it stopped behind the lines that were taken
+  pub stops_here : (start now : Account) (text left : List ℕ) (before mid : Bool) (wrote writes : Option (List ℕ)) (P : List Line → List Line → Type 0)
+      → Passes may_fail start now text left before mid wrote writes → P now.journal [] → (stop : Stop) → Stopped may_fail start text before wrote writes stop P
+  stops_here start now text left before mid wrote writes P p here stop = (
+    now.journal,
+    [],
+    record {
+      taken = took_rest start now text left before mid wrote writes (now.journal ++ []) p ([], mid, subst (λ x. Follow now false now.journal mid left x mid []) (sym (append-nil now.journal)) (at_end tt));
+      answered = unless stop _ (sent_here start now text left before mid wrote writes p);
+    },
+    here,
+  )
+
+  -- it stopped in a line, which stands in a text so
+  pub stops_line : (old : Account) (line text rest : List ℕ) (before : Bool) (wrote writes : Option (List ℕ)) (stop : Stop) (P : List Line → List Line → Type 0)
+      → IsLine line text rest → StoppedLine may_fail old line before wrote writes stop P → Stopped may_fail old text before wrote writes stop P
+  stops_line old line text rest before wrote writes stop P is (end, more, took, same, p) = (
+    end,
+    more,
+    record {
+      taken = took_line old line text rest before (end ++ more) is took;
+      answered = unless_so _ _ stop (λ q. sent_none old text before wrote writes end q.0 q.1) same;
+    },
+    p,
+  )
+
+  -- it stopped in what was left
+  pub stops_rest : (start now : Account) (text left : List ℕ) (before mid : Bool) (wrote writing writes : Option (List ℕ)) (stop : Stop) (P Q : List Line → List Line → Type 0)
+      → Passes may_fail start now text left before mid wrote writing → ((end more : List Line) → Q end more → P end more)
+      → Stopped may_fail now left mid writing writes stop Q → Stopped may_fail start text before wrote writes stop P
+  stops_rest start now text left before mid wrote writing writes stop P Q p to (end, more, stops, q) = (
+    end,
+    more,
+    record {
+      taken = took_rest start now text left before mid wrote writing (end ++ more) p stops.taken;
+      answered = unless_so _ _ stop (sent_rest start now text left before mid wrote writing writes end p) stops.answered;
+    },
+    to end more q,
+  )
+
+  -- a block more was read
+  pub passes_more : (start now : Account) (text left block : List ℕ) (before mid : Bool) (wrote writes : Option (List ℕ))
+      → Passes may_fail start now text left before mid wrote writes → Passes may_fail start now (text ++ block) (left ++ block) before mid wrote writes
+  passes_more start now text left block before mid wrote writes p = record {
+    done = p.done;
+    bytes = p.bytes;
+    parts = ap (λ x. x ++ block) p.parts ∙ append_assoc p.done left block;
+    goes_on = p.goes_on;
+    appends = p.appends;
+    forth = p.forth;
+  }
 
   -- what was left was gone through
   pub through_rest : (start now : Account) (text left : List ℕ) (before mid after : Bool) (end : List Line) (wrote writing writes : Option (List ℕ))
@@ -169,6 +234,22 @@ module _ (may_fail : Type 0) where
         subst (λ x. Follow start true start.journal before x end after (p.bytes ++ s.0)) (sym p.parts) all,
         joins wrote writing writes p.bytes s.0 p.appends s.2,
       )
+
+  -- what was gone through was taken, and answered
+  front : {d : Declaration} {room : ℕ} {openings : List (List ℕ)} {ls end : List Line} {b e : Bool} {text bytes : List ℕ}
+      → Follows d room openings may_fail true ls b text end e bytes → Follows d room openings may_fail false ls b text end e bytes
+  front (at_end h) = at_end tt
+  front (answers is answer rest) = answers is answer (front rest)
+  front (refuses is bad rest) = refuses is bad (front rest)
+
+  pub through_sent : (start : Account) (text : List ℕ) (before after : Bool) (end : List Line) (wrote writes : Option (List ℕ))
+      → Through may_fail start text before after end wrote writes → Sent may_fail start text before end wrote writes
+  through_sent start text before after end wrote writes t = (t.0, after, front t.1, t.2)
+
+  pub through_took : (start : Account) (text : List ℕ) (before after : Bool) (end : List Line) (wrote writes : Option (List ℕ))
+      → Through may_fail start text before after end wrote writes → Took may_fail start text before (end ++ [])
+  through_took start text before after end wrote writes t =
+      (t.0, after, subst (λ x. Follow start false start.journal before text x after t.0) (sym (append-nil end)) (front t.1))
 
   -- a last line that no line feed ends
   pub through_last : (old new : Account) (line : List ℕ) (before after : Bool) (wrote writes : Option (List ℕ))

@@ -1,29 +1,37 @@
 -- Blocks are read one after the other, and their lines taken.
 use Rattle.std.proofs.Common.{◌≡◌, ℕ, ◌≤◌, Bool, List, [], ◌++◌, length, take, Option, sym, ap, ◌∙◌, subst}
 use Rattle.std.proofs.lemmas.List.{append-nil, take-append-le, take-take}
-use Rattle.std.specs.Io.KnownBytes.{Consumes, IsAtEnd, Keeps}
+use Rattle.std.specs.Io.KnownBytes.{Consumes, IsAtEnd}
 use Rattle.path_model.specs.declared.journal.Line.{Line}
 use Rattle.path_system.specs.Accounts.{Account}
 use Rattle.cmd_follow.specs.Follows.{GaveAll, GaveFirst}
 use Rattle.cmd_follow.specs.Inner.Taken.{Passes, PassesRead, Stopped, Through}
-use Rattle.cmd_follow.proofs.Passing.{passes_none, passes_block, stopped_here, stopped_kept, stopped_block, through_rest}
+use Rattle.cmd_follow.specs.declared.stop.Stop.{Stop}
+use Rattle.cmd_follow.proofs.Passing.{passes_none, passes_block, passes_more, stops_here, stops_rest, through_rest}
 use Rattle.cmd_follow.proofs.Written.{read_none, reads, read_all, read_first}
 
 module _ (may_fail : Type 0) (start now : Account) (had has : Option (List ℕ)) (pending : List ℕ) (before mid : Bool) (wrote writing : Option (List ℕ))
     (p : PassesRead may_fail start now had has pending before mid wrote writing) where
-  -- it stopped between two blocks
-  pub gave_first : GaveFirst had (λ text. Stopped may_fail start text before wrote writing)
-  gave_first = (p.0, read_first had has p.0 p.1, stopped_here may_fail start now p.0 pending before mid wrote writing p.2)
+  module _ (P : List Line → List Line → Type 0) where
+    -- it stopped between two blocks
+    pub gave_first : P now.journal [] → (stop : Stop) → GaveFirst had (λ text. Stopped may_fail start text before wrote writing stop P)
+    gave_first here stop = (p.0, read_first had has p.0 p.1, stops_here may_fail start now p.0 pending before mid wrote writing P p.2 here stop)
 
-  pub gave_kept : (writes : Option (List ℕ)) → Keeps writing writes → GaveFirst had (λ text. Stopped may_fail start text before wrote writes)
-  gave_kept writes k =
-      (p.0, read_first had has p.0 p.1, stopped_kept may_fail start p.0 before wrote writing writes (stopped_here may_fail start now p.0 pending before mid wrote writing p.2) k)
+    -- it stopped in what is left
+    pub gave_last : (writes : Option (List ℕ)) (Q : List Line → List Line → Type 0) → ((end more : List Line) → Q end more → P end more) → (stop : Stop)
+        → Stopped may_fail now pending mid writing writes stop Q → GaveFirst had (λ text. Stopped may_fail start text before wrote writes stop P)
+    gave_last writes Q to stop s =
+        (p.0, read_first had has p.0 p.1, stops_rest may_fail start now p.0 pending before mid wrote writing writes stop P Q p.2 to s)
 
-  -- it stopped in a block
-  pub gave_block : (left : Option (List ℕ)) (block : List ℕ) (writes : Option (List ℕ)) → Consumes has left block
-      → Stopped may_fail now (pending ++ block) mid writing writes → GaveFirst had (λ text. Stopped may_fail start text before wrote writes)
-  gave_block left block writes c s =
-      (p.0 ++ block, read_first had left (p.0 ++ block) (reads had has left p.0 block p.1 c), stopped_block may_fail start now p.0 pending block before mid wrote writing writes p.2 s)
+    -- it stopped in a block
+    pub gave_block : (left : Option (List ℕ)) (block : List ℕ) (writes : Option (List ℕ)) (Q : List Line → List Line → Type 0)
+        → ((end more : List Line) → Q end more → P end more) → Consumes has left block → (stop : Stop)
+        → Stopped may_fail now (pending ++ block) mid writing writes stop Q → GaveFirst had (λ text. Stopped may_fail start text before wrote writes stop P)
+    gave_block left block writes Q to c stop s = (
+      p.0 ++ block,
+      read_first had left (p.0 ++ block) (reads had has left p.0 block p.1 c),
+      stops_rest may_fail start now (p.0 ++ block) (pending ++ block) before mid wrote writing writes stop P Q (passes_more may_fail start now p.0 pending block before mid wrote writing p.2) to s,
+    )
 
   -- a block more was read, and its lines taken
   pub read_more : (next : Account) (left : Option (List ℕ)) (block behind : List ℕ) (after : Bool) (writes : Option (List ℕ)) → Consumes has left block

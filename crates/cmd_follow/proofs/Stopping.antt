@@ -6,7 +6,7 @@ use Rattle.std.specs.declared.result.Result.TheVariants.{Ok, Err}
 use Rattle.std.specs.Result.{IsErrAnd}
 use Rattle.cmd_follow.specs.declared.stop.Stop.{Stop}
 use Rattle.cmd_follow.specs.declared.stop.Stop.TheVariants as stops
-use Rattle.cmd_follow.specs.Stops.{UnlessWriting}
+use Rattle.cmd_follow.specs.Stops.{IsWriting, UnlessWriting}
 
 -- what holds anyway holds of each stop
 pub unless : (stop : Stop) (P : Type 0) → P → UnlessWriting stop P
@@ -25,12 +25,20 @@ unless_so P Q stops.TooLong f p = f p
 unless_so P Q stops.Unkept f p = f p
 unless_so P Q stops.OutOfMemory f p = f p
 
-pub stops_with : {T : Type 0} (r : Result T Stop) (P : Type 0) → P → IfErr r (λ stop. UnlessWriting stop P)
+pub stops_with : {T : Type 0} (r : Result T Stop) (P : Stop → Type 0) → ((stop : Stop) → P stop) → IfErr r P
 stops_with (Ok x) P p = tt
-stops_with (Err stop) P p = unless stop P p
+stops_with (Err stop) P p = p stop
 
 -- a stop that a call ended with is returned
-pub stops_as : {T : Type 0} (r : Result T Stop) (stop : Stop) (P Q : Type 0) → IsErrAnd r (λ s. s ≡ stop) → (P → Q) → UnlessWriting stop P
-    → IfErr r (λ s. UnlessWriting s Q)
-stops_as (Ok x) stop P Q is f p = absurd is
-stops_as (Err s) stop P Q is f p = subst (λ x. UnlessWriting x Q) (sym is) (unless_so P Q stop f p)
+pub stops_as : {T : Type 0} (r : Result T Stop) (stop : Stop) (P : Stop → Type 0) → IsErrAnd r (λ s. s ≡ stop) → P stop → IfErr r P
+stops_as (Ok x) stop P is p = absurd is
+stops_as (Err s) stop P is p = subst P (sym is) p
+
+-- where a write failed, nothing is said of what was written
+pub unless_written : (stop : Stop) (P : Type 0) → IsWriting stop → UnlessWriting stop P
+unless_written stops.Quiet P w = tt
+unless_written stops.Output P w = tt
+unless_written stops.Unreadable P w = absurd w
+unless_written stops.TooLong P w = absurd w
+unless_written stops.Unkept P w = absurd w
+unless_written stops.OutOfMemory P w = absurd w

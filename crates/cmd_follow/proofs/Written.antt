@@ -48,6 +48,11 @@ read_all None b x h end = tt
 read_all (Some a) None x h end = absurd h
 read_all (Some a) (Some b) x h end = h ∙ ap (λ q. x ++ q) end ∙ append-nil x
 
+-- all of it comes first
+pub all_first : (a : Option (List ℕ)) (x : List ℕ) → IfSome a (λ bytes. bytes ≡ x) → IfSome a (λ bytes. (left : List ℕ) × (bytes ≡ x ++ left))
+all_first None x h = tt
+all_first (Some a) x h = ([], h ∙ sym (append-nil x))
+
 -- what was read comes first
 pub read_first : (a b : Option (List ℕ)) (x : List ℕ) → Consumes a b x → IfSome a (λ bytes. (left : List ℕ) × (bytes ≡ x ++ left))
 read_first None b x h = tt

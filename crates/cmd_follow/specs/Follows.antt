@@ -15,9 +15,9 @@ use Rattle.path_lines.specs.LineTexts.{line_text}
 use Rattle.path_lines.specs.AttemptTexts.{EntryFits, IsNoEntry}
 use Rattle.path_shelf.specs.States.{State}
 use Rattle.path_system.specs.Accounts.{account_of}
-use Rattle.cmd_base.specs.Writes.{AppendsSome}
-use Rattle.cmd_base.specs.Own.{own_states}
-use Rattle.cmd_base.specs.ReportTexts.{IsReportText}
+use Rattle.tell_base.specs.Writes.{AppendsSome}
+use Rattle.tell_base.specs.Own.{own_states}
+use Rattle.tell_base.specs.ReportTexts.{IsReportText}
 use Rattle.cmd_trace.specs.Traces.{reply_line}
 
 -- the text begins with this line, and goes on behind its line feed; the last line may lack it, but isn't empty then

@@ -1,6 +1,6 @@
 -- Why a follow stops before the end of its input, and how it ends.
-use Rattle.cmd_base.specs.declared.status.Status.{Status}
-use Rattle.cmd_base.specs.declared.status.Status.TheVariants as statuses
+use Rattle.tell_base.specs.declared.status.Status.{Status}
+use Rattle.tell_base.specs.declared.status.Status.TheVariants as statuses
 use Rattle.cmd_follow.specs.declared.stop.Stop.{Stop}
 use Rattle.cmd_follow.specs.declared.stop.Stop.TheVariants as stops
 

@@ -5,17 +5,17 @@ ghost use Rattle.path_model.specs.declared.journal.Line.{Line};
 ghost use Rattle.path_model.specs.Journals.{with_line};
 ghost use Rattle.path_fields.specs.Splits.{HasNone};
 ghost use Rattle.path_shelf.specs.States.{MayFail};
-ghost use Rattle.cmd_base.specs.ReportTexts.{IsReportText};
+ghost use Rattle.tell_base.specs.ReportTexts.{IsReportText};
 ghost use Rattle.cmd_trace.specs.Traces.{IsAnswered};
 ghost use Rattle.cmd_follow.specs.Follows.{IsRefusedLine};
 ghost use Rattle.cmd_follow.specs.Inner.Taken.{Answers, IfAnswered, IfRefused, added, outcome};
 
-use cmd_base::write_report;
 use path_lines::{LineFault, first_entry, push_told};
 use path_model::{Attempt, Line, OutOfMemory, Reply};
 use path_shelf::Device;
 use path_system::Controller;
 use std::alloc::Allocator;
+use tell_base::write_report;
 
 /// What became of a line of the input.
 #[derive(Clone, Copy)]

@@ -6,23 +6,23 @@ ghost use Rattle.path_model.specs.declared.journal.Line.{Line};
 ghost use Rattle.path_model.specs.Rooms.{IsBadRoom};
 ghost use Rattle.path_shelf.specs.States.{MayFail, laws_of};
 ghost use Rattle.path_shelf.specs.Shelves.{declared_laws};
-ghost use Rattle.cmd_base.specs.Refusals.{IsNoDeclaration};
-ghost use Rattle.cmd_base.specs.Writes.{AppendsSome};
-ghost use Rattle.cmd_base.specs.Refusals.{IsUnopened};
+ghost use Rattle.tell_base.specs.Refusals.{IsNoDeclaration};
+ghost use Rattle.tell_base.specs.Writes.{AppendsSome};
+ghost use Rattle.tell_base.specs.Refusals.{IsUnopened};
 ghost use Rattle.cmd_follow.specs.Follows.{AnswersFirst, GaveAll, GaveFirst, IsFollowOf, LacksRoom, WroteAll, WroteFirst};
-ghost use Rattle.cmd_follow.specs.Inner.Taken.{Stopped, Through};
-ghost use Rattle.cmd_follow.specs.Stops.{IsEnding, UnlessWriting};
+ghost use Rattle.cmd_follow.specs.Inner.Taken.{Leaves, Stopped, StoppedSent, StoppedTook, Through};
+ghost use Rattle.cmd_follow.specs.Stops.{IsEnding};
 
 use crate::follower::Follower;
 use crate::input::read_block;
 use crate::keeper::{Forgetful, Keeper};
 use crate::stop::{Stop, tell_stop};
-use cmd_base::{Fault, Status, read_own, tell};
 use path_decl::Decl;
 use path_shelf::Device;
 use path_system::Controller;
 use std::alloc::Allocator;
 use std::io::{Read, Write};
+use tell_base::{Fault, Status, read_own, tell};
 
 /// How many bytes are read at once, at most.
 const BLOCK: usize = 65_536;
@@ -39,10 +39,11 @@ fn followed<D: Device, A: Allocator + Copy, K: Keeper, R: Read, O: Write, E: Wri
     requires { follower.old.system.earlier ≡ [] }
     ensures ok { IfOk result (λ _. GaveAll (R.remaining input.old) (λ text. Through (MayFail D.state) follower.old.system text
         follower.old.refused follower.new.refused follower.new.system.journal (O.contents out.old) (O.contents out.new))) }
-    ensures kept { (first : K) → K.keeps first keeper.old follower.old.system.declaration follower.old.system.journal
-        → OnOk result (K.keeps first keeper.new follower.old.system.declaration follower.new.system.journal) }
-    ensures err { IfErr result (λ stop. UnlessWriting stop (GaveFirst (R.remaining input.old) (λ text. Stopped (MayFail D.state)
-        follower.old.system text follower.old.refused (O.contents out.old) (O.contents out.new)))) }
+    ensures kept { (first : K) (found : List Line) → K.keeps first keeper.old found follower.old.system.journal
+        → OnOk result (K.keeps first keeper.new found follower.new.system.journal) }
+    ensures stopped { IfErr result (λ stop. GaveFirst (R.remaining input.old) (λ text. Stopped (MayFail D.state) follower.old.system text
+        follower.old.refused (O.contents out.old) (O.contents out.new) stop
+        (Leaves K.keeps K.left keeper.old keeper.new follower.old.system.journal))) }
 {
     let mut block = vec![in alloc; 0u8; BLOCK]?;
     let mut pending = Vec::new(alloc);
@@ -76,13 +77,18 @@ pub fn follow_kept<D: Device, A: Allocator + Copy, K: Keeper, R: Read, O: Write,
     ensures done { result ≡ Status.Done → (end : List Line)
         × GaveAll (R.remaining input.old) (λ text.
         Through (MayFail D.state) system text false false end (O.contents out.old) (O.contents out.new))
-        × ((first : K) → K.keeps first keeper.old system.declaration system.journal → K.keeps first keeper.new system.declaration end) }
+        × ((first : K) (found : List Line) → K.keeps first keeper.old found system.journal → K.keeps first keeper.new found end) }
     ensures refused { result ≡ Status.TextRefused → (end : List Line)
         × GaveAll (R.remaining input.old) (λ text.
         Through (MayFail D.state) system text false true end (O.contents out.old) (O.contents out.new))
-        × ((first : K) → K.keeps first keeper.old system.declaration system.journal → K.keeps first keeper.new system.declaration end) }
-    ensures memory { result ≡ Status.NoMemory → GaveFirst (R.remaining input.old) (λ text. Stopped (MayFail D.state)
-        system text false (O.contents out.old) (O.contents out.new)) }
+        × ((first : K) (found : List Line) → K.keeps first keeper.old found system.journal → K.keeps first keeper.new found end) }
+    // Unless a stream failed, the answers to the first lines were written, and the keeper leaves what was answered, perhaps with what was
+    // taken then.
+    ensures answered { result ≢ Status.StreamFailed → GaveFirst (R.remaining input.old) (λ text. StoppedSent (MayFail D.state)
+        system text (O.contents out.old) (O.contents out.new) (Leaves K.keeps K.left keeper.old keeper.new system.journal)) }
+    // However it ends, the keeper leaves what was taken.
+    ensures taken { GaveFirst (R.remaining input.old) (λ text. StoppedTook (MayFail D.state)
+        system text (Leaves K.keeps K.left keeper.old keeper.new system.journal)) }
     ensures statuses { IsEnding result }
 {
     let mut follower = Follower::new(alloc, system);
@@ -97,7 +103,7 @@ pub fn follow_kept<D: Device, A: Allocator + Copy, K: Keeper, R: Read, O: Write,
 }
 
 /// Answers the lines of the input, one after the other: an attempt with its reply in the line of [`trace_to`](cmd_trace::trace_to), and
-/// the line `?` with the report of the system as it is then ([`write_report`](cmd_base::write_report)). Each answer is written and
+/// the line `?` with the report of the system as it is then ([`write_report`](tell_base::write_report)). Each answer is written and
 /// flushed before the next line is looked at, and never waits for more of the input than its own line. A line that is neither is told on
 /// `err`, with its number counted from 0, and below that where it stops being an attempt, with its number from 1; and it is skipped. The
 /// last line may lack its line feed.

@@ -1,24 +1,25 @@
 //! One line after the other.
 
-ghost use Rattle.std.specs.Prelude.{◌≡◌, ◌++◌, false, [], IfErr, OnOk};
-ghost use Rattle.std.specs.Io.KnownBytes.{Appends, Keeps};
+ghost use Rattle.std.specs.Prelude.{◌≡◌, ◌++◌, false, [], List, IfErr, OnOk};
+ghost use Rattle.std.specs.Io.KnownBytes.{Appends};
+ghost use Rattle.path_model.specs.declared.journal.Line.{Line};
 ghost use Rattle.path_fields.specs.Splits.{HasNone};
 ghost use Rattle.path_shelf.specs.States.{MayFail};
-ghost use Rattle.cmd_follow.specs.Inner.Taken.{GoesOn, Passes, Stopped, Takes};
-ghost use Rattle.cmd_follow.specs.Stops.{IsWriting, UnlessWriting};
+ghost use Rattle.cmd_follow.specs.Inner.Taken.{Leaves, Passes, Stopped, StoppedLine, Takes};
+ghost use Rattle.cmd_follow.specs.Stops.{IsWriting};
 
 use crate::answer::{Answered, answer};
 use crate::keeper::Keeper;
 use crate::stop::Stop;
-use cmd_base::{Fault, Status, tell};
 use path_decl::Decl;
 use path_fields::cut;
 use path_lines::{LIMIT, LineFault, fault_at};
-use path_locate::{TextKind, push_finding, text_finding};
 use path_shelf::Device;
 use path_system::Controller;
 use std::alloc::Allocator;
 use std::io::Write;
+use tell_base::{Fault, Status, tell};
+use tell_places::{TextKind, push_finding, text_finding};
 
 /// How places in the input name it.
 const INPUT: &str = "standard input";
@@ -118,18 +119,17 @@ impl<D: Device, A: Allocator + Copy> Follower<D, A> {
         requires one { HasNone 10 line.now }
         ensures ok { OnOk result (Takes (MayFail D.state) self.old.system self.new.system line.now self.old.refused self.new.refused
             (O.contents out.old) (O.contents out.new)) }
+        ensures kept { (first : K) (found : List Line) → K.keeps first keeper.old found self.old.system.journal
+            → OnOk result (K.keeps first keeper.new found self.new.system.journal) }
         // What can't be kept isn't answered, and where a write failed the line is kept.
-        ensures err { IfErr result (λ stop. UnlessWriting stop (Keeps (O.contents out.old) (O.contents out.new))) }
-        ensures writing { (first : K) → K.keeps first keeper.old self.old.system.declaration self.old.system.journal
-            → IfErr result (λ stop. IsWriting stop → K.keeps first keeper.new self.old.system.declaration self.new.system.journal) }
-        ensures kept { (first : K) → K.keeps first keeper.old self.old.system.declaration self.old.system.journal
-            → OnOk result (K.keeps first keeper.new self.old.system.declaration self.new.system.journal) }
+        ensures stopped { IfErr result (λ stop. StoppedLine (MayFail D.state) self.old.system line.now self.old.refused
+            (O.contents out.old) (O.contents out.new) stop (Leaves K.keeps K.left keeper.old keeper.new self.old.system.journal)) }
     {
         let number = self.number;
         self.number = number.saturating_add(1);
         match answer(alloc, &mut self.system, line, &mut self.told)? {
             Answered::Line(line) => {
-                keeper.keep(self.system.decl(), line)?;
+                keeper.keep(line)?;
                 send(out, &self.told)
             }
             Answered::Told => send(out, &self.told),
@@ -156,10 +156,10 @@ impl<D: Device, A: Allocator + Copy> Follower<D, A> {
         ensures one { OnOk result (HasNone 10 pending.new.items) }
         ensures ok { OnOk result (Passes (MayFail D.state) self.old.system self.new.system (pending.old.items ++ block.now)
             pending.new.items self.old.refused self.new.refused (O.contents out.old) (O.contents out.new)) }
-        ensures err { IfErr result (λ stop. UnlessWriting stop (Stopped (MayFail D.state) self.old.system
-            (pending.old.items ++ block.now) self.old.refused (O.contents out.old) (O.contents out.new))) }
-        ensures kept { (first : K) → K.keeps first keeper.old self.old.system.declaration self.old.system.journal
-            → OnOk result (K.keeps first keeper.new self.old.system.declaration self.new.system.journal) }
+        ensures kept { (first : K) (found : List Line) → K.keeps first keeper.old found self.old.system.journal
+            → OnOk result (K.keeps first keeper.new found self.new.system.journal) }
+        ensures stopped { IfErr result (λ stop. Stopped (MayFail D.state) self.old.system (pending.old.items ++ block.now) self.old.refused
+            (O.contents out.old) (O.contents out.new) stop (Leaves K.keeps K.left keeper.old keeper.new self.old.system.journal)) }
     {
         let mut rest = block;
         while let Some((line, after)) = cut(rest, b'\n') {

@@ -1,12 +1,9 @@
 //! Where the lines of a follow are kept.
 
-ghost use Rattle.std.specs.Prelude.{◌≡◌, ◌++◌, ◌∷◌, [], List, OnOk};
+ghost use Rattle.std.specs.Prelude.{◌++◌, ◌∷◌, [], List, OnOk, OnErr};
 ghost use Rattle.path_model.specs.declared.journal.Line.{Line};
-ghost use Rattle.path_model.specs.Declarations.{Declaration};
 
-use path_decl::Decl;
 use path_model::Line;
-use std::alloc::Allocator;
 
 /// Why a line isn't kept.
 #[derive(Clone, Copy, Debug, PartialEq, Eq)]
@@ -19,14 +16,19 @@ pub enum KeepFault {
 
 /// What keeps the lines of a follow, each before its answer is written.
 pub trait Keeper {
-    /// Whether it has kept these lines of a journal under this declaration, and no others, as the first keeper was to: that is what it was
-    /// at the beginning of a follow.
-    ghost keeps: { (first now : Self) → Declaration → List Line → Type 0 };
+    /// Whether it has kept the second lines of a journal, and no others. The first are those that it had when it was the first keeper: that
+    /// is what it was at the beginning of a follow.
+    ghost keeps: { (first now : Self) → (found ls : List Line) → Type 0 };
+
+    /// Whether it has failed to keep the last of these lines, behind the second ones. What is left then is for each keeper to say.
+    ghost left: { (first now : Self) → (found ls more : List Line) → Type 0 };
 
     /// Keeps a line behind the others.
-    fn keep<A: Allocator + Copy>(&mut self, decl: &Decl<A>, line: Line) -> Result<(), KeepFault>
-        ensures { (first : Self) (ls : List Line) → keeps first self.old decl.now.declaration ls
-            → OnOk result (keeps first self.new decl.now.declaration (ls ++ line ∷ [])) };
+    fn keep(&mut self, line: Line) -> Result<(), KeepFault>
+        ensures kept { (first : Self) (found ls : List Line) → keeps first self.old found ls
+            → OnOk result (keeps first self.new found (ls ++ line ∷ [])) }
+        ensures left { (first : Self) (found ls : List Line) → keeps first self.old found ls
+            → OnErr result (left first self.new found ls (line ∷ [])) };
 }
 
 /// Keeps no lines.
@@ -34,9 +36,11 @@ pub trait Keeper {
 pub struct Forgetful;
 
 impl Keeper for Forgetful {
-    ghost keeps = { λ first now d ls. Unit {0} };
+    ghost keeps = { λ first now found ls. Unit {0} };
 
-    fn keep<A: Allocator + Copy>(&mut self, _decl: &Decl<A>, _line: Line) -> Result<(), KeepFault> {
+    ghost left = { λ first now found ls more. Unit {0} };
+
+    fn keep(&mut self, _line: Line) -> Result<(), KeepFault> {
         Ok(())
     }
 }

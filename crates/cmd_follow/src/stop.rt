@@ -4,10 +4,10 @@ ghost use Rattle.std.specs.Prelude.{◌≡◌, ◌⊎◌};
 ghost use Rattle.cmd_follow.specs.Stops.{IsReading, IsWriting, stop_status};
 
 use crate::keeper::KeepFault;
-use cmd_base::{Fault, Status, tell};
 use path_model::OutOfMemory;
 use std::alloc::AllocError;
 use std::io::{Error, ErrorKind, Write};
+use tell_base::{Fault, Status, tell};
 
 /// How a fault names the input.
 const INPUT: &str = "standard input";

@@ -1,26 +1,29 @@
 //! Follows whose lines stand in a file.
 
-ghost use Rattle.std.specs.Prelude.{◌≡◌, ◌≢◌, ◌⊎◌, ◌++◌, ◌∷◌, [], true, false, List, ℕ, IfNone, IfOk, IfErr, OnOk};
+ghost use Rattle.std.specs.Prelude.{◌≡◌, ◌≢◌, ◌⊎◌, ◌++◌, ◌∷◌, [], true, false, List, ℕ, IfNone, IfOk, IfErr, OnOk, OnErr};
 ghost use Rattle.std.specs.Io.KnownBytes.{Keeps};
 ghost use Rattle.path_model.specs.declared.journal.Line.{Line};
 ghost use Rattle.path_model.specs.Rooms.{IsRoom};
-ghost use Rattle.path_model.specs.Declarations.{Declaration};
-ghost use Rattle.path_store.specs.Stores.{Finds, IsFile, IsStored};
-ghost use Rattle.cmd_base.specs.Refusals.{IsNoDeclaration};
+ghost use Rattle.path_decl.specs.Text.{IsDeclarationText};
+ghost use Rattle.path_store.specs.Devices.{IsUntouched, LeavesOnly};
+ghost use Rattle.path_store.specs.Stores.{Finds, FindsSome, IsFile, IsStored};
+ghost use Rattle.tell_base.specs.Refusals.{IsNoDeclaration};
 ghost use Rattle.cmd_follow.specs.Follows.{LacksRoom};
-ghost use Rattle.cmd_follow.specs.Stored.{EndsUnopened, HasKept, IsToldUnopened, IsUnroomed, KeepsLines, WroteBehind};
+ghost use Rattle.cmd_follow.specs.Stored.{AnsweredBehind, EndsUnopened, HasKept, IsOwnRoom, IsToldUnopened, IsUnroomed, KeepsFile};
+ghost use Rattle.cmd_follow.specs.Stored.{FailsLine, KeepsLines, LeavesBehind, Outlasts, WroteBehind};
 ghost use Rattle.cmd_follow.specs.Inner.Taken.{GoesOn};
 
 use crate::follow::follow_kept;
 use crate::keeper::{KeepFault, Keeper};
-use cmd_base::{Fault, Status, read_own, tell};
-use path_decl::Decl;
 use path_journal::version_in;
 use path_model::{Line, is_room};
+use path_read::read;
+use path_read::theorems::each_text_declares_once;
 use path_store::{Device, DeviceFault, Opened, Store, StoreFault};
 use path_system::{Controller, OpenFault, TakeFault};
 use std::alloc::Allocator;
 use std::io::{Read, Write};
+use tell_base::{Fault, Status, read_own, tell};
 
 /// More bytes than the first line of a journal has, its line feed included.
 const MOST_HEAD: usize = 64;
@@ -38,21 +41,26 @@ pub enum Syncing {
 
 /// A store that keeps the lines of a follow.
 #[derive(Drop)]
-pub struct StoreKeeper<D: Device + Drop, B: Allocator + Copy> {
-    store: Store<D, B>,
+pub struct StoreKeeper<D: Device + Drop, A: Allocator + Copy> {
     syncing: Syncing,
     /// Why a line isn't kept.
     fault: Option<StoreFault>,
+    /// Last, because a store keeps its declaration last.
+    store: Store<D, A>,
 }
 
-impl<D: Device + Drop, B: Allocator + Copy> StoreKeeper<D, B> {
+impl<D: Device + Drop, A: Allocator + Copy> StoreKeeper<D, A> {
     /// Writes a line, and syncs if each line is to be.
-    fn write<A: Allocator + Copy>(&mut self, decl: &Decl<A>, line: Line) -> Result<(), StoreFault>
-        ensures { (first : StoreKeeper D B) (ls : List Line)
-            → KeepsLines D.holds D.may_leave first self.old decl.now.declaration ls
-            → OnOk result (KeepsLines D.holds D.may_leave first self.new decl.now.declaration (ls ++ line ∷ [])) }
+    fn write(&mut self, line: Line) -> Result<(), StoreFault>
+        ensures kept { (first : StoreKeeper D A) (found ls : List Line)
+            → KeepsLines D.holds D.may_leave D.moment D.left_since first self.old found ls
+            → OnOk result (KeepsLines D.holds D.may_leave D.moment D.left_since first self.new found (ls ++ line ∷ [])) }
+        ensures left { (first : StoreKeeper D A) (found ls : List Line)
+            → KeepsLines D.holds D.may_leave D.moment D.left_since first self.old found ls
+            → OnErr result (Outlasts D.may_leave D.moment D.left_since first.store.decl.declaration first.store.room first.syncing
+            first.store.device self.new.store.device found ls (line ∷ [])) }
     {
-        self.store.append(decl, line)?;
+        self.store.append(line)?;
         let Syncing::Each = self.syncing else {
             return Ok(());
         };
@@ -61,13 +69,19 @@ impl<D: Device + Drop, B: Allocator + Copy> StoreKeeper<D, B> {
 
     /// Syncs at the end of a follow, unless each line is on the disk, or the operating system is to do it.
     fn close(&mut self) -> Result<(), StoreFault>
-        ensures { (first : StoreKeeper D B) (d : Declaration) (ls : List Line) → KeepsLines D.holds D.may_leave first self.old d ls
-            → OnOk result (HasKept D.holds D.may_leave d first.store.room self.new.store.device first.syncing ls) }
+        ensures kept { (first : StoreKeeper D A) (found ls : List Line)
+            → KeepsLines D.holds D.may_leave D.moment D.left_since first self.old found ls
+            → OnOk result (HasKept D.holds D.may_leave first.store.decl.declaration first.store.room self.new.store.device first.syncing
+            ls) }
+        ensures left { (first : StoreKeeper D A) (found ls : List Line)
+            → KeepsLines D.holds D.may_leave D.moment D.left_since first self.old found ls
+            → Outlasts D.may_leave D.moment D.left_since first.store.decl.declaration first.store.room first.syncing
+            first.store.device self.new.store.device found ls [] }
     {
-        match self.syncing {
-            Syncing::Close => self.store.sync(),
-            Syncing::Each | Syncing::Never => Ok(()),
-        }
+        let Syncing::Close = self.syncing else {
+            return Ok(());
+        };
+        self.store.sync()
     }
 }
 
@@ -80,11 +94,13 @@ fn keep_fault(fault: StoreFault) -> KeepFault {
     }
 }
 
-impl<D: Device + Drop, B: Allocator + Copy> Keeper for StoreKeeper<D, B> {
-    ghost keeps = { λ first now d ls. KeepsLines D.holds D.may_leave first now d ls };
+impl<D: Device + Drop, A: Allocator + Copy> Keeper for StoreKeeper<D, A> {
+    ghost keeps = { λ first now found ls. KeepsLines D.holds D.may_leave D.moment D.left_since first now found ls };
 
-    fn keep<A: Allocator + Copy>(&mut self, decl: &Decl<A>, line: Line) -> Result<(), KeepFault> {
-        match self.write(decl, line) {
+    ghost left = { λ first now found ls more. FailsLine D.may_leave D.moment D.left_since first now found ls more };
+
+    fn keep(&mut self, line: Line) -> Result<(), KeepFault> {
+        match self.write(line) {
             Ok(()) => Ok(()),
             Err(fault) => {
                 self.fault = Some(fault);
@@ -166,8 +182,8 @@ fn own_room<D: Device, A: Allocator + Copy>(
     room: u32,
 ) -> Result<u32, StoreFault>
     ensures room { IfOk result (λ own. (own ≡ room) ⊎ IsRoom own) }
-    ensures read { (b : List ℕ) → D.holds device.old b → D.holds device.new b }
-    ensures crash { (c : List ℕ) → D.may_leave device.new c → D.may_leave device.old c }
+    ensures named { IfOk result (λ own. IsOwnRoom (D.holds device.old) room own) }
+    ensures untouched { IsUntouched D.holds D.may_leave D.moment D.left_since device.old device.new }
 {
     let front = device.front(alloc, MOST_HEAD)?;
     Ok(version_in(&front).room().unwrap_or(room))
@@ -182,19 +198,23 @@ enum Unopened {
     Store(StoreFault),
 }
 
-/// Opens the store of a file. Its room is the one that the file names, or else this one. An error gives the device back.
+/// Opens the store of a file, under the declaration in a text. Its room is the one that the file names, or else this one. An error gives
+/// the device back.
 fn open_store<D: Device + Drop, A: Allocator + Copy>(
     alloc: A,
-    decl: &Decl<A>,
+    declaration: &[u8],
     room: u32,
     device: D,
 ) -> Result<(u32, Opened<D, A>), (Unopened, D)>
-    ensures ok { IfOk result (λ p. IsRoom p.0 × (p.0 ≡ p.1.store.room)
-        × ((b : List ℕ) → D.holds device b → Finds decl.now.declaration p.0 b p.1.lines.items)) }
+    ensures ok { IfOk result (λ p. IsRoom p.0 × (p.0 ≡ p.1.store.room) × IsOwnRoom (D.holds device) room p.0
+        × IsDeclarationText declaration.now p.1.store.decl.declaration
+        × ((b : List ℕ) → D.holds device b → Finds p.1.store.decl.declaration p.0 b p.1.lines.items)) }
     ensures stored { (synced fresh : List Line) → IfOk result (λ p.
-        IsFile D.holds D.may_leave decl.now.declaration p.0 device synced fresh → (p.1.lines.items ≡ synced ++ fresh)
-        × IsStored D.holds D.may_leave decl.now.declaration p.1.store (synced ++ fresh) []) }
+        IsFile D.holds D.may_leave p.1.store.decl.declaration p.0 device synced fresh → (p.1.lines.items ≡ synced ++ fresh)
+        × IsStored D.holds D.may_leave p.1.store (synced ++ fresh) []
+        × LeavesOnly D.moment D.left_since device p.1.store.device (FindsSome p.1.store.decl.declaration p.0 synced fresh)) }
     ensures bad_room { IfErr result (λ p. IsUnroomed room p.0) }
+    ensures unopened { IfErr result (λ p. KeepsFile D.holds D.may_leave D.moment D.left_since device p.1 room declaration.now) }
 {
     let mut device = device;
     let room = match own_room(alloc, &mut device, room) {
@@ -204,6 +224,11 @@ fn open_store<D: Device + Drop, A: Allocator + Copy>(
     if !is_room(room) {
         return Err((Unopened::BadRoom, device));
     }
+    let decl = match read(alloc, declaration) {
+        Ok(decl) => decl,
+        // It was read before, so it is a declaration.
+        Err(_) => return Err((Unopened::Store(StoreFault::OutOfMemory), device)),
+    };
     match Store::open(alloc, decl, room, device) {
         Ok(opened) => Ok((room, opened)),
         Err((fault, device)) => Err((Unopened::Store(fault), device)),
@@ -230,27 +255,59 @@ fn tell_unopened<E: Write>(err: &mut E, unopened: Unopened) -> Status
     }
 }
 
+/// Tells on `err` why a line wasn't kept, unless a follow has told it, and returns the status.
+fn tell_once<E: Write>(err: &mut E, fault: StoreFault) -> Status
+    ensures { (result ≡ Status.NoMemory) ⊎ (result ≡ Status.StreamFailed) }
+{
+    match keep_fault(fault) {
+        KeepFault::OutOfMemory => Status::NoMemory,
+        KeepFault::Unkept => tell_unkept(err, fault),
+    }
+}
+
+/// The status of a follow that has ended so, and whose lines aren't kept: where a stream failed, that is what is told.
+fn worse(status: Status, unkept: Status) -> Status
+    ensures failed { status ≡ Status.StreamFailed → result ≡ Status.StreamFailed }
+    ensures either { (result ≡ unkept) ⊎ (result ≡ Status.StreamFailed) }
+{
+    if status == Status::StreamFailed {
+        return status;
+    }
+    unkept
+}
+
 /// Ends a follow whose lines are kept: syncs them if that is left to its end, and tells why a line wasn't kept. Gives the device back.
-fn closed<D: Device + Drop, B: Allocator + Copy, E: Write>(
-    keeper: StoreKeeper<D, B>,
+fn closed<D: Device + Drop, A: Allocator + Copy, E: Write>(
+    keeper: StoreKeeper<D, A>,
     status: Status,
     err: &mut E,
 ) -> (Status, D)
     ensures status { (result.0 ≡ status) ⊎ (result.0 ≡ Status.NoMemory) ⊎ (result.0 ≡ Status.StreamFailed) }
-    ensures kept { (first : StoreKeeper D B) (d : Declaration) (ls : List Line) → KeepsLines D.holds D.may_leave first keeper d ls
+    ensures failed { status ≡ Status.StreamFailed → result.0 ≡ Status.StreamFailed }
+    ensures kept { (first : StoreKeeper D A) (found ls : List Line)
+        → KeepsLines D.holds D.may_leave D.moment D.left_since first keeper found ls
         → (result.0 ≢ Status.NoMemory) → (result.0 ≢ Status.StreamFailed)
-        → HasKept D.holds D.may_leave d first.store.room result.1 first.syncing ls }
+        → HasKept D.holds D.may_leave first.store.decl.declaration first.store.room result.1 first.syncing ls }
+    ensures left { (first : StoreKeeper D A) (found ls more : List Line)
+        → ((more ≡ []) × KeepsLines D.holds D.may_leave D.moment D.left_since first keeper found ls)
+        ⊎ FailsLine D.may_leave D.moment D.left_since first keeper found ls more
+        → Outlasts D.may_leave D.moment D.left_since first.store.decl.declaration first.store.room first.syncing
+        first.store.device result.1 found ls more }
 {
     let mut keeper = keeper;
-    if let Some(fault) = keeper.fault {
-        let status = tell_unkept(err, fault);
-        return (status, keeper.store.into_device());
+    match keeper.fault {
+        Some(fault) => {
+            let told = worse(status, tell_once(err, fault));
+            (told, keeper.store.into_device())
+        }
+        None => match keeper.close() {
+            Ok(()) => (status, keeper.store.into_device()),
+            Err(fault) => {
+                let told = worse(status, tell_unkept(err, fault));
+                (told, keeper.store.into_device())
+            }
+        },
     }
-    let status = match keeper.close() {
-        Ok(()) => status,
-        Err(fault) => tell_unkept(err, fault),
-    };
-    (status, keeper.store.into_device())
 }
 
 /// Answers the lines of the input as [`follow_bytes`](crate::follow_bytes) does, and keeps each line of the journal in a file, before its
@@ -291,12 +348,23 @@ pub fn follow_stored<D: Device + Drop, A: Allocator + Copy, R: Read, O: Write, E
     // No journal can have the room; nothing was written.
     ensures bad_room { result.0 ≡ Status.CommandRefused
         → Keeps (O.contents out.old) (O.contents out.new) × LacksRoom declaration.now room }
+    // The answers to the first lines were written, and nothing else. Where each is synced before its answer, a crash leaves what was
+    // answered.
+    ensures memory { result.0 ≡ Status.NoMemory → Keeps (O.contents out.old) (O.contents out.new)
+        ⊎ AnsweredBehind D.holds D.may_leave device result.1 syncing (R.remaining input.old)
+        (O.contents out.old) (O.contents out.new) declaration.now room }
+    // However it ends, a crash at any moment of it leaves all lines of the file that were synced, and behind them the others and those of
+    // the input that were taken, up to one of them.
+    ensures any_moment { IsUntouched D.holds D.may_leave D.moment D.left_since device result.1
+        ⊎ LeavesBehind D.holds D.may_leave D.moment D.left_since device result.1 (R.remaining input.old) declaration.now room }
 {
+    // So the store and the system have the same declaration.
+    each_text_declares_once();
     let (decl, devices) = match read_own(alloc, declaration) {
         Ok(own) => own,
         Err(fault) => return (tell(err, fault), device),
     };
-    let (room, opened) = match open_store(alloc, &decl, room, device) {
+    let (room, opened) = match open_store(alloc, declaration, room, device) {
         Ok(opened) => opened,
         Err((unopened, device)) => return (tell_unopened(err, unopened), device),
     };
@@ -314,9 +382,9 @@ pub fn follow_stored<D: Device + Drop, A: Allocator + Copy, R: Read, O: Write, E
     }
     drop(opened.lines);
     let mut keeper = StoreKeeper {
-        store: opened.store,
         syncing,
         fault: None,
+        store: opened.store,
     };
     let status = follow_kept(alloc, system, &mut keeper, input, out, err);
     closed(keeper, status, err)

@@ -3,7 +3,7 @@ use Rattle.std.proofs.Common.{ℕ, ◌<◌, ◌≤◌, List, length, inl, inr, a
 use Rattle.path_model.specs.Declarations.{Declaration}
 use Rattle.path_model.specs.Rooms.{IsBadRoom, IsRoom}
 use Rattle.path_lines.specs.AttemptTexts.{Entry, IsAttemptsText}
-use Rattle.cmd_base.specs.Refusals.{HasAttempts}
+use Rattle.tell_base.specs.Refusals.{HasAttempts}
 
 -- a room that a system has is no bad one
 pub good_room : (room : ℕ) → IsRoom room → IsBadRoom room → ⊥

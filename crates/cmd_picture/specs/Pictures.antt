@@ -4,9 +4,9 @@ use Rattle.path_model.specs.declared.journal.Line.{Line}
 use Rattle.path_model.specs.Declarations.{Declaration}
 use Rattle.path_model.specs.Rooms.{IsBadRoom}
 use Rattle.path_journal.specs.JournalTexts.{IsJournalText}
-use Rattle.cmd_base.specs.declared.status.Status.{Status}
-use Rattle.cmd_base.specs.Ends.{AtDone, OfAttempts, OfText, UnderText}
-use Rattle.cmd_base.specs.Refusals.{HasAttempts, IsBadJournal}
+use Rattle.tell_base.specs.declared.status.Status.{Status}
+use Rattle.tell_base.specs.Ends.{AtDone, OfAttempts, OfText, UnderText}
+use Rattle.tell_base.specs.Refusals.{HasAttempts, IsBadJournal}
 
 -- an SVG: from its first mark to its last
 abbrev pub IsPicture : List ℕ → Type 0

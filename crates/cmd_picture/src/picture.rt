@@ -4,14 +4,13 @@ ghost use Rattle.std.specs.Prelude.{◌≡◌, map, IfOk, IfErr, OnOk};
 ghost use Rattle.std.specs.String.{string_bytes};
 ghost use Rattle.path_model.specs.Rooms.{IsBadRoom};
 ghost use Rattle.path_shelf.specs.Own.{own_state};
-ghost use Rattle.cmd_base.specs.Ends.{Ends, MayEnd, RefusesText};
-ghost use Rattle.cmd_base.specs.Own.{own_states};
-ghost use Rattle.cmd_base.specs.Refusals.{HasAttempts, IsBadAttempts, IsBadJournal, Under};
-ghost use Rattle.cmd_base.specs.Statuses.{status_of};
+ghost use Rattle.tell_base.specs.Ends.{Ends, MayEnd, RefusesText};
+ghost use Rattle.tell_base.specs.Own.{own_states};
+ghost use Rattle.tell_base.specs.Refusals.{HasAttempts, IsBadAttempts, IsBadJournal, Under};
+ghost use Rattle.tell_base.specs.Statuses.{status_of};
 ghost use Rattle.cmd_picture.specs.Pictures.{IsPicture, IsPictureOf, IsPictureOfJournal, JournalPictureEnds, PictureEnds};
 
 use crate::figure::{LINES, draw};
-use cmd_base::{Fault, Status, put_text, read_own, tell};
 use path_decl::Decl;
 use path_journal::read_journal;
 use path_lines::read_attempts;
@@ -21,6 +20,7 @@ use path_shelf::{Device, OwnDevice};
 use path_system::Controller;
 use std::alloc::Allocator;
 use std::io::Write;
+use tell_base::{Fault, Status, put_text, read_own, tell};
 
 /// The lines of the first attempts: each with the reply of a system that nothing was attempted before.
 fn lines_of<D: Device, A: Allocator + Copy>(

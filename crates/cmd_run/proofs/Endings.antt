@@ -15,12 +15,12 @@ use Rattle.path_script.specs.ScriptTexts.{IsScriptText, IsNoScriptText}
 use Rattle.path_script.specs.ScriptFaults.{IsScriptFault}
 use Rattle.path_run.specs.declared.outcome.End.{End}
 use Rattle.path_run.specs.declared.outcome.End.TheVariants as ends
-use Rattle.cmd_base.specs.declared.status.Status.{Status}
-use Rattle.cmd_base.specs.declared.status.Status.TheVariants.{Done, CommandRefused, StreamFailed, NoMemory, Unsound}
-use Rattle.cmd_base.specs.Ends.{Ends, MayEnd, RefusesText, Writes, Wrote}
-use Rattle.cmd_base.specs.Own.{own_states}
-use Rattle.cmd_base.specs.Refusals.{IsUnopened}
-use Rattle.cmd_base.specs.Statuses.{script_status}
+use Rattle.tell_base.specs.declared.status.Status.{Status}
+use Rattle.tell_base.specs.declared.status.Status.TheVariants.{Done, CommandRefused, StreamFailed, NoMemory, Unsound}
+use Rattle.tell_base.specs.Ends.{Ends, MayEnd, RefusesText, Writes, Wrote}
+use Rattle.tell_base.specs.Own.{own_states}
+use Rattle.tell_base.specs.Refusals.{IsUnopened}
+use Rattle.tell_base.specs.Statuses.{script_status}
 use Rattle.cmd_run.specs.Ends.{AllDone, NotAllDone, NoneLackedMemory, IsStatusOf, WritesRun}
 use Rattle.cmd_run.specs.RunTexts.{IsBadScript, IsRunOf, IsRunText, IsUnrun, RunEnds, WritesRunOf}
 

@@ -10,9 +10,9 @@ use Rattle.path_system.specs.Accounts.{Account, IsSystem, account_of, all_lines,
 use Rattle.path_system.specs.Faults.{IsOpenFault}
 use Rattle.path_system.specs.declared.fault.OpenFault.{OpenFault}
 use Rattle.path_system.specs.declared.fault.OpenFault.TheVariants as openings
-use Rattle.cmd_base.specs.declared.status.Status.{Status}
-use Rattle.cmd_base.specs.declared.status.Status.TheVariants.{NoMemory, Unsound}
-use Rattle.cmd_base.specs.Statuses.{open_status}
+use Rattle.tell_base.specs.declared.status.Status.{Status}
+use Rattle.tell_base.specs.declared.status.Status.TheVariants.{NoMemory, Unsound}
+use Rattle.tell_base.specs.Statuses.{open_status}
 use Rattle.path_workers.specs.Attempts.{Held}
 use Rattle.path_workers.specs.Later.{IsLater}
 use Rattle.path_workers.specs.Settled.{IsSettled}

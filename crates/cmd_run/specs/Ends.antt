@@ -5,8 +5,8 @@ use Rattle.path_lines.specs.LineTexts.{operation_text, reply_text}
 use Rattle.path_script.specs.Scripts.{Plan}
 use Rattle.path_run.specs.declared.outcome.End.{End}
 use Rattle.path_run.specs.declared.outcome.End.TheVariants as ends
-use Rattle.cmd_base.specs.declared.status.Status.{Status}
-use Rattle.cmd_base.specs.declared.status.Status.TheVariants as statuses
+use Rattle.tell_base.specs.declared.status.Status.{Status}
+use Rattle.tell_base.specs.declared.status.Status.TheVariants as statuses
 
 -- how a process ended, in words
 abbrev pub end_text : Declaration → End → List ℕ

@@ -14,11 +14,11 @@ use Rattle.path_workers.specs.Settled.{IsSettled}
 use Rattle.path_run.specs.declared.outcome.End.{End}
 use Rattle.path_run.specs.Runs.{EachRuns}
 use Rattle.path_run.specs.Lines.{EachIsOrderly, EachIsBlockedNow}
-use Rattle.cmd_base.specs.declared.status.Status.{Status}
-use Rattle.cmd_base.specs.declared.status.Status.TheVariants.{Done, CommandRefused, NoMemory, Unsound}
-use Rattle.cmd_base.specs.Ends.{OfText, UnderText}
-use Rattle.cmd_base.specs.Own.{own_states}
-use Rattle.cmd_base.specs.Refusals.{IsUnopened}
+use Rattle.tell_base.specs.declared.status.Status.{Status}
+use Rattle.tell_base.specs.declared.status.Status.TheVariants.{Done, CommandRefused, NoMemory, Unsound}
+use Rattle.tell_base.specs.Ends.{OfText, UnderText}
+use Rattle.tell_base.specs.Own.{own_states}
+use Rattle.tell_base.specs.Refusals.{IsUnopened}
 use Rattle.cmd_run.specs.Ends.{AllDone, NotAllDone}
 
 -- The plans were run over devices in these states, in a journal of this room: it has these lines then, and the processes ended so.

@@ -4,13 +4,13 @@ ghost use Rattle.std.specs.Prelude.{◌≡◌, ◌++◌, ◌↔◌, length, OnOk
 ghost use Rattle.std.specs.String.{string_bytes};
 ghost use Rattle.cmd_run.specs.Ends as ended;
 
-use cmd_base::Status;
 use path_decl::Decl;
 use path_lines::{push_operation, push_reply};
 use path_model::OutOfMemory;
 use path_run::End;
 use path_script::Process;
 use std::alloc::Allocator;
+use tell_base::Status;
 
 /// Appends how a process ended.
 fn push_end<A: Allocator + Copy>(

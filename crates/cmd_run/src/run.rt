@@ -5,14 +5,13 @@ ghost use Rattle.std.specs.String.{string_bytes};
 ghost use Rattle.path_model.specs.Rooms.{IsRoom};
 ghost use Rattle.path_journal.specs.JournalTexts.{journal_text};
 ghost use Rattle.path_run.specs.declared.outcome.RunFault.TheVariants as faults;
-ghost use Rattle.cmd_base.specs.Ends.{Ends};
-ghost use Rattle.cmd_base.specs.Refusals.{IsUnopened};
-ghost use Rattle.cmd_base.specs.Statuses.{status_of};
+ghost use Rattle.tell_base.specs.Ends.{Ends};
+ghost use Rattle.tell_base.specs.Refusals.{IsUnopened};
+ghost use Rattle.tell_base.specs.Statuses.{status_of};
 ghost use Rattle.cmd_run.specs.Ends.{WritesRun};
 ghost use Rattle.cmd_run.specs.RunTexts.{IsRunOf, IsUnrun, RunEnds, RunTextsEnd};
 
 use crate::ends::{ends_text, status_of_ends};
-use cmd_base::{Fault, Status, put_text, read_own, tell};
 use path_decl::Decl;
 use path_journal::write_journal;
 use path_run::{AlwaysOpen, Outcome, RunFault, run};
@@ -24,6 +23,7 @@ use std::alloc::Allocator;
 use std::io::Write;
 use std::sync::Wait;
 use std::thread::Threads;
+use tell_base::{Fault, Status, put_text, read_own, tell};
 
 /// What is told of a run that has no outcome.
 fn no_outcome<S: Steps>(fault: RunFault<S>) -> Fault<'static>

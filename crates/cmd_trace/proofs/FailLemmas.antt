@@ -7,12 +7,12 @@ use Rattle.path_lines.specs.AttemptTexts.{Entry}
 use Rattle.path_shelf.specs.Own.{own_state}
 use Rattle.path_shelf.specs.States.{State, MayFail}
 use Rattle.path_system.specs.Accounts.{Account, account_of}
-use Rattle.cmd_base.specs.declared.status.Status.{Status}
-use Rattle.cmd_base.specs.declared.status.Status.TheVariants.{Done}
-use Rattle.cmd_base.specs.Ends.{AtDone, OfAttempts}
-use Rattle.cmd_base.specs.Own.{own_states}
-use Rattle.cmd_base.specs.Refusals.{HasAttempts, IsBadAttempts, IsUnopened}
-use Rattle.cmd_base.proofs.CallerLemmas.{own_room, text_so, unfailing}
+use Rattle.tell_base.specs.declared.status.Status.{Status}
+use Rattle.tell_base.specs.declared.status.Status.TheVariants.{Done}
+use Rattle.tell_base.specs.Ends.{AtDone, OfAttempts}
+use Rattle.tell_base.specs.Own.{own_states}
+use Rattle.tell_base.specs.Refusals.{HasAttempts, IsBadAttempts, IsUnopened}
+use Rattle.tell_base.proofs.CallerLemmas.{own_room, text_so, unfailing}
 use Rattle.cmd_trace.specs.Traces.{Traced, at_end, answers, IsTraceBy, IsToldBy, IsTraceOf}
 
 -- what is traced so is traced so wherever devices may fail

@@ -12,9 +12,9 @@ use Rattle.path_shelf.specs.States.{State, laws_of}
 use Rattle.path_system.specs.declared.fault.OpenFault.{OpenFault}
 use Rattle.path_system.specs.declared.fault.OpenFault.TheVariants as openings
 use Rattle.path_system.specs.Faults.{IsOpenFault}
-use Rattle.cmd_base.specs.Ends.{RefusesText}
-use Rattle.cmd_base.specs.Refusals.{HasAttempts, IsBadAttempts, IsUnopened}
-use Rattle.cmd_base.specs.Statuses.{open_status, text_status}
+use Rattle.tell_base.specs.Ends.{RefusesText}
+use Rattle.tell_base.specs.Refusals.{HasAttempts, IsBadAttempts, IsUnopened}
+use Rattle.tell_base.specs.Statuses.{open_status, text_status}
 
 -- a line that is no attempt refuses the trace of its text
 pub refuses_line : (d : Declaration) (text : List ℕ) (n : ℕ) (f : LineFault) → ((es : List Entry) → IsAttemptsText d text es → ⊥) → RefusesText ⊥ (IsBadAttempts d text) (text_status (fault_of n f))

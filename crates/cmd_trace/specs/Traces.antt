@@ -12,12 +12,12 @@ use Rattle.path_lines.specs.LineTexts.{journal_line_text, reply_text}
 use Rattle.path_lines.specs.AttemptTexts.{Entry, IsAttemptsText}
 use Rattle.path_shelf.specs.States.{State}
 use Rattle.path_system.specs.Accounts.{Account, account_of}
-use Rattle.cmd_base.specs.declared.status.Status.{Status}
-use Rattle.cmd_base.specs.Ends.{OfAttempts, UnderText}
-use Rattle.cmd_base.specs.Own.{own_states}
-use Rattle.cmd_base.specs.Refusals.{IsBadAttempts}
-use Rattle.cmd_base.specs.ReportTexts.{IsReportText}
-use Rattle.cmd_behind.specs.Behind.{IsBehind, OfBehind}
+use Rattle.tell_base.specs.declared.status.Status.{Status}
+use Rattle.tell_base.specs.Ends.{OfAttempts, UnderText}
+use Rattle.tell_base.specs.Own.{own_states}
+use Rattle.tell_base.specs.Refusals.{IsBadAttempts}
+use Rattle.tell_base.specs.ReportTexts.{IsReportText}
+use Rattle.tell_journals.specs.Behind.{IsBehind, OfBehind}
 
 -- the line of an attempt with its reply, and a line feed
 abbrev pub reply_line : Declaration → ℕ → Attempt → Reply → List ℕ

@@ -3,18 +3,18 @@
 ghost use Rattle.std.specs.Prelude.{◌≡◌, map, IfOk, IfErr};
 ghost use Rattle.path_shelf.specs.Own.{own_state};
 ghost use Rattle.path_shelf.specs.States.{MayFail};
-ghost use Rattle.cmd_base.specs.Ends.{Ends, RefusesText};
-ghost use Rattle.cmd_base.specs.Refusals.{IsBadAttempts};
-ghost use Rattle.cmd_base.specs.Statuses.{status_of};
+ghost use Rattle.tell_base.specs.Ends.{Ends, RefusesText};
+ghost use Rattle.tell_base.specs.Refusals.{IsBadAttempts};
+ghost use Rattle.tell_base.specs.Statuses.{status_of};
 ghost use Rattle.cmd_trace.specs.Traces.{IsToldBy, TraceBehindEnds};
 
 use crate::trace::{Made, replies_and_report};
 use cmd_audit::JournalFile;
-use cmd_base::{Fault, Status, put_text, tell};
-use cmd_behind::{Behind, read_behind, tell_behind};
 use path_lines::{LIMIT, TextFault};
 use std::alloc::Allocator;
 use std::io::Write;
+use tell_base::{Fault, Status, put_text, tell};
+use tell_journals::{Behind, read_behind, tell_behind};
 
 /// The replies of a system to the attempts of a text of any length, and then its report if that is asked for.
 fn traced_on<A: Allocator + Copy>(

@@ -5,12 +5,11 @@ ghost use Rattle.path_model.specs.Rooms.{IsBadRoom};
 ghost use Rattle.path_model.specs.Segments.{joined};
 ghost use Rattle.path_shelf.specs.States.{MayFail, laws_of};
 ghost use Rattle.path_shelf.specs.Shelves.{declared_laws};
-ghost use Rattle.cmd_base.specs.Ends.{Ends, OfAttempts, RefusesText};
-ghost use Rattle.cmd_base.specs.Refusals.{HasAttempts, IsBadAttempts, IsUnopened};
-ghost use Rattle.cmd_base.specs.Statuses.{status_of};
+ghost use Rattle.tell_base.specs.Ends.{Ends, OfAttempts, RefusesText};
+ghost use Rattle.tell_base.specs.Refusals.{HasAttempts, IsBadAttempts, IsUnopened};
+ghost use Rattle.tell_base.specs.Statuses.{status_of};
 ghost use Rattle.cmd_trace.specs.Traces.{GrowsByReport, IsAnswered, IsToldBy, IsTraceBy, IsTraceOf, TraceEnds};
 
-use cmd_base::{Fault, Status, put_text, read_own, tell, write_report};
 use path_decl::Decl;
 use path_fields::after_line;
 use path_lines::{LIMIT, Recent, TextFault, fault_at, next_entry, push_told, read_attempts};
@@ -19,6 +18,7 @@ use path_shelf::Device;
 use path_system::{Controller, open_fault};
 use std::alloc::Allocator;
 use std::io::Write;
+use tell_base::{Fault, Status, put_text, read_own, tell, write_report};
 
 /// How many lines the journal of a trace has room for unless another room is given.
 pub const ROOM: u32 = 4096;

@@ -18,6 +18,10 @@ use Rattle.path_service.specs.declared.fault.ServiceFault.{ServiceFault}
 use Rattle.path_service.specs.declared.fault.ServiceFault.TheVariants as services
 use Rattle.path_service.specs.declared.fault.JournalFault.{JournalFault}
 use Rattle.path_service.specs.declared.fault.JournalFault.TheVariants as journals
+use Rattle.path_order.specs.declared.ruling.Ruling.{Ruling}
+use Rattle.path_order.specs.declared.ruling.Ruling.TheVariants as rulings
+use Rattle.path_service.specs.declared.fault.OrderFault.{OrderFault}
+use Rattle.path_service.specs.declared.fault.OrderFault.TheVariants as orders
 use Rattle.path_service.specs.declared.fault.AuditRefusal.{AuditRefusal}
 use Rattle.path_service.specs.declared.fault.AuditRefusal.TheVariants as audits
 use Rattle.path_service.specs.declared.fault.ExploreRefusal.{ExploreRefusal}
@@ -82,6 +86,25 @@ may_answer (Ok u) = plain 15
 may_answer (Err (starts.Blocked p)) = numbered 2 p.0
 may_answer (Err starts.UnknownOperation) = plain 3
 may_answer (Err starts.NoRoom) = plain 13
+
+-- why it isn't told who comes next
+abbrev pub order_answer : OrderFault → CodedAnswer
+order_answer orders.UnknownOperation = plain 3
+order_answer orders.NoRoom = plain 13
+order_answer orders.OutOfMemory = out_of_memory
+
+-- what becomes of a start
+abbrev pub ruling_answer : Result Ruling OrderFault → CodedAnswer
+ruling_answer (Ok rulings.Goes) = plain 15
+ruling_answer (Ok (rulings.Refused p)) = numbered 2 p.0
+ruling_answer (Ok (rulings.Withheld place)) = numbered 57 place
+ruling_answer (Err fault) = order_answer fault
+
+-- who is next
+abbrev pub next_answer : Result (Option ℕ) OrderFault → CodedAnswer
+next_answer (Ok (Some place)) = numbered 58 place
+next_answer (Ok None) = plain 59
+next_answer (Err fault) = order_answer fault
 
 -- why a text isn't a declaration, with the place in it
 abbrev pub declaration_answer : DeclFault → CodedAnswer

@@ -1,5 +1,5 @@
 -- What a call through a handle does, and what it answers.
-use Rattle.std.specs.Prelude.{◌≡◌, ◌<◌, ◌≤◌, ◌+◌, ℕ, List, [], ◌∷◌, ◌++◌, length, drop, Option, Some, None, Result}
+use Rattle.std.specs.Prelude.{◌≡◌, ◌↔◌, ◌<◌, ◌≤◌, ◌+◌, ℕ, List, [], ◌∷◌, ◌++◌, length, drop, Option, Some, None, Result, IfOk, IfErr}
 use Rattle.path_model.specs.declared.history.Event.{Event}
 use Rattle.path_model.specs.declared.ids.OpId.{OpId}
 use Rattle.path_model.specs.declared.journal.Attempt.{Attempt}
@@ -11,15 +11,22 @@ use Rattle.path_model.specs.Declarations.{Declaration}
 use Rattle.path_decl.specs.Text.{IsDeclarationText}
 use Rattle.path_audit.specs.declared.journals.Verdict.{Verdict}
 use Rattle.path_system.specs.declared.calls.StartRefusal.{StartRefusal}
-use Rattle.cmd_base.specs.ReportTexts.{IsReportText}
+use Rattle.tell_base.specs.ReportTexts.{IsReportText}
+use Rattle.path_system.specs.Accounts.{Account}
+use Rattle.path_order.specs.declared.ruling.Ruling.{Ruling}
+use Rattle.path_order.specs.declared.waiting.Waiter.{Waiter}
+use Rattle.path_service.specs.declared.fault.OrderFault.{OrderFault}
+use Rattle.path_service.specs.declared.fault.OrderFault.TheVariants as orders
 use Rattle.path_service.specs.declared.fault.ServiceFault.{ServiceFault}
 use Rattle.path_service.specs.declared.fault.AuditRefusal.{AuditRefusal}
+use Rattle.path_service.specs.Ordered.{IsRuledIn, KeepsTheDoorIn, IsNextIn, IsUnopposedIn, IsFirstIn}
 use Rattle.path_service.specs.Services.{IsServed, IsServiceFault, MayStart}
 use Rattle.path_service.specs.Serving.{Serving}
 use Rattle.path_service.specs.Verdicts.{IsAuditRefusal, IsVerdictOn}
 use Rattle.path_c.specs.declared.answer.CodedAnswer.{CodedAnswer}
 use Rattle.path_c.specs.declared.listed.Listed.{Listed}
-use Rattle.path_c.specs.Answers.{fault_answer, may_answer, numbered, refusal_answer, reply_answer, too_small, verdict_answer}
+use Rattle.path_c.specs.Answers.{fault_answer, may_answer, next_answer, numbered, refusal_answer, reply_answer, ruling_answer}
+use Rattle.path_c.specs.Answers.{too_small, verdict_answer}
 
 -- an attempt gets the answer of the reply that is owed to it, and the journal, if there is one, its line
 pub record IsAnswered (old : Serving) (worker : ℕ) (attempt : Attempt) (answer : CodedAnswer) (new : Serving) : Type 0 where
@@ -47,6 +54,23 @@ IsUnjudged text room journal answer =
 -- the answer tells that the operation may start, or why it may not
 abbrev pub IsStartable : Declaration → List Event → OpId → CodedAnswer → Type 0
 IsStartable d h op answer = (told : Result (Unit {0}) StartRefusal) × (answer ≡ may_answer told) × MayStart d h op told
+
+-- the answer tells what becomes of a start behind those who wait, or why it isn't told
+pub record IsRuledBy (a : Account) (waiting : List Waiter) (running : List ℕ) (asking : Waiter) (answer : CodedAnswer) : Type 0 where
+  pub told : Result Ruling OrderFault
+  pub answered : answer ≡ ruling_answer told
+  pub ruled : IfOk told (IsRuledIn a waiting running asking)
+  pub door : IfOk told (KeepsTheDoorIn a waiting running asking)
+  pub declared : IfOk told (λ _. asking.operation < length a.declaration.operations)
+  pub unknown : IfErr told (λ fault. (fault ≡ orders.UnknownOperation) ↔ (length a.declaration.operations ≤ asking.operation))
+
+-- the answer tells who is next, or why it isn't told
+pub record IsNextBy (a : Account) (waiting : List Waiter) (running : List ℕ) (answer : CodedAnswer) : Type 0 where
+  pub told : Result (Option ℕ) OrderFault
+  pub answered : answer ≡ next_answer told
+  pub next : IfOk told (IsNextIn a waiting running)
+  pub door : IfOk told (IsUnopposedIn a waiting running)
+  pub no_stall : running ≡ [] → IfOk told (IsFirstIn a waiting)
 
 -- a buffer that begins with this text and a zero byte
 abbrev pub with_text : List ℕ → List ℕ → List ℕ

@@ -1,18 +1,19 @@
 //! What a call answers to C: a code and a number.
 
 ghost use Rattle.std.specs.Prelude.{◌≡◌};
-ghost use Rattle.path_c.specs.Answers.{declaration_answer, fault_answer, journal_answer, may_answer, numbered, plain, refusal_answer};
-ghost use Rattle.path_c.specs.Answers.{reply_answer, resume_answer, script_answer, search_answer};
-ghost use Rattle.path_c.specs.Answers.{taken_answer, text_answer, verdict_answer};
+ghost use Rattle.path_c.specs.Answers.{declaration_answer, fault_answer, journal_answer, may_answer, next_answer, numbered, plain};
+ghost use Rattle.path_c.specs.Answers.{order_answer, refusal_answer, reply_answer, resume_answer, ruling_answer};
+ghost use Rattle.path_c.specs.Answers.{script_answer, search_answer, taken_answer, text_answer, verdict_answer};
 
 use crate::codes;
 use path_audit::Verdict;
 use path_lex::DeclFault;
 use path_lines::TextFault;
 use path_model::Reply;
+use path_order::Ruling;
 use path_script::ScriptFault;
 use path_service::{
-    AuditRefusal, ExploreRefusal, JournalFault, ResumeRefusal, ServiceFault, TakenText,
+    AuditRefusal, ExploreRefusal, JournalFault, OrderFault, ResumeRefusal, ServiceFault, TakenText,
 };
 use path_system::StartRefusal;
 
@@ -92,6 +93,40 @@ pub(crate) fn may(told: Result<(), StartRefusal>) -> CodedAnswer
         Err(StartRefusal::Blocked(path)) => with(codes::BLOCKED, u64::from(path.0)),
         Err(StartRefusal::UnknownOperation) => plainly(codes::UNKNOWN_OPERATION),
         Err(StartRefusal::NoRoom) => plainly(codes::NO_ROOM),
+    }
+}
+
+/// The answer where it isn't told who comes next.
+fn unordered(fault: OrderFault) -> CodedAnswer
+    ensures { result ≡ order_answer fault }
+{
+    match fault {
+        OrderFault::UnknownOperation => plainly(codes::UNKNOWN_OPERATION),
+        OrderFault::NoRoom => plainly(codes::NO_ROOM),
+        OrderFault::OutOfMemory => plainly(codes::OUT_OF_MEMORY),
+    }
+}
+
+/// The answer of what becomes of a start.
+pub(crate) fn ruled(told: Result<Ruling, OrderFault>) -> CodedAnswer
+    ensures { result ≡ ruling_answer told }
+{
+    match told {
+        Ok(Ruling::Goes) => plainly(codes::CAN_START),
+        Ok(Ruling::Refused(path)) => with(codes::BLOCKED, u64::from(path.0)),
+        Ok(Ruling::Withheld(place)) => with(codes::WITHHELD, place as u64),
+        Err(fault) => unordered(fault),
+    }
+}
+
+/// The answer of who is next.
+pub(crate) fn next(told: Result<Option<usize>, OrderFault>) -> CodedAnswer
+    ensures { result ≡ next_answer told }
+{
+    match told {
+        Ok(Some(place)) => with(codes::NEXT, place as u64),
+        Ok(None) => plainly(codes::NOBODY),
+        Err(fault) => unordered(fault),
     }
 }
 

@@ -108,3 +108,9 @@ pub(crate) const SCRIPT_UNBALANCED: u32 = 54;
 pub(crate) const SCRIPT_TOO_DEEP: u32 = 55;
 /// There are too many processes or steps.
 pub(crate) const SCRIPT_TOO_MANY: u32 = 56;
+/// The start is withheld for one who waits.
+pub(crate) const WITHHELD: u32 = 57;
+/// One who waits may go on.
+pub(crate) const NEXT: u32 = 58;
+/// None who waits may.
+pub(crate) const NOBODY: u32 = 59;

@@ -10,10 +10,10 @@ ghost use Rattle.path_c.specs.Calls.{IsFindingGiven};
 use crate::answer::{CodedAnswer, plainly, undeclared};
 use crate::codes;
 use crate::texts::give;
-use path_locate::{declaration_finding, push_finding};
 use path_model::OutOfMemory;
 use path_read::read;
 use std::alloc::Global;
+use tell_places::{declaration_finding, push_finding};
 
 /// What messages call the text.
 const NAME: &str = "declaration";

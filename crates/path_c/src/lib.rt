@@ -10,6 +10,7 @@ mod finding;
 mod handle;
 mod listed;
 mod opening;
+mod ordering;
 mod parts;
 mod resume;
 mod texts;

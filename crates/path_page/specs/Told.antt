@@ -1,11 +1,9 @@
 -- What a page is told of an answer.
 use Rattle.std.specs.Prelude.{◌≡◌, ◌≤◌, ◌⊎◌, ℕ, List, [], length}
-use Rattle.cmd_base.specs.declared.status.Status.{Status}
-use Rattle.cmd_base.specs.Statuses.{status_number}
-use Rattle.cmd_base.specs.Refusals.{Under}
-use Rattle.cmd_explore.specs.Searches.{IsUndecided, SearchEnds}
-use Rattle.cmd_answers.specs.Answers.{Answers}
-use Rattle.cmd_answers.specs.Buffers.{IsShort, overlaid}
+use Rattle.tell_base.specs.declared.status.Status.{Status}
+use Rattle.tell_base.specs.Statuses.{status_number}
+use Rattle.page_answers.specs.Answers.{Answers}
+use Rattle.page_answers.specs.Buffers.{IsShort, overlaid}
 
 -- both texts fit: the number is this one, and each buffer has its text over its front
 abbrev pub IsGivenAs : ℕ → List ℕ → List ℕ → ℕ → List ℕ → List ℕ → List ℕ → List ℕ → Type 0
@@ -30,15 +28,15 @@ IsTold P number out_length err_length out_old out_new err_old err_new =
     (status : Status) × (out : List ℕ) × (err : List ℕ) × P status out × (out_length ≡ length out) × (err_length ≡ length err)
     × (IsGiven status out err number out_old out_new err_old err_new ⊎ IsTooShort out err number out_old out_new err_old err_new)
 
--- the page is told that there are more schedules of the script than were to be looked at: the number is 8, and the output empty
-abbrev pub IsToldUndecided : List ℕ → List ℕ → ℕ → ℕ → ℕ → ℕ → List ℕ → List ℕ → List ℕ → List ℕ → Type 0
-IsToldUndecided declaration script most number out_length err_length out_old out_new err_old err_new =
-    Under declaration (IsUndecided script most) × (out_length ≡ 0)
+-- the page is told that a search came to no answer, for this cause: the number is 8, and the output empty
+abbrev pub IsToldUndecided : Type 0 → ℕ → ℕ → ℕ → List ℕ → List ℕ → List ℕ → List ℕ → Type 0
+IsToldUndecided cause number out_length err_length out_old out_new err_old err_new =
+    cause × (out_length ≡ 0)
     × ((err : List ℕ) × (err_length ≡ length err)
     × (IsGivenAs 8 [] err number out_old out_new err_old err_new ⊎ IsTooShort [] err number out_old out_new err_old err_new))
 
--- a search of all schedules ended as a command does, or came to no answer
-abbrev pub IsSearchTold : List ℕ → List ℕ → ℕ → ℕ → ℕ → ℕ → List ℕ → List ℕ → List ℕ → List ℕ → Type 0
-IsSearchTold declaration script most number out_length err_length out_old out_new err_old err_new =
-    IsTold (Answers (SearchEnds declaration script)) number out_length err_length out_old out_new err_old err_new
-    ⊎ IsToldUndecided declaration script most number out_length err_length out_old out_new err_old err_new
+-- a search with this table ended as a command does, or came to no answer, for this cause
+abbrev pub IsSearchTold : (Status → List ℕ → Type 0) → Type 0 → ℕ → ℕ → ℕ → List ℕ → List ℕ → List ℕ → List ℕ → Type 0
+IsSearchTold table cause number out_length err_length out_old out_new err_old err_new =
+    IsTold (Answers table) number out_length err_length out_old out_new err_old err_new
+    ⊎ IsToldUndecided cause number out_length err_length out_old out_new err_old err_new

@@ -7,18 +7,22 @@
 //! also for an empty text; and 0 or 1 for a `bool`.
 
 ghost use Rattle.path_print.specs.Printed.{printed};
+ghost use Rattle.search_histories.specs.Outcomes.{AreMore};
+ghost use Rattle.tell_base.specs.Ends.{UnderText};
+ghost use Rattle.tell_base.specs.Refusals.{Under};
 ghost use Rattle.cmd_trace.specs.Traces.{TraceEnds};
 ghost use Rattle.cmd_check.specs.Outputs.{OutputEnds, compiled_text};
 ghost use Rattle.cmd_audit.specs.Audits.{AuditEnds};
 ghost use Rattle.cmd_explain.specs.Explanations.{ExplanationEnds};
 ghost use Rattle.cmd_explain.specs.Judgements.{JudgementEnds};
-ghost use Rattle.cmd_picture.specs.Pictures.{PictureEnds};
-ghost use Rattle.cmd_answers.specs.Answers.{Answers};
+ghost use Rattle.cmd_explore.specs.Reaches.{OfReach};
+ghost use Rattle.cmd_explore.specs.Searches.{IsUndecided, SearchEnds};
+ghost use Rattle.page_answers.specs.Answers.{Answers};
 ghost use Rattle.path_page.specs.Told.{IsSearchTold, IsTold};
 
 use crate::tell::{Lengths, UNDECIDED, tell, tell_as};
-use cmd_answers::{SearchAnswer, audit, check, compile, explain, explore, judge, picture, trace};
-use path_arena::{Arena, Memory};
+use page_answers::{SearchAnswer, audit, check, compile, explain, explore, judge, reach, trace};
+use page_arena::{Arena, Memory};
 
 /// The trace of attempts in a journal with room for so many lines, and behind it the report if `report` is set.
 #[unsafe(no_mangle)]
@@ -132,25 +136,6 @@ pub extern "C" fn path_page_judge(
     tell(&answer, out, err, lengths)
 }
 
-/// The picture of attempts and their replies in a journal with room for so many lines.
-#[unsafe(no_mangle)]
-pub extern "C" fn path_page_picture(
-    memory: Memory,
-    declaration: &[u8],
-    room: u32,
-    attempts: &[u8],
-    out: &mut [u8],
-    err: &mut [u8],
-    lengths: &mut Lengths,
-) -> u32
-    ensures { IsTold (Answers (PictureEnds declaration.now room attempts.now)) result lengths.new.out lengths.new.err
-        out.old out.new err.old err.new }
-{
-    let arena = Arena::new(memory);
-    let answer = picture(&arena, declaration, room, attempts);
-    tell(&answer, out, err, lengths)
-}
-
 /// What all schedules of a script come to, of which at most so many states are looked at.
 #[unsafe(no_mangle)]
 pub extern "C" fn path_page_explore(
@@ -162,10 +147,33 @@ pub extern "C" fn path_page_explore(
     err: &mut [u8],
     lengths: &mut Lengths,
 ) -> u32
-    ensures { IsSearchTold declaration.now script.now most result lengths.new.out lengths.new.err out.old out.new err.old err.new }
+    ensures { IsSearchTold (SearchEnds declaration.now script.now) (Under declaration.now (IsUndecided script.now most))
+        result lengths.new.out lengths.new.err out.old out.new err.old err.new }
 {
     let arena = Arena::new(memory);
     match explore(&arena, declaration, script, most) {
+        SearchAnswer::Ended(answer) => tell(&answer, out, err, lengths),
+        SearchAnswer::Undecided(answer) => tell_as(UNDECIDED, &answer, out, err, lengths),
+    }
+}
+
+/// What all histories of a declaration come to, with so many executions in progress at once at most, of which at most so many states are
+/// looked at.
+#[unsafe(no_mangle)]
+pub extern "C" fn path_page_reach(
+    memory: Memory,
+    declaration: &[u8],
+    workers: u32,
+    most: u32,
+    out: &mut [u8],
+    err: &mut [u8],
+    lengths: &mut Lengths,
+) -> u32
+    ensures { IsSearchTold (UnderText declaration.now (λ d. OfReach d workers)) (Under declaration.now (λ d. AreMore d workers most))
+        result lengths.new.out lengths.new.err out.old out.new err.old err.new }
+{
+    let arena = Arena::new(memory);
+    match reach(&arena, declaration, workers, most) {
         SearchAnswer::Ended(answer) => tell(&answer, out, err, lengths),
         SearchAnswer::Undecided(answer) => tell_as(UNDECIDED, &answer, out, err, lengths),
     }

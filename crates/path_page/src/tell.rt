@@ -3,7 +3,7 @@
 ghost use Rattle.std.specs.Prelude.{◌≡◌, ◌⊎◌, length};
 ghost use Rattle.path_page.specs.Told.{IsGiven, IsGivenAs, IsTooShort};
 
-use cmd_answers::{Answer, TooShort};
+use page_answers::{Answer, TooShort};
 use std::alloc::Allocator;
 
 /// How long the two texts of an answer are, in bytes.

@@ -1,3 +1,4 @@
+pub mod Asked
 pub mod Threads
 pub mod ReadFault
 pub mod Refused

@@ -3,11 +3,11 @@ use Rattle.std.proofs.Common.{ℕ, List}
 use Rattle.path_model.specs.Declarations.{Declaration}
 use Rattle.path_decl.specs.Text.{IsDeclarationText}
 use Rattle.path_audit.specs.declared.auditor.AuditFault.TheVariants as audits
-use Rattle.cmd_base.specs.declared.fault.Fault.{Fault}
-use Rattle.cmd_base.specs.declared.fault.Fault.TheVariants as streams
-use Rattle.cmd_base.specs.Statuses.{status_of}
-use Rattle.cmd_base.specs.Ends.{RefusesText}
-use Rattle.cmd_base.specs.Refusals.{IsBadJournal, LacksRoom}
+use Rattle.tell_base.specs.declared.fault.Fault.{Fault}
+use Rattle.tell_base.specs.declared.fault.Fault.TheVariants as streams
+use Rattle.tell_base.specs.Statuses.{status_of}
+use Rattle.tell_base.specs.Ends.{RefusesText}
+use Rattle.tell_base.specs.Refusals.{IsBadJournal, LacksRoom}
 use Rattle.cmd_audit.specs.Audits.{IsTextFaultOf}
 use Rattle.path_service.specs.Verdicts.{IsAuditRefusal, refusal_of}
 

@@ -1,5 +1,5 @@
 -- Why no service goes on behind a journal.
-use Rattle.std.proofs.Common.{◌≡◌, ℕ, Bool, List}
+use Rattle.std.proofs.Common.{ℕ, Bool, List}
 use Rattle.path_model.specs.declared.journal.Line.{Line}
 use Rattle.path_model.specs.Declarations.{Declaration}
 use Rattle.path_decl.specs.Text.{IsDeclarationText}

@@ -1,6 +1,8 @@
 -- What a service keeps.
-use Rattle.std.specs.Prelude.{◌≡◌, ◌≤◌, ℕ, List, [], Option, Some, None, vec_capacity}
-use Rattle.path_model.specs.declared.journal.Line.{Line}
+use Rattle.std.specs.Prelude.{◌≡◌, ◌≤◌, [], Option, Some, None, vec_capacity}
+use Rattle.path_model.specs.Declarations.{Declaration}
+use Rattle.path_order.specs.declared.order.Order.{Order}
+use Rattle.path_order.specs.Beside.{AreOf}
 use Rattle.path_system.specs.Accounts.{Account, IsSystem}
 use Rattle.path_service.specs.declared.lines.Lines.{Lines}
 
@@ -15,7 +17,13 @@ abbrev pub IsLogged : Account → Option Lines → Type 0
 IsLogged account (Some lines) = AreKept account lines
 IsLogged account None = account.journal ≡ []
 
--- a controller in order, with its lines
-pub record IsReady (account : Account) (lines : Option Lines) : Type 0 where
+-- an order of the declaration, if there is one
+abbrev pub IsOrdered : {Y : Type 0} → Declaration → Option (Order Y) → Type 0
+IsOrdered d (Some order) = AreOf d order.spares
+IsOrdered d None = Unit {0}
+
+-- a controller in order, with its lines, and what tells who comes next
+pub record IsReady {Y : Type 0} (account : Account) (lines : Option Lines) (order : Option (Order Y)) : Type 0 where
   pub system : IsSystem account
   pub logged : IsLogged account lines
+  pub ordered : IsOrdered account.declaration order

@@ -4,4 +4,5 @@ pub mod Services
 pub mod Verdicts
 pub mod Searches
 pub mod Taken
+pub mod Ordered
 pub mod Inner

@@ -7,9 +7,9 @@ use Rattle.path_journal.specs.JournalTexts.{journal_text}
 use Rattle.path_script.specs.ScriptFaults.{IsScriptFault}
 use Rattle.path_script.specs.ScriptTexts.{IsScriptText}
 use Rattle.path_script.specs.Scripts.{Plan}
-use Rattle.path_explore.specs.Schedules.{IsSchedule, ample}
-use Rattle.path_explore.specs.Outcomes.{AreMore, GoesOn, IsShortestFault, IsShortestStall}
-use Rattle.cmd_base.specs.Refusals.{Under}
+use Rattle.search_schedules.specs.Schedules.{IsSchedule, ample}
+use Rattle.search_schedules.specs.Outcomes.{AreMore, GoesOn, IsShortestFault, IsShortestStall}
+use Rattle.tell_base.specs.Refusals.{Under}
 use Rattle.cmd_explore.specs.Standings.{standings_text}
 use Rattle.path_service.specs.declared.exploring.Found.{Found}
 use Rattle.path_service.specs.declared.exploring.Found.TheVariants as founds

@@ -16,8 +16,8 @@ use Rattle.path_decl.specs.Text.{IsDeclarationText}
 use Rattle.path_system.specs.declared.calls.StartRefusal.{StartRefusal}
 use Rattle.path_system.specs.declared.calls.StartRefusal.TheVariants as starts
 use Rattle.path_system.specs.Accounts.{Account, account_of, all_lines, StayBut}
-use Rattle.cmd_base.specs.Own.{own_states}
-use Rattle.cmd_base.specs.Refusals.{Under}
+use Rattle.tell_base.specs.Own.{own_states}
+use Rattle.tell_base.specs.Refusals.{Under}
 use Rattle.path_service.specs.declared.fault.ServiceFault.{ServiceFault}
 use Rattle.path_service.specs.declared.fault.ServiceFault.TheVariants as faults
 use Rattle.path_service.specs.declared.fault.ResumeRefusal.{ResumeRefusal}

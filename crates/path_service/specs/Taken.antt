@@ -1,5 +1,5 @@
 -- What a service does with lines that others answered.
-use Rattle.std.specs.Prelude.{◌≡◌, ◌≢◌, ◌<◌, ℕ, Bool, List, [], ◌∷◌, ◌++◌, length, take, slice_get, Option, Some, None}
+use Rattle.std.specs.Prelude.{◌≡◌, ◌≢◌, ℕ, Bool, List, [], ◌∷◌, ◌++◌, length, take, slice_get, Option, Some, None}
 use Rattle.path_model.specs.declared.journal.Attempt.{Attempt}
 use Rattle.path_model.specs.declared.journal.Line.{Line}
 use Rattle.path_model.specs.declared.journal.Reply.{Reply}
@@ -13,8 +13,8 @@ use Rattle.path_journal.specs.declared.version.Version.TheVariants.{One, Two, Th
 use Rattle.path_journal.specs.CutTexts.{IsCutFault, IsCutJournal}
 use Rattle.path_system.specs.Accounts.{Account, account_of}
 use Rattle.path_system.specs.Taken.{IsNext, IsTaken}
-use Rattle.cmd_base.specs.Own.{own_states}
-use Rattle.cmd_base.specs.Refusals.{Under}
+use Rattle.tell_base.specs.Own.{own_states}
+use Rattle.tell_base.specs.Refusals.{Under}
 use Rattle.path_service.specs.declared.fault.ResumeRefusal.{ResumeRefusal}
 use Rattle.path_service.specs.declared.fault.ResumeRefusal.TheVariants as refusals
 use Rattle.path_service.specs.declared.taking.TakenText.{TakenText}

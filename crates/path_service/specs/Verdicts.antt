@@ -5,9 +5,9 @@ use Rattle.path_decl.specs.Text.{IsDeclarationText}
 use Rattle.path_journal.specs.JournalFaults.{IsJournalFault}
 use Rattle.path_audit.specs.declared.auditor.AuditFault.TheVariants as audits
 use Rattle.path_audit.specs.declared.journals.Verdict.{Verdict}
-use Rattle.cmd_base.specs.declared.fault.Fault.{Fault}
-use Rattle.cmd_base.specs.declared.fault.Fault.TheVariants as streams
-use Rattle.cmd_base.specs.Refusals.{LacksRoom, Under}
+use Rattle.tell_base.specs.declared.fault.Fault.{Fault}
+use Rattle.tell_base.specs.declared.fault.Fault.TheVariants as streams
+use Rattle.tell_base.specs.Refusals.{LacksRoom, Under}
 use Rattle.cmd_audit.specs.Audits.{IsAuditOf}
 use Rattle.path_service.specs.declared.fault.AuditRefusal.{AuditRefusal}
 use Rattle.path_service.specs.declared.fault.AuditRefusal.TheVariants as refusals

@@ -5,10 +5,10 @@ ghost use Rattle.path_service.specs.Verdicts.{IsAuditRefusal, IsVerdictOn, refus
 
 use crate::fault::AuditRefusal;
 use cmd_audit::verdict_on;
-use cmd_base::Fault;
 use path_audit::{AuditFault, Verdict};
 use path_read::read;
 use std::alloc::Allocator;
+use tell_base::Fault;
 
 /// Why a text under a declaration has no verdict, as what an audit was refused for says.
 fn refusal(fault: Fault<'_>) -> AuditRefusal

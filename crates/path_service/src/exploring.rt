@@ -1,17 +1,17 @@
 //! Every schedule of the script in a text, under the declaration in another.
 
 ghost use Rattle.std.specs.Prelude.{ℕ, IfOk, IfErr};
-ghost use Rattle.path_explore.specs.Outcomes.{IsExplored};
+ghost use Rattle.search_schedules.specs.Outcomes.{IsExplored};
 ghost use Rattle.path_service.specs.Searches.{FindsIn, FindsUnder, IsExploreRefusal, IsFound, IsScriptRefusal, IsShown};
 
 use crate::fault::ExploreRefusal;
 use cmd_explore::standings_text;
 use path_decl::Decl;
-use path_explore::{Explored, explore};
 use path_journal::write_journal;
 use path_model::{Line, MOST_LINES, OutOfMemory};
 use path_read::read;
 use path_script::{Script, read_script};
+use search_schedules::{Explored, explore};
 use std::alloc::{Allocator, Global};
 
 /// A schedule that goes wrong, as two texts.
@@ -94,7 +94,7 @@ fn explore_under<A: Allocator + Copy>(
 }
 
 /// Looks at every schedule of the script in a text under the declaration in another, with new devices of the program's own, and at most
-/// at `most` states, as [`explore`](path_explore::explore) does and at its cost.
+/// at `most` states, as [`explore`](search_schedules::explore) does and at its cost.
 ///
 /// Fails with `Declaration` and the fault of [`read`] if the first text isn't a declaration; else with `Script` and the fault of
 /// [`read_script`] if the second isn't a script. `OutOfMemory` may come at any point, also as that of a text.

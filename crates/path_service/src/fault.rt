@@ -3,6 +3,7 @@
 ghost use Rattle.std.specs.Prelude.{◌≡◌};
 ghost use Rattle.path_service.specs.declared.fault.ServiceFault.TheVariants as faults;
 ghost use Rattle.path_service.specs.declared.fault.JournalFault.TheVariants as journals;
+ghost use Rattle.path_service.specs.declared.fault.OrderFault.TheVariants as orders;
 ghost use Rattle.path_service.specs.declared.fault.ExploreRefusal.TheVariants as searches;
 ghost use Rattle.path_service.specs.Services.{as_refusal};
 
@@ -50,6 +51,28 @@ impl From<OutOfMemory> for JournalFault {
 
     fn from(_error: OutOfMemory) -> JournalFault {
         JournalFault::OutOfMemory
+    }
+}
+
+/// Why it isn't told who comes next.
+#[derive(Clone, Copy, Debug, PartialEq, Eq, Error)]
+pub enum OrderFault {
+    /// The operation isn't declared.
+    #[error("unknown operation")]
+    UnknownOperation,
+    /// No start is admitted any more: 4,294,967,295 were.
+    #[error("no room")]
+    NoRoom,
+    /// An allocation failed.
+    #[error("out of memory")]
+    OutOfMemory,
+}
+
+impl From<OutOfMemory> for OrderFault {
+    ghost from_gives = { λ _ e. e ≡ orders.OutOfMemory };
+
+    fn from(_error: OutOfMemory) -> OrderFault {
+        OrderFault::OutOfMemory
     }
 }
 

@@ -8,6 +8,7 @@ mod auditing;
 mod exploring;
 mod fault;
 mod lines;
+mod ordering;
 mod resume;
 mod service;
 mod taking;
@@ -15,6 +16,8 @@ mod texts;
 
 pub use auditing::audit_text;
 pub use exploring::{Found, WrongSchedule, explore_text};
-pub use fault::{AuditRefusal, ExploreRefusal, JournalFault, ResumeRefusal, ServiceFault};
+pub use fault::{
+    AuditRefusal, ExploreRefusal, JournalFault, OrderFault, ResumeRefusal, ServiceFault,
+};
 pub use service::Service;
 pub use taking::TakenText;

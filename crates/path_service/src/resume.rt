@@ -31,12 +31,14 @@ fn service_over(alloc: Global, decl: Decl, room: u32, keeps: bool) -> Result<Ser
     if !keeps {
         return Ok(Service {
             lines: None,
+            order: None,
             controller,
         });
     }
     let lines = Lines::with_room(alloc, room)?;
     Ok(Service {
         lines: Some(lines),
+        order: None,
         controller,
     })
 }

@@ -5,19 +5,20 @@ ghost use Rattle.std.specs.Prelude.{IfOk, IfErr, IfSome, IfNone, MatchOption};
 ghost use Rattle.std.specs.Str.{IsUtf8};
 ghost use Rattle.path_model.specs.Journals.{admitted_history};
 ghost use Rattle.path_system.specs.Accounts.{account_of, all_lines, rotated, IsSystem};
-ghost use Rattle.cmd_base.specs.Own.{own_states};
+ghost use Rattle.tell_base.specs.Own.{own_states};
 ghost use Rattle.path_service.specs.Services.{IsOpened, IsServed, IsServiceFault, IsUnserved, MayStart};
 
 use crate::fault::ServiceFault;
 use crate::lines::Lines;
-use cmd_base::own_devices;
 use path_decl::{Decl, counts, operation};
 use path_model::{Attempt, Line, OpId, Reply, is_room};
+use path_order::Order;
 use path_read::read;
 use path_shelf::OwnDevice;
 use path_system::{Controller, StartRefusal};
 use std::alloc::Global;
 use std::marker::Model;
+use tell_base::own_devices;
 
 /// A controller over the program's own devices: each cell and tally contains 0 at first, each queue is empty, and none fails. It may
 /// keep the lines of its journal.
@@ -26,6 +27,8 @@ use std::marker::Model;
 #[derive(Drop)]
 pub struct Service {
     pub(crate) lines: Option<Lines>,
+    /// What tells who comes next, once somebody has asked.
+    pub(crate) order: Option<Order>,
     /// Last, because a controller keeps its declaration last.
     pub(crate) controller: Controller<OwnDevice>,
 }
@@ -43,7 +46,7 @@ impl Model for Service {
 
     ghost view = { λ s. record { account = s.controller; keeps = is_some s.lines } };
 
-    ghost invariant = { λ s. IsReady s.controller s.lines };
+    ghost invariant = { λ s. IsReady s.controller s.lines s.order };
 }
 
 /// A controller of a declaration, over devices of its own, to which nothing has been attempted.
@@ -99,6 +102,7 @@ impl Service {
         let lines = Lines::with_room(alloc, room)?;
         Ok(Service {
             lines: Some(lines),
+            order: None,
             controller,
         })
     }
@@ -119,6 +123,7 @@ impl Service {
         let controller = controller_of(alloc, text, room)?;
         Ok(Service {
             lines: None,
+            order: None,
             controller,
         })
     }

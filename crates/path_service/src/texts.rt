@@ -5,16 +5,16 @@ ghost use Rattle.std.specs.String.{string_bytes};
 ghost use Rattle.path_journal.specs.JournalTexts.{lines_text};
 ghost use Rattle.path_print.specs.Printed.{printed};
 ghost use Rattle.path_system.specs.Accounts.{all_lines};
-ghost use Rattle.cmd_base.specs.ReportTexts.{IsReportText};
+ghost use Rattle.tell_base.specs.ReportTexts.{IsReportText};
 ghost use Rattle.path_service.specs.declared.fault.JournalFault.TheVariants as journals;
 
 use crate::fault::JournalFault;
 use crate::service::Service;
-use cmd_base::write_report;
 use path_journal::write_journal;
 use path_model::OutOfMemory;
 use path_print::print;
 use std::alloc::Global;
+use tell_base::write_report;
 
 impl Service {
     /// The text of the lines since the last rotation, in order, each with its line feed: a journal of version 1. Changes nothing.

@@ -1,13 +1,12 @@
 -- What a store is after a fault, and how long its file has become.
-use Rattle.std.proofs.Common.{◌≡◌, ◌↔◌, ◌⊎◌, ℕ, zero, suc, ◌+◌, ◌<◌, ◌≤◌, Bool, true, false, not, List, [], ◌∷◌, ◌++◌, length, map, take, drop, get_or, refl, sym, ap, ◌∙◌, subst, arith, length-append, take-append-drop}
+use Rattle.std.proofs.Common.{◌≡◌, ◌↔◌, ℕ, ◌+◌, ◌<◌, ◌≤◌, Bool, true, false, List, [], ◌∷◌, ◌++◌, length, map, take, drop, get_or, refl, sym, ap, ◌∙◌, subst, arith, length-append, take-append-drop}
 use Rattle.std.specs.Prelude.{IfErr, IsErrAnd, IsErrOf}
 use Rattle.std.specs.declared.result.Result.{Result}
 use Rattle.std.specs.declared.result.Result.TheVariants.{Ok, Err}
 use Rattle.std.proofs.lemmas.List.{take_more}
 use Rattle.path_model.specs.declared.journal.Line.{Line}
 use Rattle.path_model.specs.Declarations.{Declaration}
-use Rattle.path_lines.specs.LineTexts.{journal_line_text}
-use Rattle.path_journal.specs.JournalTexts.{journal_line, Kept, kept_line, kept_text}
+use Rattle.path_journal.specs.JournalTexts.{kept_line, kept_text}
 use Rattle.path_store.specs.declared.device.DeviceFault.{DeviceFault}
 use Rattle.path_store.specs.declared.fault.StoreFault.{StoreFault}
 use Rattle.path_store.specs.declared.fault.StoreFault.TheVariants as faults
@@ -46,17 +45,17 @@ breaks_left old new first faults.TooLong is left = ap (λ (s : Store _ _). s.bro
 breaks_left old new first faults.OutOfMemory is left = ap (λ (s : Store _ _). s.broken) left ∙ is
 
 -- a store that is as it was has the lines that it had
-same_stored : {D B : Type 0} (holds may_leave : D → List ℕ → Type 0) (d : Declaration) (old new : Store D B) (synced fresh : List Line) → IsSame old new → IsStored holds may_leave d old synced fresh → IsStored holds may_leave d new synced fresh
-same_stored holds may_leave d old new synced fresh same s =
-    subst (λ x. IsStored holds may_leave d x synced fresh) (sym same) (record { lines = s.lines; none_fresh = s.none_fresh })
+same_stored : {D B : Type 0} (holds may_leave : D → List ℕ → Type 0) (old new : Store D B) (synced fresh : List Line) → IsSame old new → IsStored holds may_leave old synced fresh → IsStored holds may_leave new synced fresh
+same_stored holds may_leave old new synced fresh same s =
+    subst (λ x. IsStored holds may_leave x synced fresh) (sym same) (record { lines = s.lines; none_fresh = s.none_fresh })
 
-pub still_stored : {D B : Type 0} (holds may_leave : D → List ℕ → Type 0) (d : Declaration) (old new : Store D B) (e : StoreFault) (synced fresh : List Line) → IsRefusal e → IsLeftAt old new e → IsStored holds may_leave d old synced fresh → IsStored holds may_leave d new synced fresh
-still_stored holds may_leave d old new (faults.Device f) synced fresh refused left s = absurd refused
-still_stored holds may_leave d old new (faults.Text f) synced fresh refused left s = same_stored holds may_leave d old new synced fresh left s
-still_stored holds may_leave d old new faults.OtherHead synced fresh refused left s = same_stored holds may_leave d old new synced fresh left s
-still_stored holds may_leave d old new faults.Broken synced fresh refused left s = same_stored holds may_leave d old new synced fresh left s
-still_stored holds may_leave d old new faults.TooLong synced fresh refused left s = same_stored holds may_leave d old new synced fresh left s
-still_stored holds may_leave d old new faults.OutOfMemory synced fresh refused left s = same_stored holds may_leave d old new synced fresh left s
+pub still_stored : {D B : Type 0} (holds may_leave : D → List ℕ → Type 0) (old new : Store D B) (e : StoreFault) (synced fresh : List Line) → IsRefusal e → IsLeftAt old new e → IsStored holds may_leave old synced fresh → IsStored holds may_leave new synced fresh
+still_stored holds may_leave old new (faults.Device f) synced fresh refused left s = absurd refused
+still_stored holds may_leave old new (faults.Text f) synced fresh refused left s = same_stored holds may_leave old new synced fresh left s
+still_stored holds may_leave old new faults.OtherHead synced fresh refused left s = same_stored holds may_leave old new synced fresh left s
+still_stored holds may_leave old new faults.Broken synced fresh refused left s = same_stored holds may_leave old new synced fresh left s
+still_stored holds may_leave old new faults.TooLong synced fresh refused left s = same_stored holds may_leave old new synced fresh left s
+still_stored holds may_leave old new faults.OutOfMemory synced fresh refused left s = same_stored holds may_leave old new synced fresh left s
 
 pub broken_same : {T : Type 0} (r : Result T StoreFault) (b1 b2 : Bool) → b1 ≡ b2 → (IsErrOf r faults.Broken ↔ (b1 ≡ true)) → IsErrOf r faults.Broken ↔ (b2 ≡ true)
 broken_same r b1 b2 same was = subst (λ b. IsErrOf r faults.Broken ↔ (b ≡ true)) same was
@@ -91,14 +90,16 @@ next_size d lines i x lt =
     ∙ marked_size d (take i lines) (get_or lines i x ∷ [])
     ∙ ap (λ n. length (kept_text d (map (λ line. (true, line)) (take i lines))) + n) (one_size d (get_or lines i x))
 
-pub size_so_far : (d : Declaration) (lines : List Line) (i : ℕ) (x : Line) (m : Bool) (first size next : ℕ) → i < length lines → size ≤ first + length (kept_text d (map (λ line. (true, line)) (take i lines))) → next ≡ size + length (kept_line d (m, get_or lines i x)) → next ≤ first + length (kept_text d (map (λ line. (true, line)) (take (i + 1) lines)))
-size_so_far d lines i x m first size next lt so_far one =
+pub size_so_far : (own d : Declaration) (lines : List Line) (i : ℕ) (x : Line) (m : Bool) (first size next : ℕ) → own ≡ d → i < length lines → size ≤ first + length (kept_text d (map (λ line. (true, line)) (take i lines))) → next ≡ size + length (kept_line own (m, get_or lines i x)) → next ≤ first + length (kept_text d (map (λ line. (true, line)) (take (i + 1) lines)))
+size_so_far own d lines i x m first size next same lt so_far one =
     let more = next_size d lines i x lt in
     let longest = marked_longest d m (get_or lines i x) in
-    omega (arith, so_far, one, more, longest)
+    let spelled : next ≡ size + length (kept_line d (m, get_or lines i x)) = subst (λ (e : Declaration). next ≡ size + length (kept_line e (m, get_or lines i x))) same one in
+    omega (arith, so_far, spelled, more, longest)
 
-pub past_limit : (d : Declaration) (lines : List Line) (i : ℕ) (x : Line) (m : Bool) (first size : ℕ) → i < length lines → size ≤ first + length (kept_text d (map (λ line. (true, line)) (take i lines))) → IsPastLimit size (kept_line d (m, get_or lines i x)) → IsPastLimit first (kept_text d (map (λ line. (true, line)) lines))
-past_limit d lines i x m first size lt so_far long =
+pub past_limit : (own d : Declaration) (lines : List Line) (i : ℕ) (x : Line) (m : Bool) (first size : ℕ) → own ≡ d → i < length lines → size ≤ first + length (kept_text d (map (λ line. (true, line)) (take i lines))) → IsPastLimit size (kept_line own (m, get_or lines i x)) → IsPastLimit first (kept_text d (map (λ line. (true, line)) lines))
+past_limit own d lines i x m first size same lt so_far past =
+    let long : IsPastLimit size (kept_line d (m, get_or lines i x)) = subst (λ (e : Declaration). IsPastLimit size (kept_line e (m, get_or lines i x))) same past in
     let more = next_size d lines i x lt in
     let longest = marked_longest d m (get_or lines i x) in
     let whole = ap (λ ls. length (kept_text d (map (λ line. (true, line)) ls))) (sym (take-append-drop (i + 1) lines)) ∙ marked_size d (take (i + 1) lines) (drop (i + 1) lines) in

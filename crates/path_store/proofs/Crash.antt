@@ -136,6 +136,10 @@ module _ {D : Type 0} (holds may_leave : D → List ℕ → Type 0) (d : Declara
         left = λ c left. ([], only _ h.text c left ∙ sym (append-nil (front_of (Three room) ++ kept_text d ks)), tt);
       }
 
+  -- found under an equal declaration and room
+  found_as : (own : Declaration) (other : ℕ) (synced fresh : List Line) (c : List ℕ) → other ≡ room → own ≡ d → FindsSome own other synced fresh c → FindsSome d room synced fresh c
+  found_as own other synced fresh c is same found = subst (λ (e : Declaration). FindsSome e room synced fresh c) same (subst (λ r. FindsSome own r synced fresh c) is found)
+
   module _ (moment : D → ℕ) (left_since : D → ℕ → List ℕ → Type 0) (only_now : (file : D) (c : List ℕ) → left_since file (moment file) c → may_leave file c) where
     pub at_start : (old : D) (size : ℕ) (synced fresh : List Line) → HasLines holds may_leave d room old size synced fresh → LeavesOnly moment left_since old old (FindsSome d room synced fresh)
     at_start old size synced fresh h = started moment left_since old (FindsSome d room synced fresh) (λ c left. left_found old size synced fresh h c (only_now old c left))
@@ -162,17 +166,17 @@ module _ {D : Type 0} (holds may_leave : D → List ℕ → Type 0) (d : Declara
         goes_on moment left_since old old new (FindsSome d room synced fresh) (may_leave new) (at_start old size synced fresh h) time (λ c left. left_found old size synced fresh h c (crash c left))
 
     -- a run of appends goes on, and ends
-    pub run_more : (old mid new : D) (synced fresh lines : List Line) (i other : ℕ) (x : Line) → other ≡ room → i < length lines → LeavesOnly moment left_since old mid (FindsSome d room synced (fresh ++ lines)) → LeavesOnly moment left_since mid new (FindsSome d other synced ((fresh ++ take i lines) ++ get_or lines i x ∷ [])) → LeavesOnly moment left_since old new (FindsSome d room synced (fresh ++ lines))
-    run_more old mid new synced fresh lines i other x is lt first second =
+    pub run_more : (old mid new : D) (synced fresh lines : List Line) (i other : ℕ) (own : Declaration) (x : Line) → other ≡ room → own ≡ d → i < length lines → LeavesOnly moment left_since old mid (FindsSome d room synced (fresh ++ lines)) → LeavesOnly moment left_since mid new (FindsSome own other synced ((fresh ++ take i lines) ++ get_or lines i x ∷ [])) → LeavesOnly moment left_since old new (FindsSome d room synced (fresh ++ lines))
+    run_more old mid new synced fresh lines i other own x is same lt first second =
         joined moment left_since old mid new (FindsSome d room synced (fresh ++ lines)) first
-        (weaker moment left_since mid new (FindsSome d other synced ((fresh ++ take i lines) ++ get_or lines i x ∷ [])) (FindsSome d room synced (fresh ++ lines))
-        (λ c found. found_longer d room synced ((fresh ++ take i lines) ++ get_or lines i x ∷ []) (drop (i + 1) lines) (fresh ++ lines) c (all_lines fresh lines i x lt) (subst (λ r. FindsSome d r synced ((fresh ++ take i lines) ++ get_or lines i x ∷ []) c) is found)) second)
+        (weaker moment left_since mid new (FindsSome own other synced ((fresh ++ take i lines) ++ get_or lines i x ∷ [])) (FindsSome d room synced (fresh ++ lines))
+        (λ c found. found_longer d room synced ((fresh ++ take i lines) ++ get_or lines i x ∷ []) (drop (i + 1) lines) (fresh ++ lines) c (all_lines fresh lines i x lt) (found_as own other synced ((fresh ++ take i lines) ++ get_or lines i x ∷ []) c is same found)) second)
 
-    pub run_end : (old mid new : D) (synced fresh lines : List Line) (i other : ℕ) → other ≡ room → LeavesOnly moment left_since old mid (FindsSome d room synced (fresh ++ lines)) → LeavesOnly moment left_since mid new (FindsSome d other synced (fresh ++ take i lines)) → LeavesOnly moment left_since old new (FindsSome d room synced (fresh ++ lines))
-    run_end old mid new synced fresh lines i other is first second =
+    pub run_end : (old mid new : D) (synced fresh lines : List Line) (i other : ℕ) (own : Declaration) → other ≡ room → own ≡ d → LeavesOnly moment left_since old mid (FindsSome d room synced (fresh ++ lines)) → LeavesOnly moment left_since mid new (FindsSome own other synced (fresh ++ take i lines)) → LeavesOnly moment left_since old new (FindsSome d room synced (fresh ++ lines))
+    run_end old mid new synced fresh lines i other own is same first second =
         joined moment left_since old mid new (FindsSome d room synced (fresh ++ lines)) first
-        (weaker moment left_since mid new (FindsSome d other synced (fresh ++ take i lines)) (FindsSome d room synced (fresh ++ lines))
-        (λ c found. found_longer d room synced (fresh ++ take i lines) (drop i lines) (fresh ++ lines) c (cut_lines fresh lines i) (subst (λ r. FindsSome d r synced (fresh ++ take i lines) c) is found)) second)
+        (weaker moment left_since mid new (FindsSome own other synced (fresh ++ take i lines)) (FindsSome d room synced (fresh ++ lines))
+        (λ c found. found_longer d room synced (fresh ++ take i lines) (drop i lines) (fresh ++ lines) c (cut_lines fresh lines i) (found_as own other synced (fresh ++ take i lines) c is same found)) second)
 
     pub run_start : (old : D) (size : ℕ) (synced fresh lines : List Line) → HasLines holds may_leave d room old size synced fresh → LeavesOnly moment left_since old old (FindsSome d room synced (fresh ++ lines))
     run_start old size synced fresh lines h = weaker moment left_since old old (FindsSome d room synced fresh) (FindsSome d room synced (fresh ++ lines)) (λ c found. found_longer d room synced fresh lines (fresh ++ lines) c refl found) (at_start old size synced fresh h)

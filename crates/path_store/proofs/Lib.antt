@@ -6,3 +6,4 @@ mod Crash
 mod Repairs
 mod OneSync
 mod Broken
+pub mod CallerLemmas

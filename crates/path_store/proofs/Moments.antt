@@ -1,6 +1,6 @@
 -- How a run of calls of a device goes on.
 use Rattle.std.proofs.Common.{inl, inr, ⊎_elim, ℕ, List, arith}
-use Rattle.path_store.specs.Devices.{Elapses, LeavesOnly}
+use Rattle.path_store.specs.Devices.{Elapses, IsUntouched, LeavesOnly}
 
 module _ {D : Type 0} (moment : D → ℕ) (left_since : D → ℕ → List ℕ → Type 0) where
   -- before the first call
@@ -30,4 +30,18 @@ module _ {D : Type 0} (moment : D → ℕ) (left_since : D → ℕ → List ℕ 
     later = run.later;
     each = λ c left. to c (run.each c left);
     before = λ t c le left. ⊎_elim (λ past. inl past) (λ p. inr (to c p)) (run.before t c le left);
+  }
+
+-- a read changes nothing, whatever the file is
+module _ {D : Type 0} (holds may_leave : D → List ℕ → Type 0) (moment : D → ℕ) (left_since : D → ℕ → List ℕ → Type 0)
+    (only_now : (file : D) (c : List ℕ) → left_since file (moment file) c → may_leave file c) where
+  pub untouched_same : (file : D) → IsUntouched holds may_leave moment left_since file file
+  untouched_same file = record { read = λ b held. held; left = λ c left. left; any_moment = started moment left_since file (may_leave file) (only_now file) }
+
+  pub read_untouched : (old mid : D) → ((b : List ℕ) → holds old b → holds mid b) → ((c : List ℕ) → may_leave mid c → may_leave old c)
+      → Elapses (moment old) (moment mid) (left_since old) (left_since mid) (may_leave mid) → IsUntouched holds may_leave moment left_since old mid
+  read_untouched old mid read crash time = record {
+    read = read;
+    left = crash;
+    any_moment = goes_on moment left_since old old mid (may_leave old) (may_leave mid) (started moment left_since old (may_leave old) (only_now old)) time crash;
   }

@@ -17,7 +17,7 @@ use Rattle.path_journal.specs.JournalTexts.{kept_head, journal_line, Kept, KeptF
 use Rattle.path_journal.specs.CutTexts.{IsCutFault, IsNoCutJournal, IsTornEnd, front_of, IsCutJournal}
 use Rattle.path_lines.specs.declared.texts.TextFault.{TextFault}
 use Rattle.path_lines.specs.declared.texts.TextFault.TheVariants as text_faults
-use Rattle.path_store.specs.Devices.{IsImage, Cut, Only, Elapses, LeavesOnly, IsUntouched}
+use Rattle.path_store.specs.Devices.{IsImage, Cut, Only, Elapses, LeavesOnly}
 use Rattle.path_store.specs.Stores.{Finds, FindsSome, HasLines, IsFile}
 use Rattle.path_store.specs.Faults.{IsNoStore}
 use Rattle.path_store.proofs.Images.{image_short, image_front, cut_front}
@@ -208,14 +208,6 @@ module _ {D : Type 0} (holds may_leave : D → List ℕ → Type 0) (d : Declara
   }
 
   module _ (moment : D → ℕ) (left_since : D → ℕ → List ℕ → Type 0) (only_now : (file : D) (c : List ℕ) → left_since file (moment file) c → may_leave file c) where
-    -- a read changes nothing, whatever the file is
-    pub read_untouched : (old mid : D) → ((b : List ℕ) → holds old b → holds mid b) → ((c : List ℕ) → may_leave mid c → may_leave old c) → Elapses (moment old) (moment mid) (left_since old) (left_since mid) (may_leave mid) → IsUntouched holds may_leave moment left_since old mid
-    read_untouched old mid read crash time = record {
-      read = read;
-      left = crash;
-      any_moment = goes_on moment left_since old old mid (may_leave old) (may_leave mid) (started moment left_since old (may_leave old) (λ c left. only_now old c left)) time crash;
-    }
-
     pub read_leaves : (old mid : D) (synced fresh : List Line) → IsFile holds may_leave d room old synced fresh → ((c : List ℕ) → may_leave mid c → may_leave old c) → Elapses (moment old) (moment mid) (left_since old) (left_since mid) (may_leave mid) → LeavesOnly moment left_since old mid (FindsSome d room synced fresh)
     read_leaves old mid synced fresh file crash time =
         goes_on moment left_since old old mid (FindsSome d room synced fresh) (may_leave mid)

@@ -44,8 +44,8 @@ pub record LeavesOnly {D : Type 0} (moment : D → ℕ) (left_since : D → ℕ 
   -- for a run that began earlier
   pub before : (t : ℕ) (c : List ℕ) → t ≤ moment old → left_since new t c → left_since old t c ⊎ P c
 
--- the file is as it was, at each moment from the old state up to the new one: whatever a read returned it returns, and a crash leaves nothing
--- else
+-- the file is as it was, at each moment from the old state up to the new one: whatever a read returned it returns, and a crash leaves
+-- nothing else
 pub record IsUntouched {D : Type 0} (holds may_leave : D → List ℕ → Type 0) (moment : D → ℕ) (left_since : D → ℕ → List ℕ → Type 0)
     (old new : D) : Type 0 where
   pub read : (b : List ℕ) → holds old b → holds new b

@@ -3,7 +3,6 @@ use Rattle.std.specs.Prelude.{◌≡◌, ◌≢◌, ℕ, ◌+◌, ◌<◌, Bool,
 use Rattle.path_model.specs.declared.journal.Line.{Line}
 use Rattle.path_model.specs.Declarations.{Declaration}
 use Rattle.path_lines.specs.declared.texts.TextFault.TheVariants as text_faults
-use Rattle.path_journal.specs.JournalTexts.{kept_line, kept_text}
 use Rattle.path_journal.specs.CutTexts.{IsCutFault}
 use Rattle.path_store.specs.declared.device.DeviceFault.{DeviceFault}
 use Rattle.path_store.specs.declared.fault.StoreFault.{StoreFault}

@@ -62,10 +62,9 @@ pub record HasLines {D : Type 0} (holds may_leave : D → List ℕ → Type 0) (
   pub short : size ≤ 134217728
   pub left : (c : List ℕ) → may_leave device c → IsLeft d room on_disk not_yet c
 
--- an open store has these lines
-pub record IsStored {D B : Type 0} (holds may_leave : D → List ℕ → Type 0) (d : Declaration) (store : Store D B)
-    (synced fresh : List Line) : Type 0 where
-  pub lines : HasLines holds may_leave d store.room store.device store.length synced fresh
+-- an open store has these lines, under its declaration
+pub record IsStored {D A : Type 0} (holds may_leave : D → List ℕ → Type 0) (store : Store D A) (synced fresh : List Line) : Type 0 where
+  pub lines : HasLines holds may_leave store.decl.declaration store.room store.device store.length synced fresh
   pub none_fresh : store.synced ≡ true → fresh ≡ []
 
 -- a device that was read and repaired has these lines, all on the disk, in so many bytes

@@ -66,7 +66,8 @@ fn is_of_room(version: Version, room: u32) -> bool
 /// Leaves the first `size` bytes of a file that has `count`, all of them on the disk.
 fn repair<D: Device>(device: &mut D, count: usize, size: usize) -> Result<(), DeviceFault>
     ensures holds { (b : List ℕ) → D.holds device.old b → count ≡ length b → size ≤ count → OnOk result (D.holds device.new (take size b)) }
-    ensures only { (b : List ℕ) → D.holds device.old b → count ≡ length b → size ≤ count → OnOk result (Only (take size b) (D.may_leave device.new)) }
+    ensures only { (b : List ℕ) → D.holds device.old b → count ≡ length b → size ≤ count
+        → OnOk result (Only (take size b) (D.may_leave device.new)) }
     ensures cause { IfErr result (λ fault. D.fails_with device.new fault) }
     ensures any_moment { (b : List ℕ) → D.holds device.old b → count ≡ length b → size ≤ count
         → LeavesOnly D.moment D.left_since device.old device.new (λ c. D.may_leave device.old c ⊎ Cut size b c) }

@@ -1,5 +1,6 @@
 pub mod Serving
 pub mod Agreed
+pub mod Begun
 pub mod Stepped
 pub mod Counted
 pub mod Taken

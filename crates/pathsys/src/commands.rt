@@ -4,15 +4,13 @@
 use crate::files::read_named;
 use crate::request::Request;
 use cmd_audit::JournalFile;
-use cmd_base::{Fault, Status};
 use cmd_check::{check_to, compile_to};
 use cmd_explain::{
     FileNames, explain_attempts, explain_behind, explain_declaration, explain_journal,
 };
+use cmd_explore::shares_operations;
 use cmd_follow::{Syncing, follow_bytes, follow_stored};
 use cmd_picture::{picture_bytes, picture_journal_bytes};
-use cmd_reach::shares_operations;
-use cmd_refusals::{Source, Subject};
 use cmd_run::run_bytes;
 use cmd_trace::{trace_behind, trace_bytes};
 use path_file::FileDevice;
@@ -21,6 +19,8 @@ use std::io::Write;
 use std::rt::Files;
 use std::sync::Wait;
 use std::thread::Threads;
+use tell_base::{Fault, Status};
+use tell_refusals::{Source, Subject};
 
 /// What to type to a follow.
 const FOLLOW_INVITATION: &str = "type attempts, one a line; ? writes the report, and Ctrl-D ends";

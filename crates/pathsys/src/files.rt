@@ -2,12 +2,12 @@
 
 ghost use Rattle.std.specs.Prelude.{◌≤◌, length, IfOk};
 
-use cmd_base::{Fault, Status, read_all, tell};
 use path_lines::LIMIT;
 use std::fs;
 use std::fs::OpenFile;
 use std::io::{ErrorKind, Write};
 use std::rt::Files;
+use tell_base::{Fault, Status, read_all, tell};
 
 /// How faults name standard input.
 pub const STDIN: &str = "standard input";

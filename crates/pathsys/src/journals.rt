@@ -3,11 +3,11 @@
 use crate::files::{STDIN, read_named};
 use crate::request::Request;
 use cmd_audit::{JournalFile, audit_bytes, audit_files};
-use cmd_base::{Fault, Status};
 use cmd_explain::{FullJournal, full_journal};
-use cmd_refusals::{Source, Subject, tell_place};
 use std::io::Write;
 use std::rt::Files;
+use tell_base::{Fault, Status};
+use tell_refusals::{Source, Subject, tell_place};
 
 /// A file of a journal as a source of faults.
 fn source_of(file: &JournalFile) -> Source<'_> {

@@ -9,8 +9,6 @@ use crate::request::Request;
 use crate::terminals::Terminals;
 use clap::error::ErrorKind;
 use clap::{ArgMatches, Command, Error};
-use cmd_base::{Fault, Status, tell, whole};
-use cmd_refusals::{Source, Subject, tell_place};
 use cmd_trace::trace_bytes;
 use std::env;
 use std::fs::File;
@@ -18,6 +16,8 @@ use std::io::Write;
 use std::rt::{Env, Files};
 use std::sync::Wait;
 use std::thread::Threads;
+use tell_base::{Fault, Status, tell, whole};
+use tell_refusals::{Source, Subject, tell_place};
 
 /// What to type where there is no command.
 const INVITATION: &str =

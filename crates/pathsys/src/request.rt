@@ -5,13 +5,13 @@ ghost use Rattle.std.specs.Prelude.{◌≡◌, ◌≤◌, length, IfOk};
 use crate::files::{STDIN, read_named};
 use crate::terminals::Terminals;
 use clap::ArgMatches;
-use cmd_base::{Fault, Status};
-use cmd_refusals::{Source, Subject, tell_place};
 use cmd_trace::ROOM;
 use path_lines::LIMIT;
 use std::alloc::Global;
 use std::io::Write;
 use std::rt::Files;
+use tell_base::{Fault, Status};
+use tell_refusals::{Source, Subject, tell_place};
 
 /// A command that is asked for: the program that runs it, its words, and where it writes.
 #[derive(Drop)]

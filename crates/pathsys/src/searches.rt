@@ -1,13 +1,12 @@
 //! Searches of all schedules and of all histories, which can take long.
 
 use crate::request::Request;
-use cmd_base::{Fault, Status};
-use cmd_explore::{Searched, explore_bytes};
-use cmd_reach::reach_bytes;
-use cmd_refusals::{Source, Subject};
+use cmd_explore::{Searched, explore_bytes, reach_bytes};
 use std::alloc::Global;
 use std::io::Write;
 use std::rt::Files;
+use tell_base::{Fault, Status};
+use tell_refusals::{Source, Subject};
 
 /// How many states are looked at, unless the words name another number.
 const MOST: u32 = 1_000_000;

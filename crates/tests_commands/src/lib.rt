@@ -1,4 +1,4 @@
-//! Tests of the commands on declarations and journals. The crate has no other code, so that no library is proved twice.
+//! Tests of commands that make, check and follow attempts. The crate has no other code, so that no library is proved twice.
 #![tactic(auto)]
 
 #[cfg(test)]

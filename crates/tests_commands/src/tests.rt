@@ -1,8 +1,5 @@
-//! The tests of commands.
+//! The tests of commands that make, check and follow attempts.
 
-mod audits;
-mod check;
 mod commands;
-mod compile;
-mod refusals;
-mod segments;
+mod follows;
+mod traces;

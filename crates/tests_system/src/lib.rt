@@ -1,4 +1,4 @@
-//! Tests of the public calls of ledgers, gates and systems. The crate has no other code, so that no library is proved twice.
+//! Tests of ledgers, gates and systems. The crate has no other code, so that no library is proved twice.
 #![tactic(auto)]
 
 #[cfg(test)]

@@ -1,5 +1,4 @@
-//! Tests of the public calls on texts: fields, attempts, lines and journals. The crate has no other code, so that no
-//! library is proved twice.
+//! Tests of texts: declarations, lines, journals and scripts. The crate has no other code, so that no library is proved twice.
 #![tactic(auto)]
 
 #[cfg(test)]

@@ -1,10 +1,5 @@
-//! The tests of texts.
+//! The tests of texts: declarations, lines, journals and scripts.
 
-mod attempts;
-mod declaration;
-mod fields;
-mod journal_faults;
-mod journals;
+mod declarations;
 mod lines;
-mod stops;
-mod verbs;
+mod scripts;

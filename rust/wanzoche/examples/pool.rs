@@ -34,8 +34,8 @@ impl Pool {
 
     fn maintain(&self) -> Result<(), Error> {
         let _alone = self.paths.enter(self.maintain)?;
-        if let Err(Error::Blocked { path }) = self.paths.enter_timeout(self.query, Duration::from_millis(10)) {
-            println!("a query has to wait: {}", self.paths.path(path)?.unwrap_or_default());
+        if let Err(Error::Timeout(why)) = self.paths.enter_timeout(self.query, Duration::from_millis(10)) {
+            println!("a query has to wait: {}", why.text());
         }
         Ok(())
     }

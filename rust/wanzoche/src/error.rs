@@ -3,6 +3,7 @@
 use std::fmt;
 
 use crate::sys::{self, code, Answer};
+use crate::Blocked;
 
 /// Why a call wasn't served. Nothing was started then, and nothing has changed.
 #[derive(Clone, Debug, PartialEq, Eq)]
@@ -27,18 +28,19 @@ pub enum Error {
     },
     /// The operation was resolved by other paths. From each call that takes an [`Op`](crate::Op).
     ForeignOperation,
-    /// A path forbids the operation: now, or still when the time is over. From [`try_enter`](crate::Paths::try_enter) and
-    /// [`enter_timeout`](crate::Paths::enter_timeout).
-    Blocked {
-        /// The first path that forbids it, counted from 0 in the order of the text. [`Paths::path`](crate::Paths::path) has its text.
-        path: u32,
-    },
+    /// A path forbids the operation now: which one, who holds it, and what may begin next. Or its start is withheld for one that waits.
+    /// From [`try_enter`](crate::Paths::try_enter) and [`try_enter_owned`](crate::Paths::try_enter_owned).
+    Blocked(Blocked),
+    /// The time is over, and a path still forbids the operation, or its start is withheld for one that waits. From
+    /// [`enter_timeout`](crate::Paths::enter_timeout) and [`enter_timeout_owned`](crate::Paths::enter_timeout_owned).
+    Timeout(Blocked),
+    /// The paths were closed, before or while the caller waited. From each call that enters.
+    Closed,
     /// So many operations are in progress that the journal has no line left, or, without a journal, the room no place; or 4,294,967,295
-    /// were started. From each call that enters,
-    /// and from those that use a device.
+    /// were started. From each call that enters, and from those that use a device.
     NoRoom,
-    /// There is no memory. From each call that returns a text, from the opening, and, if there is a log, from each call that needs a new
-    /// journal.
+    /// There is no memory. From each call that returns a text, from the opening, from a call that waits beside more others than ever before,
+    /// and, if there is a log, from each call that needs a new journal.
     OutOfMemory,
     /// The resource's device doesn't offer this: a cell has `put` and `look`, a tally `look` and `add`, a queue `put`, `take` and `look`.
     NotOffered,
@@ -48,9 +50,22 @@ pub enum Error {
     Full,
     /// The total would be above `u64::MAX`. From [`add`](crate::Guard::add).
     Overflow,
-    /// A text isn't a journal. From [`audit`](crate::audit()).
+    /// A text isn't a journal. From [`audit`](crate::audit()) and [`Options::resume`](crate::Options::resume).
     Journal {
         /// What is wrong, in words, as `bad line`.
+        fault: &'static str,
+        /// The line of the fault, counted from 1. 1 if the text is too long.
+        line: u64,
+    },
+    /// A reply in the journal wasn't owed by the lines before it, so nothing goes on behind it. From
+    /// [`Options::resume`](crate::Options::resume).
+    WrongLine {
+        /// The first such line, counted from 0, where a first line that names the room doesn't count.
+        index: u64,
+    },
+    /// A text isn't a script. From [`explore`](crate::explore()).
+    Script {
+        /// What is wrong, in words, as `undeclared in script`.
         fault: &'static str,
         /// The line of the fault, counted from 1. 1 if the text is too long.
         line: u64,
@@ -74,6 +89,9 @@ impl Error {
             code::OUT_OF_MEMORY => Error::OutOfMemory,
             code::JOURNAL_TOO_LONG => Error::Journal { fault, line: 1 },
             code::BAD_LINE | code::UNDECLARED_LINE => Error::Journal { fault, line: answer.number.saturating_add(1) },
+            code::WRONG_LINE => Error::WrongLine { index: answer.number },
+            code::SCRIPT_TOO_LONG => Error::Script { fault, line: 1 },
+            code::SCRIPT_BAD_LINE..=code::SCRIPT_TOO_MANY => Error::Script { fault, line: answer.number.saturating_add(1) },
             code::TOO_LONG => Error::Declaration { fault, line: 1, column: 1 },
             code::BAD_BYTE..=code::TOO_MANY => {
                 let (line, column) = place(declaration, answer.number);
@@ -83,16 +101,24 @@ impl Error {
         }
     }
 
-    /// Why an operation wasn't started, or a device not used.
+    /// Why an operation wasn't started, but for a path that forbids it, or a device not used.
     pub(crate) fn of_attempt(answer: Answer) -> Error {
         match answer.code {
-            code::BLOCKED => Error::Blocked { path: u32::try_from(answer.number).unwrap_or(u32::MAX) },
+            code::CLOSED => Error::Closed,
             code::NO_ROOM => Error::NoRoom,
             code::NOT_OFFERED => Error::NotOffered,
             code::EMPTY => Error::Empty,
             code::FULL => Error::Full,
             code::OVERFLOW => Error::Overflow,
             other => Error::Library { answer: sys::words(other) },
+        }
+    }
+
+    /// The same where a time is over.
+    pub(crate) fn in_time(self) -> Error {
+        match self {
+            Error::Blocked(why) => Error::Timeout(why),
+            other => other,
         }
     }
 }
@@ -112,7 +138,9 @@ impl fmt::Display for Error {
             Error::BadRoom => write!(to, "the room is 1 to {} lines", crate::MOST_LINES),
             Error::UnknownOperation { name } => write!(to, "no operation `{name}` is declared"),
             Error::ForeignOperation => to.write_str("the operation was resolved by other paths"),
-            Error::Blocked { path } => write!(to, "path {path} forbids the operation"),
+            Error::Blocked(why) => why.fmt(to),
+            Error::Timeout(why) => write!(to, "the time is over: {why}"),
+            Error::Closed => to.write_str("the paths are closed"),
             Error::NoRoom => to.write_str("there is no room for more in progress"),
             Error::OutOfMemory => to.write_str("out of memory"),
             Error::NotOffered => to.write_str("the device doesn't offer this"),
@@ -120,6 +148,8 @@ impl fmt::Display for Error {
             Error::Full => to.write_str("the queue is full"),
             Error::Overflow => write!(to, "the total would be above {}", u64::MAX),
             Error::Journal { fault, line } => write!(to, "journal: {fault} in line {line}"),
+            Error::WrongLine { index } => write!(to, "journal: wrong line {index}"),
+            Error::Script { fault, line } => write!(to, "{fault}, line {line}"),
             Error::NoJournal => to.write_str("the paths were opened without a journal"),
             Error::Library { answer } => write!(to, "the C library answered `{answer}`, which isn't an answer to this call"),
         }

@@ -1,147 +1,65 @@
-//! Paths that threads wait on.
+//! Paths that threads and tasks wait on.
 
-use std::cell::Cell;
 use std::fmt;
-use std::sync::atomic::{AtomicU32, AtomicU64, Ordering};
+use std::sync::Arc;
 use std::time::{Duration, Instant};
 
-use crate::audit::{audit, Verdict};
-use crate::sys::{code, System, Text, Verb};
-use crate::waiting::{told_outside, Limit, Monitor, Start};
-use crate::Error;
-use crate::Log;
+use crate::guard::InProgress;
+use crate::holders::Who;
+use crate::memory::own;
+use crate::names::Names;
+use crate::shared::Shared;
+use crate::state::Start;
+use crate::waiting::{Limit, Monitor};
+use crate::{thread_number, Enter, EnterOwned, Error, Guard, Options, OwnedGuard};
 
-/// The most lines that a journal may have room for.
-pub const MOST_LINES: u32 = 1_048_576;
-
-/// The room of a journal, unless [`Options::room`] says another.
-pub const USUAL_ROOM: u32 = 4_096;
-
-/// How often a thread gives way before it sleeps, unless [`Options::yields`] says otherwise.
-pub const USUAL_YIELDS: u32 = 30;
-
-/// The number of the calling thread, by which reports and journals name it. Threads count from 1, in the order in which they first ask for
-/// it or enter something. It stays the same for all paths.
-#[inline]
-pub fn thread_number() -> u32 {
-    static LAST: AtomicU32 = AtomicU32::new(0);
-    thread_local! {
-        static OWN: Cell<u32> = const { Cell::new(0) };
-    }
-    OWN.with(|own| {
-        if own.get() == 0 {
-            own.set(LAST.fetch_add(1, Ordering::Relaxed).wrapping_add(1));
-        }
-        own.get()
-    })
-}
-
-/// An operation that [`Paths::op`] has resolved. It is a number: copy it, and keep it where you like.
+/// An operation that [`Paths::op`] has resolved, with the priority of who waits for it. It is three numbers: copy it, and keep it where you
+/// like.
 #[derive(Clone, Copy, Debug, PartialEq, Eq, Hash)]
 pub struct Op {
     number: u32,
+    priority: u32,
     /// The paths that it belongs to.
     of: u64,
 }
 
-/// How paths are opened.
-///
-/// ```
-/// use wanzoche::Options;
-/// let mut kept = String::new();
-/// let log = Box::new(move |lines: &str| kept.push_str(lines));
-/// let paths = Options::new().room(16).log(log).open("resource shelf cell operation take path take end end")?;
-/// # drop(paths); Ok::<(), wanzoche::Error>(())
-/// ```
-#[must_use = "`open` opens paths"]
-pub struct Options {
-    room: u32,
-    yields: u32,
-    log: Option<Log>,
-    journal: bool,
-}
-
-impl Options {
-    /// A room of [`USUAL_ROOM`] lines, [`USUAL_YIELDS`] yields, a journal, and no log.
-    pub fn new() -> Options {
-        Options { room: USUAL_ROOM, yields: USUAL_YIELDS, log: None, journal: true }
-    }
-
-    /// How many lines the journal takes before the paths begin a new one, 1 to [`MOST_LINES`]. Each start, use and finish takes one, and so
-    /// does a start that a path forbids. An operation in progress keeps one for its finish, so there are always fewer of them than the room
-    /// has lines. A line takes 144 bytes.
-    pub fn room(mut self, lines: u32) -> Options {
-        self.room = lines;
-        self
-    }
-
-    /// How often a thread that may not start gives way to others before it sleeps. Most operations are over sooner than a thread falls
-    /// asleep and is woken. 0 is right for operations that take long.
-    pub fn yields(mut self, yields: u32) -> Options {
-        self.yields = yields;
-        self
-    }
-
-    /// What gets the lines of the journal when it is full, before a new one is begun. Without a log they are dropped.
-    ///
-    /// The log is called under the lock of the paths, by the thread that needs room. So all others wait for it, and it calls nothing of
-    /// these paths: that would wait for itself. If it panics, the panic goes on in that thread, nothing is started there, and the lines
-    /// stay for the next time.
-    pub fn log(mut self, log: Log) -> Options {
-        self.log = Some(log);
-        self
-    }
-
-    /// Keeps no lines, for a service that wants no log: to enter and to leave is quicker, and no new journal is ever begun. Then the
-    /// [`room`](Options::room) is that of what is in progress alone, one operation less than it says, and a place takes 32 bytes.
-    /// [`Paths::journal`] says [`Error::NoJournal`], and [`Paths::rotate`] does nothing. All other calls answer as with a journal that
-    /// has room.
+impl Op {
+    /// The same operation for an entry of another priority than the usual one, which is 0: whoever waits for it stands before all that wait
+    /// with a lower one, whenever they came. It interrupts nobody.
     ///
     /// ```
-    /// use wanzoche::{Error, Options};
-    /// let paths = Options::new().without_journal().open("resource shelf cell operation take path take end end")?;
-    /// let taken = paths.enter(paths.op("take")?)?;
-    /// assert_eq!(paths.report()?, "startable\nblocked take 0\nlive 0 1 take\nfrozen no\n");
-    /// assert_eq!(paths.journal(), Err(Error::NoJournal));
-    /// # drop(taken); Ok::<(), Error>(())
+    /// use std::thread;
+    /// use wanzoche::{Options, Paths};
+    ///
+    /// let paths = Options::new().yields(0).open("resource shelf cell operation take path take end end")?;
+    /// let take = paths.op("take")?;
+    /// thread::scope(|scope| {
+    ///     let taken = paths.enter(take);
+    ///     for (number, priority) in [(0, 0), (1, 7)] {
+    ///         let paths = &paths;
+    ///         scope.spawn(move || drop(paths.enter(take.with_priority(priority))));
+    ///         while paths.waiting(take) == Ok(number) {
+    ///             thread::yield_now();
+    ///         }
+    ///     }
+    ///     let priorities: Vec<u32> = paths.waiters()?.iter().map(|waiter| waiter.priority).collect();
+    ///     assert_eq!(priorities, [7, 0]);
+    ///     drop(taken);
+    ///     Ok::<(), wanzoche::Error>(())
+    /// })
+    /// # ?; Ok::<(), wanzoche::Error>(())
     /// ```
-    pub fn without_journal(mut self) -> Options {
-        self.journal = false;
-        self
+    #[must_use]
+    pub fn with_priority(self, priority: u32) -> Op {
+        Op { priority, ..self }
     }
 
-    /// Opens paths of the declaration in a text. Takes all the memory that entering and leaving will need.
-    ///
-    /// # Errors
-    ///
-    /// [`Error::Declaration`] if the text isn't a declaration, [`Error::BadRoom`], and [`Error::OutOfMemory`]. [`Error::NoJournal`] if
-    /// there is a log, but no journal.
-    pub fn open(self, text: &str) -> Result<Paths, Error> {
-        static LAST: AtomicU64 = AtomicU64::new(0);
-        if self.log.is_some() && !self.journal {
-            return Err(Error::NoJournal);
-        }
-        let system = System::open(text, self.room, self.journal).map_err(|answer| Error::of_text(answer, text))?;
-        let monitor = Monitor::new(system, self.log, self.yields)?;
-        Ok(Paths { monitor, id: LAST.fetch_add(1, Ordering::Relaxed) })
+    pub(crate) fn priority(self) -> u32 {
+        self.priority
     }
 }
 
-impl Default for Options {
-    fn default() -> Options {
-        Options::new()
-    }
-}
-
-impl fmt::Debug for Options {
-    fn fmt(&self, to: &mut fmt::Formatter<'_>) -> fmt::Result {
-        let mut fields = to.debug_struct("Options");
-        fields.field("room", &self.room).field("yields", &self.yields).field("has_log", &self.log.is_some());
-        fields.field("journal", &self.journal).finish()
-    }
-}
-
-/// Paths that threads wait on: which operation may start when.
+/// Paths that threads and tasks wait on: which operation may start when.
 ///
 /// Threads share them by reference, as `&Paths` in scoped threads, in an `Arc` or in a `static`. When they are dropped, all memory is given
 /// back.
@@ -162,8 +80,10 @@ impl fmt::Debug for Options {
 /// # Ok::<(), wanzoche::Error>(())
 /// ```
 pub struct Paths {
-    monitor: Monitor,
-    id: u64,
+    pub(crate) monitor: Monitor,
+    pub(crate) names: Shared<Names>,
+    pub(crate) id: u64,
+    pub(crate) resumed: u64,
 }
 
 impl Paths {
@@ -184,40 +104,57 @@ impl Paths {
     pub fn op(&self, name: &str) -> Result<Op, Error> {
         let number = self.monitor.lock().system.operation(name);
         match number {
-            Some(number) => Ok(Op { number, of: self.id }),
+            Some(number) => Ok(self.op_of(number)),
             None => Err(Error::UnknownOperation { name: own(name)? }),
         }
     }
 
-    /// Starts an operation, and waits until the paths admit it. It is in progress until the guard is dropped.
-    ///
-    /// Waits for ever for what never comes, as a thread that waits for what it holds itself. Who comes next among those that may start
-    /// isn't said. Costs one lock and a look at each path that names the operation, where nobody has to wait; to drop the guard costs the
-    /// same. Allocates nothing, but for the text of the journal if there is a log and the journal is full.
+    /// The name of an operation.
     ///
     /// # Errors
     ///
-    /// [`Error::ForeignOperation`], [`Error::NoRoom`], and, if there is a log, [`Error::OutOfMemory`].
-    #[inline]
-    pub fn enter(&self, op: Op) -> Result<Guard<'_>, Error> {
-        self.begin(op, Limit::Never)
+    /// [`Error::ForeignOperation`].
+    pub fn name(&self, op: Op) -> Result<&str, Error> {
+        self.number(op).map(|operation| self.names.operation(operation))
     }
 
-    /// Starts an operation if the paths admit it now. Waits for no operation, but for the lock.
+    /// Starts an operation, and waits until the paths admit it. It is in progress until the guard is dropped.
+    ///
+    /// Waits for ever for what never comes, as a thread that waits for what it holds itself. All that wait stand in one line, by
+    /// [priority](Op::with_priority) and then by arrival, and whoever comes along doesn't pass those in whose way it would stand once they
+    /// have waited for the [`patience`](crate::Options::patience). Costs one lock and a look at each path that names the operation, where
+    /// nobody waits; to drop the guard costs the same. Allocates nothing, but for the text of the journal if there is a log and the journal
+    /// is full, for a place if it waits and more than 64 wait already, and more than ever before, and likewise for lists of what is in
+    /// progress where others wait.
+    ///
+    /// A task that runs on an executor never calls this, since it would hold up all tasks of its thread:
+    /// [`enter_async`](Paths::enter_async) is for tasks.
     ///
     /// # Errors
     ///
-    /// [`Error::Blocked`] if a path forbids it; else those of [`enter`](Paths::enter).
+    /// [`Error::ForeignOperation`], [`Error::Closed`], [`Error::NoRoom`] and [`Error::OutOfMemory`].
+    #[inline]
+    pub fn enter(&self, op: Op) -> Result<Guard<'_>, Error> {
+        self.begin(op, Limit::Never).map(|(start, activation)| Guard(in_progress(self, start, activation)))
+    }
+
+    /// Starts an operation if the paths admit it now, and it isn't withheld for one that waits. Waits for no operation, but for the lock.
+    ///
+    /// A refusal looks at the operations of the path, and at 64 of those in progress, to say who holds it; for that it asks for no memory.
+    ///
+    /// # Errors
+    ///
+    /// [`Error::Blocked`] if a path forbids it, or it is withheld; else those of [`enter`](Paths::enter).
     #[inline]
     pub fn try_enter(&self, op: Op) -> Result<Guard<'_>, Error> {
-        self.begin(op, Limit::Now)
+        self.begin(op, Limit::Now).map(|(start, activation)| Guard(in_progress(self, start, activation)))
     }
 
     /// Starts an operation, and waits until the paths admit it, but no longer than this time from the call.
     ///
     /// # Errors
     ///
-    /// [`Error::Blocked`] if a path still forbids it when the time is over; else those of [`enter`](Paths::enter).
+    /// [`Error::Timeout`] if a path still forbids it when the time is over, or it is withheld; else those of [`enter`](Paths::enter).
     ///
     /// ```
     /// use std::time::Duration;
@@ -225,22 +162,111 @@ impl Paths {
     ///
     /// let paths = Paths::open("resource slot cell operation deposit, remove path deposit ; remove end end")?;
     /// let refused = paths.enter_timeout(paths.op("remove")?, Duration::from_millis(10)).unwrap_err();
-    /// assert_eq!(refused, Error::Blocked { path: 0 });
-    /// assert_eq!(paths.path(0)?.as_deref(), Some("deposit; remove"));
+    /// assert!(matches!(&refused, Error::Timeout(why) if why.path() == 0));
+    /// assert_eq!(
+    ///     refused.to_string(),
+    ///     "the time is over: remove is blocked: path 0 of slot: deposit; remove; in progress: nothing of it; may begin next: deposit"
+    /// );
     /// # Ok::<(), Error>(())
     /// ```
     pub fn enter_timeout(&self, op: Op, time: Duration) -> Result<Guard<'_>, Error> {
-        let limit = match Instant::now().checked_add(time) {
-            Some(end) if !time.is_zero() => Limit::Until(end),
-            Some(_) => Limit::Now,
-            None => Limit::Never,
-        };
-        self.begin(op, limit)
+        let begun = self.begin(op, limit_in(time)).map_err(Error::in_time);
+        begun.map(|(start, activation)| Guard(in_progress(self, start, activation)))
+    }
+
+    /// As [`enter`](Paths::enter), with a guard that keeps the paths: for a thread that isn't scoped.
+    ///
+    /// ```
+    /// use std::sync::Arc;
+    /// use std::thread;
+    /// use wanzoche::Paths;
+    ///
+    /// let paths = Arc::new(Paths::open("resource book cell operation read, write path { read } , write end end")?);
+    /// let write = paths.op("write")?;
+    /// let begins = thread::spawn(move || paths.enter_owned(write));
+    /// let guard = begins.join().unwrap()?;
+    /// drop(guard); // gives the memory of the paths back, too
+    /// # Ok::<(), wanzoche::Error>(())
+    /// ```
+    ///
+    /// # Errors
+    ///
+    /// Those of [`enter`](Paths::enter).
+    #[inline]
+    pub fn enter_owned(self: &Arc<Self>, op: Op) -> Result<OwnedGuard, Error> {
+        let begun = self.begin(op, Limit::Never);
+        begun.map(|(start, activation)| OwnedGuard(in_progress(Arc::clone(self), start, activation)))
+    }
+
+    /// As [`try_enter`](Paths::try_enter), with a guard that keeps the paths.
+    ///
+    /// # Errors
+    ///
+    /// Those of [`try_enter`](Paths::try_enter).
+    #[inline]
+    pub fn try_enter_owned(self: &Arc<Self>, op: Op) -> Result<OwnedGuard, Error> {
+        let begun = self.begin(op, Limit::Now);
+        begun.map(|(start, activation)| OwnedGuard(in_progress(Arc::clone(self), start, activation)))
+    }
+
+    /// As [`enter_timeout`](Paths::enter_timeout), with a guard that keeps the paths.
+    ///
+    /// # Errors
+    ///
+    /// Those of [`enter_timeout`](Paths::enter_timeout).
+    pub fn enter_timeout_owned(self: &Arc<Self>, op: Op, time: Duration) -> Result<OwnedGuard, Error> {
+        let begun = self.begin(op, limit_in(time)).map_err(Error::in_time);
+        begun.map(|(start, activation)| OwnedGuard(in_progress(Arc::clone(self), start, activation)))
+    }
+
+    /// Starts an operation in a task, and waits until the paths admit it, without holding up the task's thread. The future is of any
+    /// runtime; nothing happens before it is polled. To drop it while it waits starts nothing, and passes its turn on.
+    ///
+    /// Where somebody has been asked to start and hasn't yet done so, a task that comes along gives way once. A poll takes the lock of the
+    /// paths, as each call does; a log is called within a poll, so let it be quick. To wait asks for memory as [`enter`](Paths::enter)
+    /// does. A task whose start is withheld is woken by a thread of the crate's own if its turn doesn't come before a door opens
+    /// ([`Options::patience`]).
+    ///
+    /// A task is known by its waker: what it has in progress doesn't run while it waits for more. Where tasks enter, what began while nobody
+    /// waited isn't known to run, so whoever comes along may pass until that is over.
+    ///
+    /// # Errors
+    ///
+    /// The future ends with those of [`enter`](Paths::enter).
+    ///
+    /// ```
+    /// # use std::future::Future;
+    /// # use std::pin::Pin;
+    /// # use std::sync::Arc;
+    /// # use std::task::{Context, Poll, Wake};
+    /// use wanzoche::Paths;
+    ///
+    /// async fn copy(paths: &Paths) -> Result<u64, wanzoche::Error> {
+    ///     let read = paths.enter_async(paths.op("read")?).await?;
+    ///     read.look()
+    /// } // the read is over here
+    /// # struct Nothing;
+    /// # impl Wake for Nothing { fn wake(self: Arc<Self>) {} }
+    /// # let paths = Paths::open("resource book cell operation read, write path { read } , write end end")?;
+    /// # let waker = Arc::new(Nothing).into();
+    /// # let polled = Box::pin(copy(&paths)).as_mut().poll(&mut Context::from_waker(&waker));
+    /// # assert_eq!(polled, Poll::Ready(Ok(0)));
+    /// # Ok::<(), wanzoche::Error>(())
+    /// ```
+    #[inline]
+    pub fn enter_async(&self, op: Op) -> Enter<'_> {
+        Enter::new(self, op)
+    }
+
+    /// As [`enter_async`](Paths::enter_async), with a future and a guard that keep the paths: for a task that is spawned.
+    #[inline]
+    pub fn enter_async_owned(self: &Arc<Self>, op: Op) -> EnterOwned {
+        EnterOwned::new(Arc::clone(self), op)
     }
 
     /// The number of an operation of these paths.
     #[inline]
-    fn number(&self, op: Op) -> Result<u32, Error> {
+    pub(crate) fn number(&self, op: Op) -> Result<u32, Error> {
         if op.of == self.id {
             Ok(op.number)
         } else {
@@ -248,212 +274,103 @@ impl Paths {
         }
     }
 
+    pub(crate) fn op_of(&self, number: u32) -> Op {
+        Op { number, priority: 0, of: self.id }
+    }
+
     #[inline]
-    fn begin(&self, op: Op, limit: Limit) -> Result<Guard<'_>, Error> {
-        let operation = self.number(op)?;
+    fn begin(&self, op: Op, limit: Limit) -> Result<(Start, u64), Error> {
+        let start = self.start_of(op)?;
+        self.monitor.enter(start, limit).map(|activation| (start, activation))
+    }
+
+    /// A start that the calling thread wants.
+    #[inline]
+    pub(crate) fn start_of(&self, op: Op) -> Result<Start, Error> {
         let worker = thread_number();
-        let activation = self.monitor.enter(Start { worker, operation, limit })?;
-        Ok(Guard { paths: self, activation, worker })
+        Ok(Start { worker, operation: self.number(op)?, priority: op.priority, who: Who::thread(worker) })
     }
 
-    /// Which path forbids an operation now; `None` if none does. It may be otherwise by the time of a call that enters. Takes no line of
-    /// the journal, and costs one lock.
-    ///
-    /// # Errors
-    ///
-    /// [`Error::ForeignOperation`].
-    pub fn blocked_by(&self, op: Op) -> Result<Option<u32>, Error> {
-        let operation = self.number(op)?;
-        let answer = self.monitor.lock().system.can_start(operation);
-        if answer.code == code::CAN_START {
-            return Ok(None);
-        }
-        match Error::of_attempt(answer) {
-            Error::Blocked { path } => Ok(Some(path)),
-            error => Err(error),
-        }
-    }
-
-    /// How many threads wait for an operation, of those that sleep: one that still gives way isn't counted.
-    ///
-    /// # Errors
-    ///
-    /// [`Error::ForeignOperation`].
-    pub fn waiting(&self, op: Op) -> Result<u32, Error> {
-        let operation = self.number(op)?;
-        Ok(self.monitor.lock().waiting(operation))
-    }
-
-    /// The text of a path, as `deposit; remove`; `None` if there is no path with this number. They count from 0 in the order of the text.
-    /// The cost is that of the whole declaration's text.
-    ///
-    /// # Errors
-    ///
-    /// [`Error::OutOfMemory`].
-    pub fn path(&self, number: u32) -> Result<Option<String>, Error> {
-        let text = self.text(Text::Declaration)?;
-        let path = usize::try_from(number).ok().and_then(|number| nth_path(&text, number));
-        path.map(own).transpose()
-    }
-
-    /// What can be started now, which path blocks what, and what is in progress: a line `startable` with operations, a line
-    /// `blocked NAME P` for each other one with the first path that forbids it, a line `live A W NAME` for each that is in progress, with
-    /// its activation and its [thread](thread_number), and `frozen yes` if nothing is in progress and nothing can ever start again, or
-    /// `frozen no`. Nothing changes. The cost is a look at each path for each operation, and others wait meanwhile.
-    ///
-    /// # Errors
-    ///
-    /// [`Error::OutOfMemory`].
-    pub fn report(&self) -> Result<String, Error> {
-        self.text(Text::Report)
-    }
-
-    /// The lines of the journal since it was last begun anew: one for each start, use and finish, and for each that was refused.
-    /// docs/journals.md of the repository has their form. The cost is that of the text, and others wait meanwhile.
-    ///
-    /// # Errors
-    ///
-    /// [`Error::NoJournal`] if no lines are kept ([`Options::without_journal`]), and [`Error::OutOfMemory`].
-    pub fn journal(&self) -> Result<String, Error> {
-        self.text(Text::Journal)
-    }
-
-    /// Hands the lines so far to the log, if there is one, and begins a new journal, as at the end of a file. Without a journal it does
-    /// nothing.
-    ///
-    /// # Errors
-    ///
-    /// [`Error::OutOfMemory`], if there is a log; then the lines stay.
-    pub fn rotate(&self) -> Result<(), Error> {
-        let told = self.monitor.lock().give_lines();
-        told_outside(told)
-    }
-
-    /// Replays a journal under the declaration of these paths, as [`audit()`](crate::audit()) does.
+    /// Admits nothing any more. Whoever waits gets [`Error::Closed`], and so does each later call that enters. What is in progress stays so
+    /// until its guard is dropped, and all else can still be asked. To close twice is to close once.
     ///
     /// ```
-    /// use wanzoche::{Paths, Verdict};
+    /// use std::thread;
+    /// use wanzoche::{Error, Paths};
     ///
-    /// let paths = Paths::open("resource till tally operation sell path sell end end")?;
-    /// paths.enter(paths.op("sell")?)?.add(5)?;
-    /// let journal = paths.journal()?;
-    /// assert!(journal.contains(" use 0 add 5: used 5\n"));
-    /// assert_eq!(paths.audit(&journal)?, Verdict::Sound);
-    /// assert_eq!(paths.audit(&journal.replace("used 5", "used 4"))?, Verdict::Wrong { index: 1 });
+    /// let paths = Paths::open("resource slot cell operation deposit, remove path deposit ; remove end end")?;
+    /// let remove = paths.op("remove")?;
+    /// thread::scope(|scope| {
+    ///     let waits = scope.spawn(|| paths.enter(remove).map(drop));
+    ///     paths.close();
+    ///     assert_eq!(waits.join().unwrap(), Err(Error::Closed));
+    /// });
+    /// assert!(paths.is_closed());
+    /// # Ok::<(), Error>(())
+    /// ```
+    pub fn close(&self) {
+        self.monitor.close();
+    }
+
+    /// Whether the paths were closed.
+    #[must_use]
+    pub fn is_closed(&self) -> bool {
+        self.monitor.lock().is_closed()
+    }
+
+    /// In how many bytes of the journal whole lines stood, behind which the paths go on ([`Options::resume`]): cut it there, and append to
+    /// it. 0 if they go on behind none.
+    #[must_use]
+    pub fn resumed(&self) -> u64 {
+        self.resumed
+    }
+
+    /// The guards of what was in progress at the end of the journal that the paths go on behind. Whoever has a guard may look at what was
+    /// left half done, and drops it then. They are given once: a second call gets none.
+    ///
+    /// ```
+    /// use wanzoche::Options;
+    ///
+    /// const BOOK: &str = "resource book cell operation read, write path { read } , write end end";
+    /// let paths = Options::new().resume(BOOK, "7 start write: started 0\n")?;
+    /// assert!(paths.try_enter(paths.op("read")?).is_err());
+    /// for guard in paths.recover()? {
+    ///     println!("{} by thread {} wasn't finished", paths.name(guard.op())?, guard.worker());
+    /// }
+    /// assert!(paths.try_enter(paths.op("read")?).is_ok());
     /// # Ok::<(), wanzoche::Error>(())
     /// ```
     ///
-    /// To audit all that happened, join what the log got and [`journal`](Paths::journal). A journal without its front may be wrong where
-    /// nothing was. The cost is that of a start, a use or a finish for each line; nobody waits for it.
-    ///
     /// # Errors
     ///
-    /// [`Error::Journal`] if the text isn't a journal, and [`Error::OutOfMemory`].
-    pub fn audit(&self, journal: &str) -> Result<Verdict, Error> {
-        audit(&self.text(Text::Declaration)?, journal)
+    /// [`Error::OutOfMemory`]; then another call gets them.
+    pub fn recover(&self) -> Result<Vec<Guard<'_>>, Error> {
+        let mut guards = Vec::new();
+        let mut state = self.monitor.lock();
+        guards.try_reserve_exact(state.lost.len()).map_err(|_| Error::OutOfMemory)?;
+        let lost = std::mem::take(&mut state.lost);
+        drop(state);
+        guards.extend(lost.iter().map(|each| Guard(InProgress::new(self, each.number, each.worker, each.operation))));
+        Ok(guards)
     }
+}
 
-    fn text(&self, which: Text) -> Result<String, Error> {
-        self.monitor.lock().system.text(which)
+#[inline]
+fn in_progress<P: std::ops::Deref<Target = Paths>>(paths: P, start: Start, activation: u64) -> InProgress<P> {
+    InProgress::new(paths, activation, start.worker, start.operation)
+}
+
+/// Until when a thread waits that begins now.
+fn limit_in(time: Duration) -> Limit {
+    match Instant::now().checked_add(time) {
+        Some(end) if !time.is_zero() => Limit::Until(end),
+        Some(_) => Limit::Now,
+        None => Limit::Never,
     }
 }
 
 impl fmt::Debug for Paths {
     fn fmt(&self, to: &mut fmt::Formatter<'_>) -> fmt::Result {
         to.debug_struct("Paths").finish_non_exhaustive()
-    }
-}
-
-/// What stands between the word `path` with this number and the next word `end`, in a declaration as the library writes it.
-fn nth_path(declaration: &str, number: usize) -> Option<&str> {
-    let behind = declaration.split(" path ").nth(number.checked_add(1)?)?;
-    let ends_word = |at: &usize| behind[at + 4..].chars().next().map_or(true, |next| next.is_ascii_whitespace());
-    let end = behind.match_indices(" end").map(|(at, _)| at).find(ends_word)?;
-    Some(&behind[..end])
-}
-
-/// A copy of a text, or [`Error::OutOfMemory`].
-fn own(text: &str) -> Result<String, Error> {
-    let mut copy = String::new();
-    copy.try_reserve_exact(text.len()).map_err(|_| Error::OutOfMemory)?;
-    copy.push_str(text);
-    Ok(copy)
-}
-
-/// An operation in progress. It is finished when the guard is dropped, also by a panic.
-///
-/// Any thread may use and drop it: a guard is `Send` and `Sync`, since the library doesn't ask which thread finishes, and whoever takes
-/// over a piece of work takes over its guard. The report and the journal go on naming the thread that began it. A guard that is
-/// forgotten (`std::mem::forget`) leaves its operation in progress for ever.
-#[must_use = "the operation is over when the guard is dropped"]
-pub struct Guard<'a> {
-    paths: &'a Paths,
-    activation: u64,
-    worker: u32,
-}
-
-impl Guard<'_> {
-    /// The number of this operation in the journal and in reports. They count from 0.
-    pub fn activation(&self) -> u64 {
-        self.activation
-    }
-
-    /// Puts a number into the resource's cell or queue: returns the cell's number before, or how many the queue has now.
-    ///
-    /// # Errors
-    ///
-    /// [`Error::Full`] and [`Error::NotOffered`]; [`Error::NoRoom`], and, if there is a log, [`Error::OutOfMemory`]. Nothing changed
-    /// in the device then.
-    pub fn put(&self, number: u64) -> Result<u64, Error> {
-        self.use_device(Verb::Put, number)
-    }
-
-    /// Takes the first number out of the resource's queue, and returns it.
-    ///
-    /// # Errors
-    ///
-    /// [`Error::Empty`], and those of [`put`](Guard::put) but `Full`.
-    pub fn take(&self) -> Result<u64, Error> {
-        self.use_device(Verb::Take, 0)
-    }
-
-    /// The number in the resource's cell or tally, or the first of its queue, which stays.
-    ///
-    /// # Errors
-    ///
-    /// [`Error::Empty`], and those of [`put`](Guard::put) but `Full`.
-    pub fn look(&self) -> Result<u64, Error> {
-        self.use_device(Verb::Look, 0)
-    }
-
-    /// Adds to the resource's tally, and returns the new total.
-    ///
-    /// # Errors
-    ///
-    /// [`Error::Overflow`], and those of [`put`](Guard::put) but `Full`.
-    pub fn add(&self, number: u64) -> Result<u64, Error> {
-        self.use_device(Verb::Add, number)
-    }
-
-    fn use_device(&self, verb: Verb, number: u64) -> Result<u64, Error> {
-        let told = self.paths.monitor.lock().attempt(|system| system.use_device(self.worker, self.activation, verb, number));
-        let answer = told_outside(told)?;
-        match answer.code {
-            code::USED => Ok(answer.number),
-            _ => Err(Error::of_attempt(answer)),
-        }
-    }
-}
-
-impl Drop for Guard<'_> {
-    #[inline]
-    fn drop(&mut self) {
-        self.paths.monitor.leave(self.worker, self.activation);
-    }
-}
-
-impl fmt::Debug for Guard<'_> {
-    fn fmt(&self, to: &mut fmt::Formatter<'_>) -> fmt::Result {
-        to.debug_struct("Guard").field("activation", &self.activation).field("worker", &self.worker).finish()
     }
 }

@@ -24,8 +24,30 @@ pub(crate) struct Answer {
     pub(crate) number: u64,
 }
 
+/// The struct `wanzoche_activation`: an operation in progress.
+#[repr(C)]
+#[derive(Clone, Copy, Debug, Default)]
+pub(crate) struct Activation {
+    pub(crate) number: u64,
+    pub(crate) worker: u32,
+    pub(crate) operation: u32,
+}
+
+/// The struct `wanzoche_waiter`: one that waits, and for whom others are kept from starting.
+#[repr(C)]
+#[derive(Clone, Copy, Debug, PartialEq, Eq)]
+pub(crate) struct InLine {
+    pub(crate) operation: u32,
+    pub(crate) priority: u32,
+    /// When it came, in nanoseconds since the paths were opened.
+    pub(crate) arrived: u64,
+    /// Starts of those that came later than this are withheld for it; `u64::MAX`: of nobody.
+    pub(crate) shut_at: u64,
+}
+
 /// The codes of answers that this crate tells apart, as wanzoche.h has them.
 pub(crate) mod code {
+    pub(crate) const CLOSED: u32 = 0;
     pub(crate) const STARTED: u32 = 1;
     pub(crate) const BLOCKED: u32 = 2;
     pub(crate) const USED: u32 = 4;
@@ -49,6 +71,16 @@ pub(crate) mod code {
     pub(crate) const TOO_LONG: u32 = 32;
     pub(crate) const BAD_BYTE: u32 = 33;
     pub(crate) const TOO_MANY: u32 = 45;
+    pub(crate) const ALL_DONE: u32 = 47;
+    pub(crate) const STALLS: u32 = 48;
+    pub(crate) const REFUSED: u32 = 49;
+    pub(crate) const UNDECIDED: u32 = 50;
+    pub(crate) const SCRIPT_TOO_LONG: u32 = 51;
+    pub(crate) const SCRIPT_BAD_LINE: u32 = 52;
+    pub(crate) const SCRIPT_TOO_MANY: u32 = 56;
+    pub(crate) const WITHHELD: u32 = 57;
+    pub(crate) const NEXT: u32 = 58;
+    pub(crate) const NOBODY: u32 = 59;
 }
 
 /// What a use does to the device of a resource: the verbs of wanzoche.h.
@@ -71,14 +103,45 @@ extern "C" {
         message: *mut c_char,
         size: usize,
     ) -> Answer;
+    fn wanzoche_resume(
+        handle: *mut Handle,
+        text: *const c_char,
+        length: usize,
+        room: u32,
+        journal: *const c_char,
+        journal_length: usize,
+        message: *mut c_char,
+        size: usize,
+    ) -> Answer;
+    fn wanzoche_resume_without_journal(
+        handle: *mut Handle,
+        text: *const c_char,
+        length: usize,
+        room: u32,
+        journal: *const c_char,
+        journal_length: usize,
+        message: *mut c_char,
+        size: usize,
+    ) -> Answer;
     fn wanzoche_close(handle: *mut Handle);
     fn wanzoche_operation(handle: *mut Handle, name: *const c_char, length: usize) -> i64;
     fn wanzoche_start(handle: *mut Handle, worker: u32, operation: u32) -> Answer;
     fn wanzoche_use(handle: *mut Handle, worker: u32, activation: u64, verb: u32, number: u64) -> Answer;
     fn wanzoche_finish(handle: *mut Handle, worker: u32, activation: u64) -> Answer;
     fn wanzoche_can_start(handle: *mut Handle, operation: u32) -> Answer;
+    fn wanzoche_may_start(
+        handle: *mut Handle,
+        operation: u32,
+        priority: u32,
+        arrived: u64,
+        waiting: *const InLine,
+        waiters: usize,
+        running: *const u32,
+        count: usize,
+    ) -> Answer;
+    fn wanzoche_next(handle: *mut Handle, waiting: *const InLine, waiters: usize, running: *const u32, count: usize) -> Answer;
     fn wanzoche_lines(handle: *mut Handle) -> usize;
-    fn wanzoche_operations(handle: *mut Handle) -> u32;
+    fn wanzoche_list_live(handle: *mut Handle, list: *mut Activation, capacity: u32) -> u32;
     fn wanzoche_journal(handle: *mut Handle, buffer: *mut c_char, size: usize) -> Answer;
     fn wanzoche_report(handle: *mut Handle, buffer: *mut c_char, size: usize) -> Answer;
     fn wanzoche_declaration(handle: *mut Handle, buffer: *mut c_char, size: usize) -> Answer;
@@ -89,6 +152,17 @@ extern "C" {
         room: u32,
         journal: *const c_char,
         journal_length: usize,
+        message: *mut c_char,
+        size: usize,
+    ) -> Answer;
+    fn wanzoche_explore(
+        declaration: *const c_char,
+        length: usize,
+        script: *const c_char,
+        script_length: usize,
+        most: u32,
+        journal: *mut c_char,
+        journal_size: usize,
         message: *mut c_char,
         size: usize,
     ) -> Answer;
@@ -128,6 +202,20 @@ impl System {
         }
     }
 
+    /// Opens a system that goes on behind the lines of a journal, and says in how many of its bytes whole lines stand.
+    pub(crate) fn resume(text: &str, journal: &str, room: u32, keeps: bool) -> Result<(System, u64), Answer> {
+        let mut system = System { handle: Handle { at: ptr::null_mut(), live: false } };
+        let call = if keeps { wanzoche_resume } else { wanzoche_resume_without_journal };
+        let (at, lines) = (text.as_ptr().cast(), journal.as_ptr().cast());
+        // SAFETY: the handle is closed, and the call's alone. Both texts have as many bytes as the call is told, which it only reads and
+        // doesn't keep. A null message is allowed.
+        let answer = unsafe { call(&mut system.handle, at, text.len(), room, lines, journal.len(), ptr::null_mut(), 0) };
+        match answer.code {
+            code::OPENED => Ok((system, answer.number)),
+            _ => Err(answer),
+        }
+    }
+
     /// The number of the operation with this name.
     pub(crate) fn operation(&mut self, name: &str) -> Option<u32> {
         // SAFETY: the handle is this call's alone, and the name is `name.len()` bytes, which the call only reads and doesn't keep.
@@ -135,10 +223,11 @@ impl System {
         u32::try_from(number).ok()
     }
 
-    /// How many operations are declared.
-    pub(crate) fn operations(&mut self) -> u32 {
-        // SAFETY: the handle is this call's alone.
-        unsafe { wanzoche_operations(&mut self.handle) }
+    /// Writes what is in progress to a list, in the order of the starts, as far as it has place, and says how much there is.
+    pub(crate) fn list_live(&mut self, list: &mut [Activation]) -> u32 {
+        let capacity = u32::try_from(list.len()).unwrap_or(u32::MAX);
+        // SAFETY: the handle is this call's alone, and the list has at least as many places as the call is told.
+        unsafe { wanzoche_list_live(&mut self.handle, list.as_mut_ptr(), capacity) }
     }
 
     /// Tries to start an operation for a worker.
@@ -165,6 +254,21 @@ impl System {
     pub(crate) fn can_start(&mut self, operation: u32) -> Answer {
         // SAFETY: the handle is this call's alone. Each number is allowed.
         unsafe { wanzoche_can_start(&mut self.handle, operation) }
+    }
+
+    /// Whether a start of one that comes behind these may go now, where so much runs.
+    pub(crate) fn may_start(&mut self, one: InLine, before: &[InLine], running: &[u32]) -> Answer {
+        let InLine { operation, priority, arrived, .. } = one;
+        let (waiting, operations) = (before.as_ptr(), running.as_ptr());
+        // SAFETY: the handle is this call's alone, and both lists have as many places as the call is told. It only reads them, and doesn't
+        // keep them. Each number is allowed.
+        unsafe { wanzoche_may_start(&mut self.handle, operation, priority, arrived, waiting, before.len(), operations, running.len()) }
+    }
+
+    /// Which of those that wait comes next, where so much runs.
+    pub(crate) fn next(&mut self, waiting: &[InLine], running: &[u32]) -> Answer {
+        // SAFETY: as above.
+        unsafe { wanzoche_next(&mut self.handle, waiting.as_ptr(), waiting.len(), running.as_ptr(), running.len()) }
     }
 
     /// How many lines the journal has.
@@ -201,9 +305,7 @@ impl System {
         if answer.code != code::WRITTEN {
             return Err(Error::OutOfMemory);
         }
-        buffer.truncate(length);
-        // The texts are ASCII, so nothing is lost.
-        Ok(String::from_utf8(buffer).unwrap_or_else(|not| String::from_utf8_lossy(not.as_bytes()).into_owned()))
+        Ok(text_in(buffer))
     }
 }
 
@@ -227,6 +329,32 @@ pub(crate) fn audit(declaration: &str, room: u32, journal: &str) -> Answer {
     let (text, lines) = (declaration.as_ptr().cast(), journal.as_ptr().cast());
     // SAFETY: both texts have as many bytes as the call is told. It only reads them, and doesn't keep them. A null message is allowed.
     unsafe { wanzoche_audit(text, declaration.len(), room, lines, journal.len(), ptr::null_mut(), 0) }
+}
+
+/// The room for the lines of processes that is enough for each message.
+const STANDINGS: usize = 1280;
+
+/// Looks at the schedules of a script. The answer says what all come to; the texts are the journal and the processes of one that goes wrong.
+pub(crate) fn explore(declaration: &str, script: &str, most: u32) -> Result<(Answer, String, String), Error> {
+    let (text, steps) = (declaration.as_ptr().cast(), script.as_ptr().cast());
+    let call = |journal: &mut [u8], message: &mut [u8]| {
+        let (lines, said) = (journal.as_mut_ptr().cast(), message.as_mut_ptr().cast());
+        // SAFETY: all four have as many bytes as the call is told, and lie apart. It only reads the first two, and doesn't keep them.
+        unsafe { wanzoche_explore(text, declaration.len(), steps, script.len(), most, lines, journal.len(), said, message.len()) }
+    };
+    let mut message = zeroes(STANDINGS)?;
+    let asked = call(&mut [], &mut message);
+    let enough = if asked.code == code::TOO_SMALL { asked.number.saturating_add(1) } else { 0 };
+    let mut journal = zeroes(usize::try_from(enough).map_err(|_| Error::OutOfMemory)?)?;
+    let answer = call(&mut journal, &mut message);
+    Ok((answer, text_in(journal), text_in(message)))
+}
+
+/// The text in a buffer, up to its zero byte. The library's texts are ASCII.
+fn text_in(mut buffer: Vec<u8>) -> String {
+    let length = buffer.iter().position(|byte| *byte == 0).unwrap_or(0);
+    buffer.truncate(length);
+    String::from_utf8(buffer).unwrap_or_default()
 }
 
 /// A code in words.

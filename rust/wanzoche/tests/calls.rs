@@ -1,20 +1,14 @@
 //! What each call answers, in one thread.
 
 use std::panic::{RefUnwindSafe, UnwindSafe};
-use std::sync::{Arc, Mutex};
+
 use std::time::Duration;
 
-use wanzoche::{audit, library_version, thread_number, Error, Guard, Log, Op, Options, Paths, Verdict, MOST_LINES};
+use common::{forbade, forbids, kept, BOOK, SLOT};
+use wanzoche::{audit, library_version, thread_number, Blocked, Enter, EnterOwned, Error, Explored, Guard, Op, Options, OwnedGuard, Paths};
+use wanzoche::{Verdict, MOST_LINES};
 
-const SLOT: &str = "resource slot cell operation deposit, remove path deposit ; remove end end";
-const BOOK: &str = "resource book cell operation read, write path { read } , write end end";
-
-/// A log that keeps its lines, and where it keeps them.
-fn kept() -> (Log, Arc<Mutex<String>>) {
-    let lines = Arc::new(Mutex::new(String::new()));
-    let own = Arc::clone(&lines);
-    (Box::new(move |more: &str| own.lock().unwrap().push_str(more)), lines)
-}
+mod common;
 
 #[test]
 fn library_is_of_this_version() {
@@ -27,6 +21,11 @@ fn types_may_be_shared_and_sent() {
     fn sent<T: Send>() {}
     shared::<Paths>();
     shared::<Guard<'static>>();
+    shared::<OwnedGuard>();
+    shared::<Enter<'static>>();
+    shared::<EnterOwned>();
+    shared::<Blocked>();
+    shared::<Explored>();
     shared::<Op>();
     shared::<Error>();
     shared::<Verdict>();
@@ -104,13 +103,13 @@ fn threads_have_numbers() {
 fn a_path_forbids_until_the_guard_is_dropped() {
     let paths = Paths::open(SLOT).unwrap();
     let (deposit, remove) = (paths.op("deposit").unwrap(), paths.op("remove").unwrap());
-    assert_eq!(paths.try_enter(remove).unwrap_err(), Error::Blocked { path: 0 });
+    assert_eq!(forbids(paths.try_enter(remove)), 0);
     assert_eq!(paths.blocked_by(remove), Ok(Some(0)));
     assert_eq!(paths.blocked_by(deposit), Ok(None));
     let guard = paths.enter(deposit).unwrap();
     assert_eq!(guard.activation(), 0);
-    assert_eq!(paths.try_enter(deposit).unwrap_err(), Error::Blocked { path: 0 });
-    assert_eq!(paths.try_enter(remove).unwrap_err(), Error::Blocked { path: 0 });
+    assert_eq!(forbids(paths.try_enter(deposit)), 0);
+    assert_eq!(forbids(paths.try_enter(remove)), 0);
     drop(guard);
     assert_eq!(paths.enter(remove).unwrap().activation(), 1);
     let me = thread_number();
@@ -208,9 +207,9 @@ fn a_forgotten_guard_leaves_its_operation_in_progress() {
     let paths = Paths::open(BOOK).unwrap();
     let (read, write) = (paths.op("read").unwrap(), paths.op("write").unwrap());
     std::mem::forget(paths.enter(read).unwrap());
-    assert_eq!(paths.try_enter(write).unwrap_err(), Error::Blocked { path: 0 });
+    assert_eq!(forbids(paths.try_enter(write)), 0);
     drop(paths.enter(read).unwrap());
-    assert_eq!(paths.enter_timeout(write, Duration::from_millis(1)).unwrap_err(), Error::Blocked { path: 0 });
+    assert_eq!(forbade(paths.enter_timeout(write, Duration::from_millis(1))), 0);
     drop(paths);
 }
 
@@ -279,7 +278,7 @@ fn without_a_journal_all_else_is_the_same() {
         for n in 0..100 {
             let guard = each.enter(ops[n % 2]).unwrap();
             assert_eq!((guard.activation(), guard.look()), (n as u64, Ok(n.saturating_sub(1) as u64 / 2)));
-            assert_eq!(each.try_enter(ops[n % 2]).unwrap_err(), Error::Blocked { path: 0 });
+            assert_eq!(forbids(each.try_enter(ops[n % 2])), 0);
             if n % 2 == 0 {
                 assert_eq!(guard.put(n as u64 / 2), Ok((n as u64 / 2).saturating_sub(1)));
             }
@@ -330,7 +329,9 @@ fn each_error_says_what_it_is() {
     let texts = [
         (Error::BadRoom, "the room is 1 to 1048576 lines"),
         (Error::ForeignOperation, "the operation was resolved by other paths"),
-        (Error::Blocked { path: 2 }, "path 2 forbids the operation"),
+        (Error::Closed, "the paths are closed"),
+        (Error::WrongLine { index: 3 }, "journal: wrong line 3"),
+        (Error::Script { fault: "bad line in script", line: 3 }, "bad line in script, line 3"),
         (Error::NoRoom, "there is no room for more in progress"),
         (Error::NoJournal, "the paths were opened without a journal"),
         (Error::OutOfMemory, "out of memory"),
@@ -352,7 +353,7 @@ fn debug_texts_are_short() {
     let guard = paths.enter(paths.op("deposit").unwrap()).unwrap();
     assert_eq!(format!("{paths:?}"), "Paths { .. }");
     assert_eq!(format!("{guard:?}"), format!("Guard {{ activation: 0, worker: {} }}", thread_number()));
-    assert_eq!(format!("{:?}", Options::new()), "Options { room: 4096, yields: 30, has_log: false, journal: true }");
+    assert_eq!(format!("{:?}", Options::new()), "Options { room: 4096, yields: 30, patience: 5ms, has_log: false, journal: true }");
 }
 
 /// Runs the next test in a process that gets too little memory for the largest room.

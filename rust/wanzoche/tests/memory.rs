@@ -7,7 +7,10 @@ use std::alloc::{GlobalAlloc, Layout, System};
 use std::cell::Cell;
 use std::ptr;
 
-use wanzoche::{Error, Options, Paths};
+use common::tasks::Polled;
+use wanzoche::{Enter, Error, Options, Paths};
+
+mod common;
 
 /// Counts the requests of each thread, and refuses one of them.
 struct Counting;
@@ -90,6 +93,7 @@ fn turns_ask_for_no_memory() {
             guard.look().unwrap();
             guard.take().unwrap();
             assert_eq!(paths.blocked_by(read), Ok(Some(0)));
+            assert!(paths.why(read).unwrap().is_some());
             assert_eq!(paths.waiting(read), Ok(0));
             paths.rotate().unwrap();
         }
@@ -103,15 +107,46 @@ fn want_of_memory_is_an_error() {
     let paths = Options::new().room(64).log(Box::new(|_| ())).open(BOOK).unwrap();
     let write = paths.op("write").unwrap();
     drop(paths.enter(write).unwrap());
-    assert!(refuse_each(|| Paths::open(BOOK)) >= 2);
+    assert_eq!(refuse_each(|| Paths::open(BOOK)), 11);
+    let resumes = || Options::new().resume(BOOK, "9 start read: started 0\n");
+    assert_eq!(refuse_each(resumes), 12);
+    let behind = resumes().unwrap();
+    assert_eq!(refuse_each(|| behind.recover()), 1);
+    assert_eq!(refuse_each(|| wanzoche::explore(BOOK, "process p\nenter read\nleave\nend\n", 100)), 2);
     assert_eq!(refuse_each(|| paths.op("rite")), 1);
     assert_eq!(refuse_each(|| paths.op("write")), 0);
     assert_eq!(refuse_each(|| paths.report()), 1);
     assert_eq!(refuse_each(|| paths.journal()), 1);
-    assert_eq!(refuse_each(|| paths.path(0)), 2);
-    assert_eq!(refuse_each(|| paths.audit("")), 1);
+    assert_eq!(refuse_each(|| paths.path(0)), 1);
+    assert_eq!(refuse_each(|| paths.audit("")), 0);
     assert_eq!(refuse_each(|| wanzoche::audit(BOOK, "")), 0);
     assert_eq!(refuse_each(|| paths.rotate()), 1);
+}
+
+/// A task that waits takes a place, and places are kept: only where more wait than ever before is memory asked for. Whoever gets none then
+/// has an error, and all others their turn.
+#[test]
+fn places_are_kept() {
+    let paths = Options::new().open(BOOK).unwrap();
+    let write = paths.op("write").unwrap();
+    let tasks = || -> Vec<Polled<Enter<'_>>> { (0..200).map(|_| Polled::new(paths.enter_async(write))).collect() };
+    let guard = paths.enter(write).unwrap();
+    let mut early = tasks();
+    assert_eq!(asked(|| assert!(early[..64].iter_mut().all(Polled::is_pending))), 0);
+    REFUSED.with(|refused| refused.set(ASKED.with(Cell::get)));
+    let refused = early.remove(64).ready().map(drop);
+    REFUSED.with(|refused| refused.set(u64::MAX));
+    assert_eq!((refused, paths.waiting(write)), (Err(Error::OutOfMemory), Ok(64)));
+    assert!(asked(|| assert!(early.iter_mut().all(Polled::is_pending))) > 0);
+    drop(guard);
+    assert!(early.iter_mut().all(|task| task.ready().is_ok()));
+    let guard = paths.enter(write).unwrap();
+    let mut late = tasks();
+    late.truncate(early.len());
+    assert_eq!(asked(|| assert!(late.iter_mut().all(Polled::is_pending))), 0);
+    drop(guard);
+    assert_eq!(asked(|| assert!(late.iter_mut().all(|task| task.ready().is_ok()))), 0);
+    assert_eq!(paths.waiting(write), Ok(0));
 }
 
 /// With a log, a start in a full journal may lack the memory for its text. It starts nothing then, and may be tried again.

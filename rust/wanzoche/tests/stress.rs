@@ -1,37 +1,21 @@
 //! Many threads at once. A witness of its own, of atomic counters that the paths know nothing of, sees who is inside with whom; afterwards
 //! the log is audited.
 
-use std::collections::hash_map::RandomState;
-use std::hash::{BuildHasher, Hasher};
 use std::panic::{catch_unwind, AssertUnwindSafe};
 use std::sync::atomic::{AtomicI64, AtomicU64, Ordering::SeqCst};
 use std::sync::{Arc, Mutex};
 use std::thread;
 use std::time::Duration;
 
-use wanzoche::{Error, Op, Options, Paths, Verdict};
+use common::random::Random;
+use wanzoche::{Error, Op, Options, Paths, Verdict, USUAL_PATIENCE};
+
+mod common;
 
 const THREADS: usize = 12;
 /// How much is done: 1, or what WANZOCHE_STRESS says.
 fn times() -> usize {
     std::env::var("WANZOCHE_STRESS").ok().and_then(|word| word.parse().ok()).unwrap_or(1)
-}
-
-/// Numbers at random.
-struct Random(u64);
-
-impl Random {
-    fn new() -> Random {
-        Random(RandomState::new().build_hasher().finish() | 1)
-    }
-
-    /// A number below this one.
-    fn below(&mut self, end: u64) -> u64 {
-        self.0 ^= self.0 << 13;
-        self.0 ^= self.0 >> 7;
-        self.0 ^= self.0 << 17;
-        self.0 % end
-    }
 }
 
 /// Who is inside, and what shouldn't have been.
@@ -81,7 +65,7 @@ fn visit(paths: &Paths, op: Op, random: &mut Random, body: impl FnOnce()) -> boo
     let guard = match guard {
         Ok(guard) => guard,
         Err(error) => {
-            assert_eq!(error, Error::Blocked { path: 0 });
+            assert!(matches!(error, Error::Blocked(_) | Error::Timeout(_)), "{error}");
             return false;
         }
     };
@@ -124,12 +108,12 @@ fn visits(paths: &Paths, witness: &Witness, rounds: usize) -> u64 {
 
 #[test]
 fn queries_and_backups_keep_apart() {
-    for yields in [0, 30] {
+    for (yields, patience) in [(0, Duration::ZERO), (0, USUAL_PATIENCE), (30, USUAL_PATIENCE)] {
         let log = Arc::new(Mutex::new(String::new()));
         let own = Arc::clone(&log);
         let text = "resource pool cell operation query, backup path { query : 3 } , backup end end";
         let keeps = Box::new(move |lines: &str| own.lock().unwrap().push_str(lines));
-        let paths = Options::new().room(1000).yields(yields).log(keeps).open(text).unwrap();
+        let paths = Options::new().room(1000).yields(yields).patience(patience).log(keeps).open(text).unwrap();
         let witness = Witness::default();
         let came_in: u64 = thread::scope(|scope| {
             let threads: Vec<_> = (0..THREADS).map(|_| scope.spawn(|| visits(&paths, &witness, 5000 * times()))).collect();
@@ -156,8 +140,8 @@ fn a_buffer_loses_nothing() {
         got: AtomicU64,
     }
     let text = "resource buffer cell operation put, get path { put ; get : 4 } end path put end path get end end";
-    for yields in [0, 30] {
-        let paths = Options::new().yields(yields).open(text).unwrap();
+    for (yields, patience) in [(0, Duration::ZERO), (0, USUAL_PATIENCE), (30, USUAL_PATIENCE)] {
+        let paths = Options::new().yields(yields).patience(patience).open(text).unwrap();
         let (put, get) = (paths.op("put").unwrap(), paths.op("get").unwrap());
         let buffer = Buffer { places: Default::default(), put: AtomicU64::new(0), got: AtomicU64::new(0) };
         let each = 5000 * times() as u64;

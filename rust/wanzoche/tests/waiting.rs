@@ -7,43 +7,22 @@ use std::sync::{mpsc, Arc, Barrier};
 use std::thread;
 use std::time::{Duration, Instant};
 
-use wanzoche::{Error, Guard, Op, Options, Paths, Verdict};
+use common::{forbade, is_idle, open, until_waiting, BOOK, SLOT};
+use wanzoche::{Guard, Op, Options, Paths, Verdict};
 
-const SLOT: &str = "resource slot cell operation deposit, remove path deposit ; remove end end";
-const BOOK: &str = "resource book cell operation read, write path { read } , write end end";
-
-/// Paths whose threads sleep at once, or give way first, with two operations of theirs.
-fn open(text: &str, yields: u32, names: [&str; 2]) -> (Paths, Op, Op) {
-    let paths = Options::new().yields(yields).open(text).unwrap();
-    let [first, second] = names.map(|name| paths.op(name).unwrap());
-    (paths, first, second)
-}
-
-/// Waits until so many threads sleep for an operation. Ends the test after a minute, since then a thread is where it shouldn't be.
-fn until_waiting(paths: &Paths, op: Op, number: u32) {
-    let begun = Instant::now();
-    while paths.waiting(op).unwrap() != number {
-        assert!(begun.elapsed() < Duration::from_secs(60), "{} wait, not {number}", paths.waiting(op).unwrap());
-        thread::sleep(Duration::from_micros(200));
-    }
-}
-
-/// Whether nothing is in progress.
-fn is_idle(paths: &Paths) -> bool {
-    !paths.report().unwrap().contains("live")
-}
+mod common;
 
 #[test]
 fn a_time_limit_is_kept() {
     for yields in [0, 30] {
         let (paths, deposit, remove) = open(SLOT, yields, ["deposit", "remove"]);
         let begun = Instant::now();
-        assert_eq!(paths.enter_timeout(remove, Duration::from_millis(50)).unwrap_err(), Error::Blocked { path: 0 });
+        assert_eq!(forbade(paths.enter_timeout(remove, Duration::from_millis(50))), 0);
         assert!(begun.elapsed() >= Duration::from_millis(50));
         assert_eq!(paths.waiting(remove), Ok(0));
         // No time is to try: it takes one line, and nobody sleeps.
         let lines = paths.journal().unwrap().lines().count();
-        assert_eq!(paths.enter_timeout(remove, Duration::ZERO).unwrap_err(), Error::Blocked { path: 0 });
+        assert_eq!(forbade(paths.enter_timeout(remove, Duration::ZERO)), 0);
         assert_eq!(paths.journal().unwrap().lines().count(), lines + 1);
         // A time that no clock reaches is none.
         drop(paths.enter_timeout(deposit, Duration::MAX).unwrap());
@@ -198,9 +177,9 @@ fn a_thread_may_die_with_its_operation() {
             panic!("dies");
         });
         assert!(dies.join().is_err());
-        let waits = scope.spawn(|| paths.enter_timeout(write, Duration::from_millis(30)).map(drop));
+        let waits = scope.spawn(|| forbade(paths.enter_timeout(write, Duration::from_millis(30))));
         drop(paths.enter(read).unwrap());
-        assert_eq!(waits.join().unwrap(), Err(Error::Blocked { path: 0 }));
+        assert_eq!(waits.join().unwrap(), 0);
     });
     assert_eq!(paths.report().unwrap().matches("live").count(), 1);
 }
@@ -322,5 +301,5 @@ fn a_thread_gives_way_before_it_sleeps() {
         drop(paths.enter(deposit).unwrap());
         waits.join().unwrap();
     });
-    assert_eq!(paths.enter_timeout(remove, Duration::from_millis(5)).unwrap_err(), Error::Blocked { path: 0 });
+    assert_eq!(forbade(paths.enter_timeout(remove, Duration::from_millis(5))), 0);
 }

@@ -61,13 +61,8 @@ pub(crate) const LINES: [Line; 8] = [
 ];
 
 /// The store in this file, with room for 7 lines.
-pub(crate) fn opened(
-    rt: &impl Abort,
-    heap: Global,
-    decl: &Decl,
-    file: MemoryFile,
-) -> Opened<MemoryFile> {
-    match Store::open(heap, decl, 7, file) {
+pub(crate) fn opened(rt: &impl Abort, heap: Global, file: MemoryFile) -> Opened<MemoryFile> {
+    match Store::open(heap, slot(rt, heap), 7, file) {
         Ok(opened) => opened,
         Err((fault, _file)) => panic!(rt; "it isn't opened: {fault:?}"),
     }

@@ -1,7 +1,6 @@
 //! Stores over files of the operating system.
 
 use crate::tests::declaration::{LINES, slot};
-use path_decl::Decl;
 use path_file::{FileDevice, FileFault};
 use path_store::{Opened, Store};
 use std::fs::File;
@@ -19,13 +18,9 @@ fn path<R: Env + AllocGlobal + Abort>(rt: &R, id: u32, name: &str) -> String {
 }
 
 // The store in the file at a path.
-fn opened<R: Files<File = File> + AllocGlobal + Abort>(
-    rt: &R,
-    decl: &Decl,
-    path: &str,
-) -> Opened<FileDevice> {
+fn opened<R: Files<File = File> + AllocGlobal + Abort>(rt: &R, path: &str) -> Opened<FileDevice> {
     let file = FileDevice::open(rt, path).expect(rt, "the file is opened");
-    match Store::open(rt.alloc(), decl, 7, file) {
+    match Store::open(rt.alloc(), slot(rt, rt.alloc()), 7, file) {
         Ok(opened) => opened,
         Err((fault, _file)) => panic!(rt; "it isn't opened: {fault:?}"),
     }
@@ -33,12 +28,9 @@ fn opened<R: Files<File = File> + AllocGlobal + Abort>(
 
 #[test]
 fn a_file_has_what_was_written(rt: HostRuntime) {
-    let decl = slot(&rt, rt.alloc());
     let path = path(&rt, process::id(rt.process()), "written");
-    let mut store = opened(&rt, &decl, path.as_str()).store;
-    store
-        .commit(&decl, &LINES[..3])
-        .expect(&rt, "they are written");
+    let mut store = opened(&rt, path.as_str()).store;
+    store.commit(&LINES[..3]).expect(&rt, "they are written");
     drop(store);
     let text = fs::read(&rt, path.as_str()).expect(&rt, "it is read");
     fs::remove_file(&rt, path.as_str()).expect(&rt, "it is removed");
@@ -47,9 +39,8 @@ fn a_file_has_what_was_written(rt: HostRuntime) {
 
 #[test]
 fn a_file_is_open_once(rt: HostRuntime) {
-    let decl = slot(&rt, rt.alloc());
     let path = path(&rt, process::id(rt.process()), "once");
-    let store = opened(&rt, &decl, path.as_str()).store;
+    let store = opened(&rt, path.as_str()).store;
     let second = FileDevice::open(&rt, path.as_str());
     let is_refused = matches!(second, Err(FileFault::InUse));
     drop(store);
@@ -62,10 +53,9 @@ fn a_file_is_open_once(rt: HostRuntime) {
 
 #[test]
 fn a_torn_end_is_cut_off(rt: HostRuntime) {
-    let decl = slot(&rt, rt.alloc());
     let path = path(&rt, process::id(rt.process()), "torn");
     fs::write(&rt, path.as_str(), &TEXT[..80]).expect(&rt, "it is written");
-    let opened = opened(&rt, &decl, path.as_str());
+    let opened = opened(&rt, path.as_str());
     assert_eq!(rt; opened.lines.as_slice(), &LINES[..2]);
     assert_eq!(rt; opened.cut, 9);
     drop(opened);
@@ -77,14 +67,13 @@ fn a_torn_end_is_cut_off(rt: HostRuntime) {
 /// A file that takes several reads.
 #[test]
 fn a_long_file_is_read_whole(rt: HostRuntime) {
-    let decl = slot(&rt, rt.alloc());
     let path = path(&rt, process::id(rt.process()), "long");
     let mut text = TEXT[..17].to_vec(rt.alloc()).expect(&rt, "memory");
     for _ in 0..3000u32 {
         text.extend_from_slice(&TEXT[17..44]).expect(&rt, "memory");
     }
     fs::write(&rt, path.as_str(), text.as_slice()).expect(&rt, "it is written");
-    let opened = opened(&rt, &decl, path.as_str());
+    let opened = opened(&rt, path.as_str());
     let (lines, cut) = (opened.lines.len(), opened.cut);
     drop(opened);
     fs::remove_file(&rt, path.as_str()).expect(&rt, "it is removed");

@@ -21,15 +21,12 @@ fn empty(heap: Global) -> MemoryFile {
 #[test]
 fn lines_stand_in_the_file(rt: HostRuntime) {
     let heap = rt.alloc();
-    let decl = slot(&rt, heap);
-    let opened = opened(&rt, heap, &decl, empty(heap));
+    let opened = opened(&rt, heap, empty(heap));
     assert!(rt; opened.lines.is_empty());
     let mut store = opened.store;
-    store.append(&decl, LINES[0]).expect(&rt, "it is written");
+    store.append(LINES[0]).expect(&rt, "it is written");
     store.sync().expect(&rt, "it is synced");
-    store
-        .commit(&decl, &LINES[1..4])
-        .expect(&rt, "they are written");
+    store.commit(&LINES[1..4]).expect(&rt, "they are written");
     let file = store.into_device();
     assert_eq!(rt; file.kept(), TEXT);
 }
@@ -37,10 +34,9 @@ fn lines_stand_in_the_file(rt: HostRuntime) {
 #[test]
 fn lines_are_found_again(rt: HostRuntime) {
     let heap = rt.alloc();
-    let decl = slot(&rt, heap);
     let text = TEXT.to_vec(heap).expect(&rt, "memory");
     let file = MemoryFile::new(heap, text, u64::MAX);
-    let opened = opened(&rt, heap, &decl, file);
+    let opened = opened(&rt, heap, file);
     assert_eq!(rt; opened.lines.as_slice(), &LINES[..4]);
     assert_eq!(rt; opened.cut, 0);
 }
@@ -48,12 +44,11 @@ fn lines_are_found_again(rt: HostRuntime) {
 #[test]
 fn the_first_line_behind_an_opening_has_no_mark(rt: HostRuntime) {
     let heap = rt.alloc();
-    let decl = slot(&rt, heap);
     let text = TEXT.to_vec(heap).expect(&rt, "memory");
     let file = MemoryFile::new(heap, text, u64::MAX);
-    let mut store = opened(&rt, heap, &decl, file).store;
-    store.append(&decl, LINES[4]).expect(&rt, "it is written");
-    store.append(&decl, LINES[5]).expect(&rt, "it is written");
+    let mut store = opened(&rt, heap, file).store;
+    store.append(LINES[4]).expect(&rt, "it is written");
+    store.append(LINES[5]).expect(&rt, "it is written");
     let file = store.into_device();
     assert_eq!(rt; file.kept(), TEXT);
     assert_eq!(rt;
@@ -66,11 +61,10 @@ fn the_first_line_behind_an_opening_has_no_mark(rt: HostRuntime) {
 fn refused(rt: &impl Abort, heap: Global, room: u32, text: &[u8]) -> Option<StoreFault>
     requires { IsRoom room }
 {
-    let decl = slot(rt, heap);
     let text = text.to_vec(heap).expect(rt, "memory");
     let kept = text.to_vec(heap).expect(rt, "memory");
     let file = MemoryFile::new(heap, text, u64::MAX);
-    match Store::open(heap, &decl, room, file) {
+    match Store::open(heap, slot(rt, heap), room, file) {
         Ok(_) => None,
         Err((fault, file)) => {
             assert_eq!(rt; file.kept(), kept.as_slice());
@@ -108,11 +102,10 @@ fn other_files_are_refused_and_unchanged(rt: HostRuntime) {
 #[test]
 fn a_torn_head_is_written_again(rt: HostRuntime) {
     let heap = rt.alloc();
-    let decl = slot(&rt, heap);
     for left in 0..18usize {
         let text = TEXT[..left.min(17)].to_vec(heap).expect(&rt, "memory");
         let file = MemoryFile::new(heap, text, u64::MAX);
-        let opened = opened(&rt, heap, &decl, file);
+        let opened = opened(&rt, heap, file);
         assert!(rt; opened.lines.is_empty());
         assert_eq!(rt; opened.cut, if left < 17 { left } else { 0 });
         assert_eq!(rt;

@@ -1,6 +1,6 @@
 -- The declaration is refused, or the journal is audited under it.
-use Rattle.cmd_base.specs.Statuses.{declaration_status}
-use Rattle.cmd_base.proofs.CallerLemmas.{ends_told, ends_under, may_undeclared, undeclared}
+use Rattle.tell_base.specs.Statuses.{declaration_status}
+use Rattle.tell_base.proofs.CallerLemmas.{ends_told, ends_under, may_undeclared, undeclared}
 use Rattle.cmd_audit.specs.Audits.{AuditEnd}
 use Rattle.cmd_audit.proofs.audit.audit_bytes.Goals as goal
 

@@ -5,8 +5,8 @@ use Rattle.std.specs.String.{string_bytes}
 use Rattle.std.proofs.lemmas.List.{get_or-map, length-map}
 use Rattle.path_audit.specs.declared.journals.Verdict.TheVariants as one
 use Rattle.path_audit.specs.declared.journals.SegmentsVerdict.TheVariants as verdicts
-use Rattle.cmd_base.specs.Statuses.{declaration_status}
-use Rattle.cmd_base.proofs.CallerLemmas.{ends_told, ends_under, ends_written, may_refuse, may_undeclared, may_under, undeclared}
+use Rattle.tell_base.specs.Statuses.{declaration_status}
+use Rattle.tell_base.proofs.CallerLemmas.{ends_told, ends_under, ends_written, may_refuse, may_undeclared, may_under, undeclared}
 use Rattle.cmd_audit.specs.Files.{fault_status}
 use Rattle.cmd_audit.specs.Audits.{verdict_line}
 use Rattle.cmd_audit.specs.Segments.{AreAuditOf, SegmentsEnd, TellsSegments}

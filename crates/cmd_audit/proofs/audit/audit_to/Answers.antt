@@ -1,8 +1,8 @@
 -- The text is refused, or its verdict is written.
 use Rattle.std.proofs.Common.{refl}
 use Rattle.path_audit.specs.declared.journals.Verdict.TheVariants.{Sound, WrongLine}
-use Rattle.cmd_base.specs.Statuses.{status_of}
-use Rattle.cmd_base.proofs.CallerLemmas.{ends_told, ends_written, may_refuse, never_done, never_unsound}
+use Rattle.tell_base.specs.Statuses.{status_of}
+use Rattle.tell_base.proofs.CallerLemmas.{ends_told, ends_written, may_refuse, never_done, never_unsound}
 use Rattle.cmd_audit.specs.Audits.{AuditEnd, TellsVerdict}
 use Rattle.cmd_audit.proofs.AuditLemmas.{never_sound, never_wrong, tells}
 use Rattle.cmd_audit.proofs.audit.audit_to.Goals as goal

@@ -1,5 +1,5 @@
 -- Over the own devices' openings only the room can be refused.
-use Rattle.cmd_base.proofs.CallerLemmas.{refuses_audit}
+use Rattle.tell_base.proofs.CallerLemmas.{refuses_audit}
 use Rattle.cmd_audit.proofs.AuditLemmas.{audit_told, one_audit}
 use Rattle.cmd_audit.proofs.audit.verdict_on.Goals as goal
 

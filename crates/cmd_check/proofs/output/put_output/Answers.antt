@@ -1,7 +1,7 @@
 -- The text is refused, or what the command writes of it was written.
 use Rattle.std.proofs.Common.{refl}
-use Rattle.cmd_base.specs.Statuses.{status_of}
-use Rattle.cmd_base.proofs.CallerLemmas.{ends_told, ends_written, may_undeclared}
+use Rattle.tell_base.specs.Statuses.{status_of}
+use Rattle.tell_base.proofs.CallerLemmas.{ends_told, ends_written, may_undeclared}
 use Rattle.cmd_check.specs.Outputs.{OutputEnd, OutputEnds, output_text}
 use Rattle.cmd_check.proofs.output.put_output.Goals as goal
 

@@ -4,12 +4,12 @@ use Rattle.std.specs.Prelude.{map}
 use Rattle.path_model.specs.Declarations.{Declaration}
 use Rattle.path_shelf.specs.Own.{own_state}
 use Rattle.path_shelf.specs.States.{MayFail}
-use Rattle.cmd_base.specs.Ends.{RefusesText}
-use Rattle.cmd_base.specs.Refusals.{IsBadAttempts}
-use Rattle.cmd_base.specs.Statuses.{status_of}
-use Rattle.cmd_base.proofs.CallerLemmas.{ends_told, ends_written, unfailing}
-use Rattle.cmd_behind.specs.Behind.{behind_status}
-use Rattle.cmd_behind.proofs.CallerLemmas.{may_behind, may_unopened, same_declaration}
+use Rattle.tell_base.specs.Ends.{RefusesText}
+use Rattle.tell_base.specs.Refusals.{IsBadAttempts}
+use Rattle.tell_base.specs.Statuses.{status_of}
+use Rattle.tell_base.proofs.CallerLemmas.{ends_told, ends_written, unfailing}
+use Rattle.tell_journals.specs.Behind.{behind_status}
+use Rattle.tell_journals.proofs.CallerLemmas.{may_behind, may_unopened, same_declaration}
 use Rattle.cmd_explain.specs.Explanations.{IsExplanationBehind, ExplanationBehindEnds}
 use Rattle.cmd_explain.proofs.Explaining.{explanation_so}
 use Rattle.cmd_explain.proofs.behind.explain_behind.Goals as goal

@@ -3,9 +3,9 @@ use Rattle.std.proofs.Common.{sym, subst}
 use Rattle.std.proofs.lemmas.Result.{IfOk-weaker, IfErr-weaker}
 use Rattle.path_model.specs.Declarations.{Declaration}
 use Rattle.path_lines.specs.AttemptTexts.{IsAttemptsText}
-use Rattle.cmd_base.specs.Ends.{RefusesText}
-use Rattle.cmd_base.specs.Refusals.{IsBadAttempts}
-use Rattle.cmd_base.specs.Statuses.{status_of}
+use Rattle.tell_base.specs.Ends.{RefusesText}
+use Rattle.tell_base.specs.Refusals.{IsBadAttempts}
+use Rattle.tell_base.specs.Statuses.{status_of}
 use Rattle.cmd_explain.proofs.behind.explained_behind.Goals as goal
 
 pub returns-clause-ok : goal.returns-clause-ok

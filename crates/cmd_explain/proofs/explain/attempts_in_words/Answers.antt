@@ -1,9 +1,9 @@
 -- The declaration is refused, or the attempts are explained over the program's own devices.
 use Rattle.std.proofs.lemmas.Result.{IfOk-weaker, IfErr-weaker}
-use Rattle.cmd_base.specs.Statuses.{status_of}
-use Rattle.cmd_base.proofs.CallerLemmas.{may_refuse, may_under, may_undeclared, own_room}
-use Rattle.cmd_base.specs.Ends.{AtDone}
-use Rattle.cmd_base.specs.Own.{own_states}
+use Rattle.tell_base.specs.Statuses.{status_of}
+use Rattle.tell_base.proofs.CallerLemmas.{may_refuse, may_under, may_undeclared, own_room}
+use Rattle.tell_base.specs.Ends.{AtDone}
+use Rattle.tell_base.specs.Own.{own_states}
 use Rattle.cmd_explain.specs.Explanations.{ExplanationEnd, IsExplanationOver}
 use Rattle.cmd_explain.proofs.Explaining.{explains_own}
 use Rattle.cmd_explain.proofs.explain.attempts_in_words.Goals as goal

@@ -1,6 +1,6 @@
 -- A text is refused, or its explanation is written.
-use Rattle.cmd_base.specs.Statuses.{status_of}
-use Rattle.cmd_base.proofs.CallerLemmas.{ends_told, ends_written}
+use Rattle.tell_base.specs.Statuses.{status_of}
+use Rattle.tell_base.proofs.CallerLemmas.{ends_told, ends_written}
 use Rattle.cmd_explain.specs.Explanations.{ExplanationEnds}
 use Rattle.cmd_explain.proofs.explain.explain_attempts.Goals as goal
 

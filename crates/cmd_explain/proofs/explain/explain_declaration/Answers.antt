@@ -1,7 +1,7 @@
 -- The declaration is refused, or described.
 use Rattle.std.proofs.Common.{refl}
-use Rattle.cmd_base.specs.Statuses.{status_of}
-use Rattle.cmd_base.proofs.CallerLemmas.{ends_told, ends_written, may_undeclared}
+use Rattle.tell_base.specs.Statuses.{status_of}
+use Rattle.tell_base.proofs.CallerLemmas.{ends_told, ends_written, may_undeclared}
 use Rattle.cmd_explain.specs.Explanations.{DescriptionEnd, DescriptionEnds}
 use Rattle.cmd_explain.proofs.explain.explain_declaration.Goals as goal
 

@@ -2,10 +2,10 @@
 use Rattle.std.specs.Prelude.{map}
 use Rattle.std.proofs.Common.{◌<◌, length, sym, ap, subst, arith, Err}
 use Rattle.std.proofs.lemmas.Result.{IfOk-weaker, IfErr-weaker}
-use Rattle.cmd_base.specs.Statuses.{status_of}
-use Rattle.cmd_base.specs.Ends.{RefusesText}
-use Rattle.cmd_base.specs.Refusals.{HasAttempts, IsBadAttempts, IsUnopened}
-use Rattle.cmd_base.proofs.CallerLemmas.{refuses_attempts, refuses_opening}
+use Rattle.tell_base.specs.Statuses.{status_of}
+use Rattle.tell_base.specs.Ends.{RefusesText}
+use Rattle.tell_base.specs.Refusals.{HasAttempts, IsBadAttempts, IsUnopened}
+use Rattle.tell_base.proofs.CallerLemmas.{refuses_attempts, refuses_opening}
 use Rattle.cmd_explain.proofs.explain.explained_over.Goals as goal
 
 pub returns-in-Ok-open-clause-ok : goal.returns-in-Ok-open-clause-ok

@@ -1,7 +1,7 @@
 -- The replay begins behind nothing, so what was found holds of the lines alone.
 use Rattle.std.proofs.Common.{[], subst, ◌∙◌}
 use Rattle.path_model.specs.Rooms.{IsRoom}
-use Rattle.cmd_base.specs.Own.{own_openings}
+use Rattle.tell_base.specs.Own.{own_openings}
 use Rattle.cmd_explain.proofs.journal.examined.Goals as goal
 
 pub returns-in-Ok-clause-ok : goal.returns-in-Ok-clause-ok

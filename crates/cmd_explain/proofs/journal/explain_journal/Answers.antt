@@ -1,10 +1,10 @@
 -- The declaration or the journal is refused, or what is said of it is written.
 use Rattle.std.proofs.Common.{ℕ, List, refl}
-use Rattle.cmd_base.specs.declared.status.Status.{Status}
-use Rattle.cmd_base.specs.declared.status.Status.TheVariants.{Done, Unsound}
-use Rattle.cmd_base.specs.Refusals.{Under}
-use Rattle.cmd_base.specs.Statuses.{status_of}
-use Rattle.cmd_base.proofs.CallerLemmas.{ends_told, ends_written}
+use Rattle.tell_base.specs.declared.status.Status.{Status}
+use Rattle.tell_base.specs.declared.status.Status.TheVariants.{Done, Unsound}
+use Rattle.tell_base.specs.Refusals.{Under}
+use Rattle.tell_base.specs.Statuses.{status_of}
+use Rattle.tell_base.proofs.CallerLemmas.{ends_told, ends_written}
 use Rattle.cmd_explain.specs.Judgements.{IsJudgedText, JudgementEnds}
 use Rattle.cmd_explain.proofs.journal.explain_journal.Goals as goal
 

@@ -3,10 +3,10 @@ use Rattle.std.proofs.Common.{length, sym, ◌∙◌, subst}
 use Rattle.std.proofs.lemmas.Result.{IfOk-weaker, IfErr-weaker, err_from_is_err_and}
 use Rattle.std.specs.String.{string_bytes}
 use Rattle.path_model.specs.Rooms.{IsBadRoom}
-use Rattle.cmd_base.specs.Statuses.{status_of}
-use Rattle.cmd_base.proofs.CallerLemmas.{lacks_room, may_refuse}
-use Rattle.cmd_base.specs.Ends.{RefusesText}
-use Rattle.cmd_base.specs.Refusals.{IsBadJournal, LacksRoom}
+use Rattle.tell_base.specs.Statuses.{status_of}
+use Rattle.tell_base.proofs.CallerLemmas.{lacks_room, may_refuse}
+use Rattle.tell_base.specs.Ends.{RefusesText}
+use Rattle.tell_base.specs.Refusals.{IsBadJournal, LacksRoom}
 use Rattle.cmd_explain.specs.Judgements.{Begins, IsJudgedText, sound_line}
 use Rattle.cmd_explain.proofs.Judging.{sound_told, wrong_told}
 use Rattle.cmd_explain.proofs.journal.judge_text.Goals as goal

@@ -1,7 +1,7 @@
 -- The declaration is refused, or the journal under it, or it is judged.
 use Rattle.std.proofs.lemmas.Result.{IfOk-weaker, IfErr-weaker}
-use Rattle.cmd_base.specs.Statuses.{status_of}
-use Rattle.cmd_base.proofs.CallerLemmas.{may_refuse, may_under, may_undeclared, undeclared}
+use Rattle.tell_base.specs.Statuses.{status_of}
+use Rattle.tell_base.proofs.CallerLemmas.{may_refuse, may_under, may_undeclared, undeclared}
 use Rattle.cmd_explain.specs.Judgements.{IsJudgedText, JudgementEnd}
 use Rattle.cmd_explain.proofs.journal.judge_under.Goals as goal
 

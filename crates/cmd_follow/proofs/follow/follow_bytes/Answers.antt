@@ -1,8 +1,8 @@
 -- The declaration is refused, or the lines are answered.
 use Rattle.std.proofs.Common.{true, false, inl}
-use Rattle.cmd_base.specs.declared.status.Status.TheVariants.{Done, CommandRefused, DeclarationRefused, TextRefused, Unsound}
-use Rattle.cmd_base.specs.Statuses.{status_of}
-use Rattle.cmd_base.proofs.CallerLemmas.{own_room}
+use Rattle.tell_base.specs.declared.status.Status.TheVariants.{Done, CommandRefused, DeclarationRefused, TextRefused, Unsound}
+use Rattle.tell_base.specs.Statuses.{status_of}
+use Rattle.tell_base.proofs.CallerLemmas.{own_room}
 use Rattle.cmd_follow.proofs.Written.{keeps_same}
 use Rattle.cmd_follow.proofs.Ending.{ends_undeclared, first_under, follow_under}
 use Rattle.cmd_follow.proofs.follow.follow_bytes.Goals as goal

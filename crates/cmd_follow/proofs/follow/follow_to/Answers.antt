@@ -2,10 +2,10 @@
 use Rattle.std.proofs.Common.{true, false, subst}
 use Rattle.std.specs.Prelude.{map}
 use Rattle.path_shelf.specs.States.{MayFail}
-use Rattle.cmd_base.specs.declared.status.Status.TheVariants.{Done, DeclarationRefused, TextRefused, Unsound}
+use Rattle.tell_base.specs.declared.status.Status.TheVariants.{Done, DeclarationRefused, TextRefused, Unsound}
 use Rattle.cmd_follow.specs.Stops.{IsEnding}
 use Rattle.cmd_follow.proofs.Written.{keeps_same}
-use Rattle.cmd_follow.proofs.Ending.{ends_open, first_none, first_of, follow_of, never_both, no_good_room, unopened}
+use Rattle.cmd_follow.proofs.Ending.{ends_open, first_none, first_of, follow_of, memory_not_failed, never_both, no_good_room, unopened}
 use Rattle.cmd_follow.proofs.follow.follow_to.Goals as goal
 
 pub returns-in-Ok-clause-done : goal.returns-in-Ok-clause-done
@@ -24,7 +24,7 @@ pub returns-in-Ok-clause-unopened : goal.returns-in-Ok-clause-unopened
 returns-in-Ok-clause-unopened g c = λ e. absurd (subst IsEnding e c.follow_kept.ensures.statuses)
 
 pub returns-in-Ok-clause-memory : goal.returns-in-Ok-clause-memory
-returns-in-Ok-clause-memory g c = λ e. first_of (MayFail g.D.Device.state) (g.R.Read.remaining c.args.input.now) (g.O.Write.contents c.args.out.now) _ c.args.decl.declaration (map g.D.Device.state c.args.devices.items) c.args.room c.in-Ok.system c.in-Ok.ensures.ok (c.follow_kept.ensures.memory e)
+returns-in-Ok-clause-memory g c = λ e. first_of (MayFail g.D.Device.state) (g.R.Read.remaining c.args.input.now) (g.O.Write.contents c.args.out.now) _ c.args.decl.declaration (map g.D.Device.state c.args.devices.items) c.args.room c.in-Ok.system _ c.in-Ok.ensures.ok (c.follow_kept.ensures.answered (memory_not_failed _ e))
 
 pub returns-in-Ok-clause-statuses : goal.returns-in-Ok-clause-statuses
 returns-in-Ok-clause-statuses g c = (λ e. subst IsEnding e c.follow_kept.ensures.statuses, λ e. subst IsEnding e c.follow_kept.ensures.statuses)

@@ -1,6 +1,6 @@
 -- The attempts are a list that isn't too long, and the system can be opened, or not.
 use Rattle.std.proofs.Common.{ap, Err}
-use Rattle.cmd_base.proofs.CallerLemmas.{own_room, refuses_attempts, refuses_opening}
+use Rattle.tell_base.proofs.CallerLemmas.{own_room, refuses_attempts, refuses_opening}
 use Rattle.cmd_picture.proofs.Refused.{good_room, has_attempts}
 use Rattle.cmd_picture.proofs.picture.drawn.Goals as goal
 

@@ -1,6 +1,6 @@
 -- The text is a journal, or why it isn't drawn.
 use Rattle.std.proofs.Common.{ap, Err}
-use Rattle.cmd_base.proofs.CallerLemmas.{refuses_journal}
+use Rattle.tell_base.proofs.CallerLemmas.{refuses_journal}
 use Rattle.cmd_picture.proofs.picture.journal_drawn.Goals as goal
 
 pub returns-in-Err-clause-err : goal.returns-in-Err-clause-err

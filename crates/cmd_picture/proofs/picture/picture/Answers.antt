@@ -1,8 +1,8 @@
 -- The text is drawn under the declaration that was read, or why not.
 use Rattle.std.proofs.lemmas.Result.{IfOk-weaker, IfErr-weaker}
-use Rattle.cmd_base.specs.Statuses.{status_of}
-use Rattle.cmd_base.proofs.CallerLemmas.{may_refuse, may_under, may_undeclared}
-use Rattle.cmd_base.specs.Ends.{AtDone}
+use Rattle.tell_base.specs.Statuses.{status_of}
+use Rattle.tell_base.proofs.CallerLemmas.{may_refuse, may_under, may_undeclared}
+use Rattle.tell_base.specs.Ends.{AtDone}
 use Rattle.cmd_picture.specs.Pictures.{IsPictureOf, PictureEnd}
 use Rattle.cmd_picture.proofs.picture.picture.Goals as goal
 

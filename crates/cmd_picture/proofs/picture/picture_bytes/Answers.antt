@@ -1,6 +1,6 @@
 -- The picture is written, or why there is none.
-use Rattle.cmd_base.specs.Statuses.{status_of}
-use Rattle.cmd_base.proofs.CallerLemmas.{ends_told, ends_written}
+use Rattle.tell_base.specs.Statuses.{status_of}
+use Rattle.tell_base.proofs.CallerLemmas.{ends_told, ends_written}
 use Rattle.cmd_picture.specs.Pictures.{PictureEnds}
 use Rattle.cmd_picture.proofs.picture.picture_bytes.Goals as goal
 

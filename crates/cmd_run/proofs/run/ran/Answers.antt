@@ -2,7 +2,7 @@
 use Rattle.std.proofs.Common.{rules, map}
 use denote.Param.Send.{sendable}
 use Rattle.path_system.proofs.CallerLemmas.{system_send}
-use Rattle.cmd_base.specs.Statuses.{status_of}
+use Rattle.tell_base.specs.Statuses.{status_of}
 use Rattle.cmd_run.proofs.RunLemmas.{ran_so, open_refused, no_outcome_so}
 use Rattle.cmd_run.proofs.run.ran.Goals as goal
 

@@ -1,7 +1,7 @@
 -- The declaration is refused, or its own devices are run over.
-use Rattle.cmd_base.specs.Statuses.{status_of}
-use Rattle.cmd_base.proofs.CallerLemmas.{ends_so, ends_told, ends_under, may_undeclared, own_room, text_so}
-use Rattle.cmd_base.specs.Own.{own_states}
+use Rattle.tell_base.specs.Statuses.{status_of}
+use Rattle.tell_base.proofs.CallerLemmas.{ends_so, ends_told, ends_under, may_undeclared, own_room, text_so}
+use Rattle.tell_base.specs.Own.{own_states}
 use Rattle.cmd_run.specs.RunTexts.{OwnRunEnds, WritesRunOf}
 use Rattle.cmd_run.proofs.Endings.{own_run}
 use Rattle.cmd_run.proofs.run.run_bytes.Goals as goal

@@ -1,7 +1,7 @@
 -- The script is refused, or the journal of its run is written.
 use Rattle.std.proofs.Common.{map}
-use Rattle.cmd_base.specs.Statuses.{script_status, status_of}
-use Rattle.cmd_base.proofs.CallerLemmas.{ends_so, ends_told, may_refuse}
+use Rattle.tell_base.specs.Statuses.{script_status, status_of}
+use Rattle.tell_base.proofs.CallerLemmas.{ends_so, ends_told, may_refuse}
 use Rattle.cmd_run.specs.RunTexts.{WritesRunOf}
 use Rattle.cmd_run.proofs.Endings.{may_unrun, refuses_script, run_so}
 use Rattle.cmd_run.proofs.run.run_to.Goals as goal

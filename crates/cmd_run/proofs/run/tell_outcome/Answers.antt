@@ -4,7 +4,7 @@ use Rattle.std.specs.Prelude.{Some}
 use Rattle.path_model.specs.declared.journal.Line.{Line}
 use Rattle.path_model.specs.Declarations.{Declaration}
 use Rattle.path_journal.specs.JournalTexts.{journal_text}
-use Rattle.cmd_base.proofs.CallerLemmas.{put_all}
+use Rattle.tell_base.proofs.CallerLemmas.{put_all}
 use Rattle.cmd_run.specs.Ends.{IsStatusOf}
 use Rattle.cmd_run.proofs.Endings.{ends_run, ends_unwritten}
 use Rattle.cmd_run.proofs.run.tell_outcome.Goals as goal

@@ -1,8 +1,8 @@
 -- The declaration is refused, or its attempts are traced.
-use Rattle.cmd_base.specs.declared.status.Status.TheVariants.{Done}
-use Rattle.cmd_base.specs.Refusals.{IsUndeclared}
-use Rattle.cmd_base.specs.Statuses.{status_of}
-use Rattle.cmd_base.proofs.CallerLemmas.{ends_so, ends_told, ends_under, may_undeclared, told}
+use Rattle.tell_base.specs.declared.status.Status.TheVariants.{Done}
+use Rattle.tell_base.specs.Refusals.{IsUndeclared}
+use Rattle.tell_base.specs.Statuses.{status_of}
+use Rattle.tell_base.proofs.CallerLemmas.{ends_so, ends_told, ends_under, may_undeclared, told}
 use Rattle.cmd_trace.specs.Traces.{OwnTraceEnds}
 use Rattle.cmd_trace.proofs.FailLemmas.{own_so}
 use Rattle.cmd_trace.proofs.trace.trace_bytes.Goals as goal

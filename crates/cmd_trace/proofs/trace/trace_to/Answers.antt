@@ -1,9 +1,9 @@
 -- The attempts are refused, or they were read, stepped and written.
 use Rattle.std.specs.Prelude.{map}
 use Rattle.path_shelf.specs.States.{MayFail}
-use Rattle.cmd_base.specs.Ends.{AtDone}
-use Rattle.cmd_base.specs.Statuses.{status_of}
-use Rattle.cmd_base.proofs.CallerLemmas.{ends_told, ends_written, may_refuse, never_done}
+use Rattle.tell_base.specs.Ends.{AtDone}
+use Rattle.tell_base.specs.Statuses.{status_of}
+use Rattle.tell_base.proofs.CallerLemmas.{ends_told, ends_written, may_refuse, never_done}
 use Rattle.cmd_trace.specs.Traces.{IsTraceOf}
 use Rattle.cmd_trace.proofs.trace.trace_to.Goals as goal
 

@@ -1,8 +1,8 @@
 -- The trace is that of the system that was opened.
 use Rattle.std.specs.Prelude.{map}
 use Rattle.std.proofs.lemmas.Result.{IfErr-weaker}
-use Rattle.cmd_base.specs.Statuses.{status_of}
-use Rattle.cmd_base.proofs.CallerLemmas.{may_refuse}
+use Rattle.tell_base.specs.Statuses.{status_of}
+use Rattle.tell_base.proofs.CallerLemmas.{may_refuse}
 use Rattle.cmd_trace.proofs.FaultLemmas.{refuses_memory}
 use Rattle.cmd_trace.proofs.trace.traced.Goals as goal
 

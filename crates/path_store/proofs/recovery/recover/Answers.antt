@@ -6,7 +6,6 @@ use Rattle.std.proofs.lemmas.List.Elements.{All-nil}
 use Rattle.path_journal.specs.declared.version.Version.TheVariants.{Three}
 use Rattle.path_journal.specs.JournalTexts.{KeptFits}
 use Rattle.path_journal.specs.CutTexts.{IsCutFault, IsNoCutJournal, front_of, IsCutJournal}
-use Rattle.path_store.specs.Devices.{IsImage}
 use Rattle.path_store.proofs.Repairs.{cut_taken, end_cut, fault_none, has_these, head_cut, head_short, head_written, image_none, not_too_long, only_journal, read_leaves, torn_head, whole_head}
 use Rattle.path_store.proofs.recovery.recover.Goals as goal
 

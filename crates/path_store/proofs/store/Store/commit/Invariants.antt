@@ -9,8 +9,9 @@ use Rattle.path_store.proofs.store.Store.commit.Given as goal
 abbrev pub invariant-loop-line : goal.invariant-loop-line
 invariant-loop-line g l = record {
   room : l.self.room ≡ l.fn.self.room;
+  decl : l.self.decl.declaration ≡ l.fn.self.decl.declaration;
   broken : l.self.broken ≡ l.fn.self.broken;
-  size : l.self.length ≤ l.fn.self.length + length (kept_text l.decl.declaration (map (λ line. (true, line)) (take l.line-index l.lines)));
-  stored : (synced fresh : List Line) → IsStored g.D.Device.holds g.D.Device.may_leave l.decl.declaration l.fn.self synced fresh → IsStored g.D.Device.holds g.D.Device.may_leave l.decl.declaration l.self synced (fresh ++ take l.line-index l.lines);
-  so_far : (synced fresh : List Line) → IsStored g.D.Device.holds g.D.Device.may_leave l.decl.declaration l.fn.self synced fresh → LeavesOnly g.D.Device.moment g.D.Device.left_since l.fn.self.device l.self.device (FindsSome l.decl.declaration l.fn.self.room synced (fresh ++ l.lines));
+  size : l.self.length ≤ l.fn.self.length + length (kept_text l.fn.self.decl.declaration (map (λ line. (true, line)) (take l.line-index l.lines)));
+  stored : (synced fresh : List Line) → IsStored g.D.Device.holds g.D.Device.may_leave l.fn.self synced fresh → IsStored g.D.Device.holds g.D.Device.may_leave l.self synced (fresh ++ take l.line-index l.lines);
+  so_far : (synced fresh : List Line) → IsStored g.D.Device.holds g.D.Device.may_leave l.fn.self synced fresh → LeavesOnly g.D.Device.moment g.D.Device.left_since l.fn.self.device l.self.device (FindsSome l.fn.self.decl.declaration l.fn.self.room synced (fresh ++ l.lines));
 }

@@ -1,0 +1,6 @@
+// refused: include wanzoche\.hpp before wanzoche\.h
+#include "wanzoche.h"
+
+#include "wanzoche.hpp"
+
+int main() {}

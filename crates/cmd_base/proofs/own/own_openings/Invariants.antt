@@ -1,8 +1,0 @@
--- The openings so far are those of the first resources.
-use Rattle.std.proofs.Common.{◌≡◌, take}
-use Rattle.std.specs.Prelude.{map}
-use Rattle.cmd_base.specs.Own.{own_openings}
-use Rattle.cmd_base.proofs.own.own_openings.Given as goal
-
-abbrev pub invariant-loop-number : goal.invariant-loop-number
-invariant-loop-number g l = map (λ opening. opening.items) l.openings.items ≡ take l.number (own_openings l.decl.declaration)

@@ -1,5 +1,0 @@
-use Rattle.path_foretold.proofs.theorems.runs_end_as_foretold.Goals as goal
-use Rattle.path_foretold.proofs.RunsForetold.{runs_end_as_foretold}
-
-pub returns : goal.returns
-returns c = runs_end_as_foretold

@@ -1,0 +1,12 @@
+pub mod Lists
+pub mod Over
+pub mod Follows
+pub mod Judging
+pub mod Ways
+pub mod Ruled
+pub mod Behind
+pub mod Stalls
+pub mod Beside
+pub mod Bounds
+pub mod Threads
+pub mod CallerLemmas

@@ -1,0 +1,6 @@
+//! The tests of what people are told.
+
+mod answers;
+mod explanations;
+mod pictures;
+mod places;

@@ -1,5 +1,0 @@
-//! Tests of the search of all histories. The crate has no other code, so that no library is proved twice.
-#![tactic(auto)]
-
-#[cfg(test)]
-mod tests;

@@ -1,0 +1,5 @@
+//! The tests of desks and runs.
+
+mod commands;
+mod running;
+mod workers;

@@ -1,0 +1,3 @@
+module wanzoche
+
+go 1.19

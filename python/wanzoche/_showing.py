@@ -1,0 +1,181 @@
+"""What the command `status` of `wanzoche` knows and shows: as lines, as JSON, and as a table."""
+
+from __future__ import annotations
+
+import json
+import time
+from typing import Any, Dict, List, NamedTuple, Optional, Sequence, Tuple
+
+from ._asking import Asked
+from ._log import Log
+from ._processes import Process, process_at
+from ._served import ServedPaths
+from ._store import Store
+from ._stored import StoredPaths
+from ._texts import Report
+
+FORM = 1
+"""The number of the form of the JSON. It changes when something in it gets another meaning or goes; what is added leaves it as it is."""
+WAITING = (
+    "select x.operation, x.worker, floor(extract(epoch from x.since))::bigint, y.process from wanzoche.waiting x "
+    "left join wanzoche.worker y using (log, worker) where x.log = $1 and x.since is not null order by x.operation, x.since, x.worker"
+)
+
+
+class InProgress(NamedTuple):
+    """An operation in progress."""
+
+    activation: int
+    operation: str
+    worker: int
+    is_lost: bool
+    """Whether its worker is dead."""
+    process: Process
+
+
+class Waiting(NamedTuple):
+    """Who waits for an operation: a worker over a server; over a file so many processes, and it isn't known which."""
+
+    operation: str
+    many: int
+    worker: Optional[int] = None
+    process: Process = Process()
+
+
+class State(NamedTuple):
+    """A store at a moment."""
+
+    report: Report
+    in_progress: Tuple[InProgress, ...]
+    waiting: Tuple[Waiting, ...]
+
+    def waiting_for(self, operation: str) -> int:
+        """How many wait for an operation."""
+        return sum(each.many for each in self.waiting if each.operation == operation)
+
+    def running(self, operation: str) -> int:
+        """How often an operation is in progress."""
+        return sum(each.operation == operation for each in self.in_progress)
+
+
+class Onlooker:
+    """Looks at a store, again and again."""
+
+    def __init__(self, paths: StoredPaths) -> None:
+        self._paths = paths
+        self._who_waits = Asked(b"who_waits", WAITING)
+
+    def state(self) -> State:
+        """How the store is now. Raises `StoreError`."""
+        paths = self._paths
+        report = paths.report()
+        lost = {each.activation for each in report.lost}
+        workers = dict.fromkeys(int(each.worker.split()[-1]) for each in report.live)
+        beside = paths._store.path + ".shared" if isinstance(paths._store, Store) else None
+        processes = {worker: process_at(paths._store.process_of(worker), beside) for worker in workers}
+        found = []
+        for each in report.live:
+            worker = int(each.worker.split()[-1])
+            found.append(InProgress(each.activation, each.operation, worker, each.activation in lost, processes[worker]))
+        return State(report, tuple(found), tuple(self._waiting()))
+
+    def _waiting(self) -> List[Waiting]:
+        paths = self._paths
+        names = {paths._number(name): name for name in paths.operations}
+        if isinstance(paths, ServedPaths):
+            log = paths._served._log
+            rows = paths._served.ask(lambda: self._rows(log))
+            return [Waiting(names[row[0]], 1, row[1], process_at(row[3], None)._replace(since=row[2])) for row in rows if row[0] in names]
+        counts = paths._store._beside.waiting
+        return [Waiting(name, counts[number]) for number, name in names.items() if counts[number]]
+
+    def _rows(self, log: Log) -> List[Tuple[int, int, int, str]]:
+        """At the desk: the operation, the worker, since when, and the worker's process, of all that wait and are alive."""
+        rows = self._who_waits.rows(log, log._log)
+        dead = log.dead(sorted({int(row[1]) for row in rows}))
+        told = [(int(row[0]), int(row[1]), int(row[2]), (row[3] or b"").decode("utf-8", "replace")) for row in rows]
+        return [row for row in told if row[1] not in dead]
+
+
+def lines_of(paths: StoredPaths) -> str:
+    """The report, with a line for each operation that a dead worker has in progress, and for each worker whose process is known."""
+    report = paths.report()
+    told = ["lost {} {} {}\n".format(each.activation, each.worker.split()[-1], each.operation) for each in report.lost]
+    for worker in dict.fromkeys(int(each.worker.split()[-1]) for each in report.live):
+        process = paths._store.process_of(worker)
+        if process:
+            told.append("process {} {}\n".format(worker, process))
+    return report.text + "".join(told)
+
+
+def json_of(state: State, operations: Sequence[str]) -> str:
+    """The state as one line of JSON. docs/shared.md says what stands in it."""
+    in_progress = [
+        {"activation": each.activation, "operation": each.operation, "worker": each.worker, "lost": each.is_lost, **_told(each.process)}
+        for each in state.in_progress
+    ]
+    waiting = [{"operation": each.operation, "count": each.many, "worker": each.worker, **_told(each.process)} for each in state.waiting]
+    counts = {
+        "in_progress": len(in_progress),
+        "lost": sum(each.is_lost for each in state.in_progress),
+        "waiting": sum(each.many for each in state.waiting),
+    }
+    told = {
+        "form": FORM,
+        "frozen": state.report.frozen,
+        "counts": counts,
+        "operations": [_operation(state, name) for name in operations],
+        "in_progress": in_progress,
+        "waiting": waiting,
+    }
+    return json.dumps(told) + "\n"
+
+
+def _operation(state: State, name: str) -> Dict[str, Any]:
+    path = state.report.blocked.get(name)
+    counts = {"in_progress": state.running(name), "waiting": state.waiting_for(name)}
+    return {"operation": name, "can_start": path is None, "blocked_by": path, **counts}
+
+
+def _told(process: Process) -> Dict[str, Any]:
+    return {
+        "since": None if process.since is None else time.strftime("%Y-%m-%dT%H:%M:%SZ", time.gmtime(process.since)),
+        "pid": process.pid,
+        "host": process.host,
+        "command": process.command,
+    }
+
+
+def table_of(state: State, operations: Sequence[str], store: str) -> List[str]:
+    """The state as lines for people: of the operations, of what is in progress, and of who waits where that is known."""
+    counts = "{} in progress, {} waiting".format(len(state.in_progress), sum(each.many for each in state.waiting))
+    lines = ["{}, {}: {}{}".format(store, time.strftime("%H:%M:%S"), counts, ", frozen" if state.report.frozen else ""), ""]
+    rows = [["OPERATION", "RUNS", "WAITS", "CAN START"]]
+    for name in operations:
+        path = state.report.blocked.get(name)
+        can_start = "yes" if path is None else "no: path {}".format(path)
+        rows.append([name, str(state.running(name)), str(state.waiting_for(name)), can_start])
+    lines += _aligned(rows)
+    who = [["IN PROGRESS", "WORKER", *_HEADS]]
+    for each in state.in_progress:
+        who.append([each.operation, "{}{}".format(each.worker, ", dead" if each.is_lost else ""), *_cells(each.process)])
+    waits = [["WAITS FOR", "WORKER", *_HEADS]]
+    waits += [[each.operation, str(each.worker), *_cells(each.process)] for each in state.waiting if each.worker is not None]
+    for rows in (who, waits):
+        if len(rows) > 1:
+            lines += [""] + _aligned(rows)
+    return lines
+
+
+_HEADS = ["SINCE", "PID", "HOST", "COMMAND"]
+
+
+def _cells(process: Process) -> List[str]:
+    since = "" if process.since is None else time.strftime("%d %H:%M:%S", time.localtime(process.since))
+    return [since, str(process.pid or ""), process.host or "", process.command or ""]
+
+
+def _aligned(rows: List[List[str]]) -> List[str]:
+    """Rows as lines, in columns."""
+    widths = [max(len(cell) for cell in column) for column in zip(*rows)]
+    return ["  ".join(cell.ljust(width) for cell, width in zip(row, widths)).rstrip() for row in rows]
