@@ -101,9 +101,9 @@ $(shared_library): $(work)/wanzoche.o
 	$(CC) $(CFLAGS) $(LDFLAGS) -shared -Wl,-z,defs -Wl,--gc-sections -Wl,-soname,$(@F) -Wl,--version-script=$(work)/shown $< -o $@
 
 # Only the part of Python's interface that is stable from 3.8 on.
-$(core): python/wanzoche/_core.c include/wanzoche.h
+$(core): python/wanzoche/_core.c python/wanzoche/_order.c python/wanzoche/_order.h include/wanzoche.h
 	@mkdir -p $(@D)
-	$(CC) $(c_flags) -DPy_LIMITED_API=0x03080000 -isystem $(python_headers) $(LDFLAGS) -shared $< -o $@
+	$(CC) $(c_flags) -DPy_LIMITED_API=0x03080000 -isystem $(python_headers) $(LDFLAGS) -shared $(filter %.c,$^) -o $@
 
 core: $(core)
 

@@ -1,10 +1,12 @@
 #!/usr/bin/env python3
 """How long a writer waits for 16 readers (or as many as the first word says), which read for 10 ms and pause for 20 ms: by
-`path { read } , write end` alone, and behind a door. Seconds, each of 15 tries, or as many as the second word says.
+`path { read } , write end` with the usual patience, with none, and with endless patience; with that also behind a door. Seconds, each of 15
+tries, or as many as the second word says.
 
     WANZOCHE_CORE=out/python/_core.abi3.so WANZOCHE_LIBRARY=out/lib/libwanzoche.so PYTHONPATH=python python3 bench/starving.py 16 15
 """
 
+import math
 import sys
 import threading
 import time
@@ -37,9 +39,9 @@ def unannounced(paths):
         pass
 
 
-def waited(text, reading, writing, readers):
+def waited(text, patience, reading, writing, readers):
     """How long one writer waits."""
-    paths, is_over = Paths(text, journal=False), threading.Event()
+    paths, is_over = Paths(text, journal=False, patience=patience), threading.Event()
 
     def reads(number):
         time.sleep(number * (READ + PAUSE) / readers)
@@ -63,7 +65,8 @@ def waited(text, reading, writing, readers):
 
 def main():
     readers, tries = [int(word) for word in sys.argv[1:3] + ["16", "15"][len(sys.argv) - 1 :]]
-    forms = {"open": (OPEN, lambda paths: paths("read"), unannounced), "door": (DOOR, behind_the_door, announced)}
+    forms = {"patience {}".format(each): (OPEN, each, lambda paths: paths("read"), unannounced) for each in (0.005, 0, math.inf)}
+    forms["door"] = (DOOR, math.inf, behind_the_door, announced)
     for name, form in forms.items():
         took = sorted(waited(*form, readers) for _ in range(tries))
         print(name, "least {:.3f}, median {:.3f}, most {:.3f}".format(took[0], took[tries // 2], took[-1]), flush=True)

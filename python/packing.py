@@ -32,7 +32,7 @@ LIBRARY = "libwanzoche.so"
 CORE = "_core.abi3.so"
 # What `make library core` reads, in the repository and in a package of sources.
 SOURCES = ["Makefile", "VERSION", "c/wanzoche.c", "include/wanzoche.h", "include/wanzoche_monitor.h", "dist/system.c", "dist/NOTICE"]
-SOURCES += ["python/wanzoche/_core.c"]
+SOURCES += ["python/wanzoche/" + name for name in ("_core.c", "_order.c", "_order.h")]
 SOURCES += ["dist/{}/path_c.s".format(processor) for processor in ("x86_64", "aarch64")]
 # The command's man page and completions, by where pip puts them below the prefix.
 SHARED = {

@@ -45,7 +45,7 @@ class Cores(unittest.TestCase):
         self.addCleanup(guard.__exit__, None, None, None)
 
     def nothing_is_left(self, paths):
-        self.assertEqual((paths.report().live, paths.waiting()), ((), {}))
+        self.assertEqual((paths.report().live, paths.waiting(), paths.waiters()), ((), {}, []))
 
 
 class Callers(Cores):
@@ -374,7 +374,7 @@ class Circles(Cores):
             paths._numbers["more"] = leads
 
         def through_queues(paths, leads):
-            paths._queues._queues[9, None] = leads
+            paths._queues._queues[9, 0, None] = leads
 
         def through_due(paths, leads):
             paths._queues.due.add(leads)
@@ -536,7 +536,7 @@ class References(Cores):
         reader = held.enter("read")
         with contextlib.suppress(Timeout):
             held.enter("write", timeout=0)
-        queue = held._queues._queues[1, None]
+        queue = held._queues._queues[1, 0, None]
         name, timeout = "".join(["wri", "te"]), 12345.5
         unknown = "".join(["ste", "al"])
         calls = [
@@ -670,7 +670,7 @@ class BadInput(Cores):
             TypeError,
             lambda: paths(),
             lambda: paths([]),
-            lambda: paths("write", 1, 2),
+            lambda: paths("write", 1, 2, 3),
             lambda: paths("write", nothing=1),
             lambda: paths.aio(),
             lambda: Entry(),
@@ -694,16 +694,23 @@ class BadInput(Cores):
             lambda: core.Entry(bare),
             lambda: core.Calls(1),
             lambda: core.Calls("", 1, 1, 1, handle),
+            lambda: core.Line(1),
+            lambda: core.Place(handle, 1, 1, 1),
+            lambda: core.Place(paths._line, 1, 1, "one"),
+            lambda: paths._line.ahead_of(1, 1, "one"),
             lambda: bare._set_up(),
-            lambda: bare._set_up(paths._calls, [], queues, queues.due, Entry, True),
-            lambda: bare._set_up(paths._calls, {}, queues, [], Entry, True),
-            lambda: bare._set_up(paths._calls, {}, queues, queues.due, int, True),
-            lambda: bare._set_up(handle, {}, queues, queues.due, Entry, True),
+            lambda: bare._set_up(paths._calls, [], queues, queues.due, None, Entry, True),
+            lambda: bare._set_up(paths._calls, {}, queues, [], None, Entry, True),
+            lambda: bare._set_up(paths._calls, {}, queues, queues.due, handle, Entry, True),
+            lambda: bare._set_up(paths._calls, {}, queues, queues.due, None, int, True),
+            lambda: bare._set_up(handle, {}, queues, queues.due, None, Entry, True),
             lambda: entry._begin("one"),
             lambda: paths._calls.is_blocked(None),
         )
         self.refuses(RuntimeError, lambda: bare("write"), lambda: core.Entry(bare, "write", None), lambda: Paths.__new__(Paths)("write"))
         self.refuses(ValueError, lambda: core.Calls(1, 1, 1, 0, handle), lambda: core.Calls(0, 1, 1, 1, handle))
+        self.refuses(ValueError, lambda: core.Line(1, 1, 1, 0, handle, 1, 1), lambda: core.Line(1, 1, 1, 1, handle, 1, 0))
+        self.refuses(OverflowError, lambda: paths._line.holds(1 << 32), lambda: core.Place(paths._line, -1, 0, 1))
         self.refuses(OverflowError, lambda: entry._begin(-1), lambda: entry._begin(1 << 32), lambda: entry._begin(1 << 64))
         self.refuses(AttributeError, lambda: setattr(entry, "_op", 7), lambda: setattr(entry, "_paths", None))
         self.assertFalse(paths._calls.is_blocked(4000000000))

@@ -157,7 +157,7 @@ class Signatures(unittest.TestCase):
         paths = Paths(SLOT)
         for call in (paths, paths.enter, paths.aio, paths.guards):
             found = inspect.signature(call).parameters
-            self.assertEqual([(each.name, each.default) for each in found.values()], [("operation", inspect.Parameter.empty), ("timeout", None)])
+            self.assertEqual([(each.name, each.default) for each in found.values()], [("operation", inspect.Parameter.empty), ("timeout", None), ("priority", 0)])
         with paths("deposit") as entry:
             for call in (entry.leave, entry.__enter__):
                 self.assertEqual(str(inspect.signature(call)).split(" ->")[0], "()")

@@ -34,7 +34,7 @@ from ._exploring import Exploration, explore
 from ._metrics import Histogram, Metrics
 from ._paths import Paths, audit
 from ._stored import StoredPaths
-from ._texts import Live, Path, Report, Verdict, Worker
+from ._texts import Live, Path, Report, Verdict, Waiting, Worker
 
 __all__ = [
     "AsyncEntry",
@@ -65,6 +65,7 @@ __all__ = [
     "UnknownOperation",
     "UseRefused",
     "Verdict",
+    "Waiting",
     "WanzocheError",
     "Worker",
     "audit",

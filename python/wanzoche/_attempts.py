@@ -9,13 +9,14 @@ import warnings
 from typing import TYPE_CHECKING, Generator, Optional, Protocol, Type
 
 from . import _native as native
-from ._errors import OutOfRoom, Timeout
+from ._errors import OutOfRoom
 from ._form import core
 from ._waiting import Waiter
 
 if TYPE_CHECKING:
     from ._paths import Paths
 
+_WAITS = (native.BLOCKED, native.WITHHELD)
 
 if TYPE_CHECKING or core is None:
 
@@ -37,6 +38,9 @@ class Operation(Protocol):
 
     @property
     def _name(self) -> str: ...
+
+    @property
+    def _priority(self) -> int: ...
 
     @property
     def _timeout(self) -> Optional[float]: ...
@@ -115,14 +119,25 @@ def watched(operation: Operation, worker: int, waiter: Waiter) -> Waiter:
     return waiter
 
 
+def check_priority(priority: int) -> int:
+    """The same. Raises TypeError for what is no whole number, and ValueError for one below 0 or past 32 bits."""
+    if not isinstance(priority, int) or not 0 <= priority < 1 << 32:
+        kind = ValueError if isinstance(priority, int) else TypeError
+        raise kind("a priority is a number from 0 to 4,294,967,295, not {!r}".format(priority))
+    return priority
+
+
 def raise_if_late(operation: Operation, waiter: Waiter) -> None:
-    """Raises `Timeout` if the time is over, and a path still forbids the start."""
+    """Raises `Timeout` if the time is over, and a path still forbids the start, or it is withheld."""
     left, paths = waiter.left(), operation._paths
     if left is None or left > 0:
         return
+    told = None if waiter.place is None else waiter.place.behind
+    if told is not None:
+        raise paths._behind(operation._name, told).over(operation._timeout)
     why = paths._why(operation._name, [waiter.worker]) if waiter.worker and paths._looks else paths.why(operation._name)
     if why is not None:
-        raise Timeout(why.operation, why.path, why.resource, why.text, why.in_progress, operation._timeout, why.may_begin, why.own)
+        raise why.over(operation._timeout)
 
 
 def _until_admitted(operation: Operation, worker: int, waiter: Waiter) -> Generator[Waiter, None, None]:
@@ -131,12 +146,12 @@ def _until_admitted(operation: Operation, worker: int, waiter: Waiter) -> Genera
     # itself sees an interrupt that comes as a loop jumps back by its condition.
     while not _admitted_by_now(operation, worker, waiter):
         yield waiter
-        operation._paths._queues.asks(waiter)
+        operation._paths._queues.woken(waiter)
 
 
 def _admitted_by_now(operation: Operation, worker: int, waiter: Waiter) -> bool:
-    """Tries once more, where no path forbids it. Raises `Timeout` if the time is over."""
-    if not operation._paths._calls.is_blocked(operation._op):
+    """Tries once more, where no path forbids it and it isn't withheld. Raises `Timeout` if the time is over."""
+    if operation._paths._queues.asks(waiter) not in _WAITS:
         if admitted(operation, operation._begin(worker), worker):
             return True
     raise_if_late(operation, waiter)
@@ -161,10 +176,11 @@ def waiting(operation: Operation, code: int, worker: int, waiter_of: Type[Waiter
     try:
         try:
             if not admitted(operation, code, worker):
-                waiter = watched(operation, worker, waiter_of(operation._op, operation._timeout))
+                waiter = watched(operation, worker, waiter_of(operation._op, operation._timeout, operation._priority))
                 queue = operation._paths._queues.join(waiter)
                 if waiter.paths is not None:
                     queue.look_later()
+                operation._paths._queues.rests(waiter)
                 yield from _until_admitted(operation, worker, waiter)
                 operation._paths._queues.quit(waiter)
         except BaseException as error:

@@ -28,7 +28,7 @@
 #include <time.h>
 #include <unistd.h>
 
-#include "wanzoche.h"
+#include "_order.h"
 
 #ifdef Py_GIL_DISABLED
 #error "a Python without the interpreter's lock is served by the form without this file"
@@ -57,6 +57,7 @@ typedef struct System {
     PyObject *numbers; /* of the operations, by their names: a dict */
     PyObject *queues;  /* those that wait */
     PyObject *due;     /* the queues of which one may have to be woken: a set */
+    Line *line;        /* the same ones in their order; null where there is none */
     PyTypeObject *entry_class;
 } System;
 
@@ -66,7 +67,7 @@ typedef struct Entry {
     System *system;
     PyObject *name;
     PyObject *timeout;
-    uint32_t operation;
+    uint32_t operation, priority;
     wanzoche_record record;
 } Entry;
 
@@ -90,6 +91,7 @@ enum Name {
     NEW_WAITER,
     NOT_IN_PROGRESS,
     NUMBER,
+    PLACE,
     QUIT,
     RELEASE,
     THREAD_WORKER,
@@ -114,6 +116,7 @@ static const char *const spelled[NAMES] = {
     [NEW_WAITER] = "_new_waiter",
     [NOT_IN_PROGRESS] = "_not_in_progress",
     [NUMBER] = "_number",
+    [PLACE] = "place",
     [QUIT] = "quit",
     [RELEASE] = "release",
     [THREAD_WORKER] = "_thread_worker",
@@ -291,6 +294,12 @@ static bool begin(Entry *entry, uint32_t worker, uint32_t *code) {
     return false;
 }
 
+/* What a start would be answered, whoever waits. */
+static uint32_t can_start(Entry *entry) {
+    Calls *calls = entry->system->calls;
+    return calls->can_start(calls->handle, entry->operation).code;
+}
+
 static uint32_t end(Entry *entry) {
     Calls *calls = entry->system->calls;
     return calls->end(calls->handle, &entry->record);
@@ -320,11 +329,28 @@ static bool is_limit(PyObject *timeout) {
     return false;
 }
 
+/* The priority that it is, 0 if it is null. False with an exception. */
+static bool is_priority(PyObject *given, uint32_t *priority) {
+    long long number = 0;
+    *priority = 0;
+    if (given == NULL) return true;
+    if (PyLong_Check(given)) {
+        number = PyLong_AsLongLong(given);
+        if (number == -1 && PyErr_Occurred()) PyErr_Clear();
+        if (number >= 0 && number <= UINT32_MAX) {
+            *priority = (uint32_t)number;
+            return true;
+        }
+    }
+    PyErr_Format(PyLong_Check(given) ? PyExc_ValueError : PyExc_TypeError, "a priority is a number from 0 to 4,294,967,295, not %R", given);
+    return false;
+}
+
 /* A new entry that isn't begun. Null with an exception. */
-static PyObject *new_entry(System *system, PyTypeObject *type, PyObject *name, PyObject *timeout) {
+static PyObject *new_entry(System *system, PyTypeObject *type, PyObject *name, PyObject *timeout, PyObject *given) {
     Entry *entry;
-    uint32_t operation;
-    if (!is_limit(timeout)) return NULL;
+    uint32_t operation, priority;
+    if (!is_limit(timeout) || !is_priority(given, &priority)) return NULL;
     if (system->calls == NULL) {
         PyErr_SetString(PyExc_RuntimeError, "these paths were never opened");
         return NULL;
@@ -339,14 +365,15 @@ static PyObject *new_entry(System *system, PyTypeObject *type, PyObject *name, P
     Py_INCREF(timeout);
     entry->timeout = timeout;
     entry->operation = operation;
+    entry->priority = priority;
     return (PyObject *)entry;
 }
 
 static PyObject *entry_new(PyTypeObject *type, PyObject *args, PyObject *named) {
-    static char *keywords[] = {"paths", "operation", "timeout", NULL};
-    PyObject *system, *name, *timeout;
-    if (!PyArg_ParseTupleAndKeywords(args, named, "O!OO:Entry", keywords, system_type, &system, &name, &timeout)) return NULL;
-    return new_entry((System *)system, type, name, timeout);
+    static char *keywords[] = {"paths", "operation", "timeout", "priority", NULL};
+    PyObject *system, *name, *timeout, *priority = NULL;
+    if (!PyArg_ParseTupleAndKeywords(args, named, "O!OO|O:Entry", keywords, system_type, &system, &name, &timeout, &priority)) return NULL;
+    return new_entry((System *)system, type, name, timeout, priority);
 }
 
 /* Of one in progress that nobody holds: finishes it, and says so. */
@@ -409,7 +436,13 @@ typedef struct Wait {
     PyObject *waiter;  /* null until it is made */
     PyObject *queue;   /* where the waiter waits; null before */
     PyObject *waiters; /* all that wait there: a dict in their order */
+    PyObject *place;   /* where it stands in line; null where there is no line */
 } Wait;
+
+/* Whether starts may be withheld now for one who waits. */
+static bool withholds(const System *system) {
+    return system->line != NULL && line_withholds(system->line);
+}
 
 /* Makes a waiter, and lets it join its queue. False with an exception. */
 static bool join(Wait *wait) {
@@ -422,22 +455,30 @@ static bool join(Wait *wait) {
     wait->queue = answer_of(entry->system->queues, JOIN, wait->waiter, NULL);
     if (wait->queue == NULL) return false;
     wait->waiters = PyObject_GetAttr(wait->queue, names[WAITERS]);
-    return wait->waiters != NULL;
+    if (wait->waiters == NULL) return false;
+    if (entry->system->line == NULL) return true;
+    wait->place = PyObject_GetAttr(wait->waiter, names[PLACE]);
+    if (wait->place == NULL || !PyObject_TypeCheck(wait->place, place_type)) return false;
+    if (!withholds(entry->system) || !line_holds(entry->system->line, wait->worker)) return true;
+    return call(entry->system->queues, WAKE_ALL, Py_False); /* what it has in progress isn't waited for any more */
 }
 
 /* Of one that was admitted: it waits no more, and the next is woken. False with an exception. */
 static bool quit(Wait *wait) {
     System *system = wait->entry->system;
     Calls *calls = system->calls;
+    const bool withheld = withholds(system); /* others from whom a start was withheld for this one may go on */
     PyObject *nothing = answer_of(system->queues, LEAVE, wait->queue, wait->waiter);
     Py_XDECREF(nothing);
     if (nothing == NULL || PySet_Add(system->due, wait->queue) < 0) return false;
+    if (withheld) return call(system->queues, WAKE_ALL, Py_False);
     if (PyObject_Size(wait->waiters) == 0) return true;
     if (calls->can_start(calls->handle, wait->entry->operation).code == WANZOCHE_BLOCKED) return true;
     return call(system->queues, WAKE_ALL, Py_False);
 }
 
-/* Sleeps until it is woken or the time is over, and is going to ask again. False with an exception, also if the time was over before. */
+/* Sleeps until it is woken, the time is over, or a door opens, and is going to ask again. False with an exception, also if the time was over
+** before. */
 static bool sleep_once(Wait *wait) {
     Entry *entry = wait->entry;
     if (entry->timeout != Py_None && !call(entry, IS_LATE, wait->waiter)) return false;
@@ -459,15 +500,15 @@ static bool answer_otherwise(Wait *wait) {
 
 /*
 ** From an answer to an attempt to the next. Who waits joins its queue before it asks once more, so that a finish comes before that question
-** or finds it in the queue. Only what isn't blocked is attempted again. False with an exception.
+** or finds it in the queue. Only what isn't blocked or withheld is attempted again. False with an exception.
 */
 static bool try_again(Wait *wait) {
     Entry *entry = wait->entry;
-    Calls *calls;
+    uint32_t code;
     if (wait->code != WANZOCHE_BLOCKED) return answer_otherwise(wait);
     if (!(wait->waiter == NULL ? join(wait) : sleep_once(wait))) return false;
-    calls = entry->system->calls;
-    if (calls->can_start(calls->handle, entry->operation).code == WANZOCHE_BLOCKED) return true;
+    code = wait->place == NULL ? can_start(entry) : place_asks(wait->place);
+    if (code == WANZOCHE_BLOCKED || code == WANZOCHE_WITHHELD) return true;
     return begin(entry, wait->worker, &wait->code);
 }
 
@@ -480,13 +521,30 @@ static void undo(Wait *wait) {
     call_surely(entry->system->queues, WAKE_ALL, Py_True);
 }
 
+/* Tries to begin it for one who comes now, and has the code of the answer: that of one that is blocked if it is withheld. Others may go on behind
+** it. False with an exception. */
+static bool ask(Entry *entry, uint32_t worker, uint32_t *code) {
+    System *system = entry->system;
+    *code = WANZOCHE_BLOCKED;
+    if (!withholds(system)) return begin(entry, worker, code);
+    if (!entry->record.live && line_is_ahead(system->line, entry->operation, entry->priority, worker)) {
+        entry->record.worker = worker; /* as the library writes it with an attempt: somebody enters this entry */
+        return true;
+    }
+    if (!begin(entry, worker, code)) return false;
+    if (*code != WANZOCHE_STARTED || wake(system)) return true;
+    undo(&(Wait){entry, worker, *code, NULL, NULL, NULL, NULL});
+    return false;
+}
+
 /* Waits until it is admitted, from the answer to the first attempt on. False with an exception, and then nothing is left of it. */
 static bool wait_for_turn(Entry *entry, uint32_t worker, uint32_t code) {
-    Wait wait = {entry, worker, code, NULL, NULL, NULL};
+    Wait wait = {entry, worker, code, NULL, NULL, NULL, NULL};
     bool is_well = true;
     while (is_well && wait.code != WANZOCHE_STARTED) is_well = try_again(&wait);
     if (is_well && wait.waiter != NULL) is_well = quit(&wait);
     if (!is_well) undo(&wait);
+    Py_XDECREF(wait.place);
     Py_XDECREF(wait.waiters);
     Py_XDECREF(wait.queue);
     Py_XDECREF(wait.waiter);
@@ -497,8 +555,7 @@ static PyObject *entry_enter(PyObject *self, PyObject *nothing) {
     Entry *entry = (Entry *)self;
     uint32_t worker, code;
     (void)nothing;
-    if (!number_of_thread(entry, &worker)) return NULL;
-    if (!begin(entry, worker, &code)) return NULL;
+    if (!number_of_thread(entry, &worker) || !ask(entry, worker, &code)) return NULL;
     if (code != WANZOCHE_STARTED && !wait_for_turn(entry, worker, code)) return NULL;
     Py_INCREF(self);
     return self;
@@ -538,6 +595,12 @@ static PyObject *entry_leave(PyObject *self, PyObject *nothing) {
 static PyObject *entry_begin(PyObject *self, PyObject *worker) {
     uint32_t number, code;
     if (!number_in(worker, &number) || !begin((Entry *)self, number, &code)) return NULL;
+    return PyLong_FromUnsignedLong(code);
+}
+
+static PyObject *entry_ask(PyObject *self, PyObject *worker) {
+    uint32_t number, code;
+    if (!number_in(worker, &number) || !ask((Entry *)self, number, &code)) return NULL;
     return PyLong_FromUnsignedLong(code);
 }
 
@@ -583,6 +646,7 @@ static PyMethodDef entry_methods[] = {
      "leave($self, /)\n--\n\n"
      "Finishes the operation. Raises `NotInProgress` if it isn't in progress, and `Closed` if the paths were closed meanwhile."},
     {"_begin", entry_begin, METH_O, "What the library answers to a start by this worker."},
+    {"_ask", entry_ask, METH_O, "The same of one who comes now: as of one that is blocked where it is withheld for one who waits."},
     {"_end", entry_end, METH_NOARGS, "What the library answers to a finish."},
     {NULL, NULL, 0, NULL},
 };
@@ -600,6 +664,7 @@ static PyMemberDef entry_members[] = {
     {"_name", T_OBJECT, offsetof(Entry, name), READONLY, "The operation's name."},
     {"_timeout", T_OBJECT, offsetof(Entry, timeout), READONLY, "For how many seconds it waits; None: for ever."},
     {"_op", T_UINT, offsetof(Entry, operation), READONLY, "The operation's number."},
+    {"_priority", T_UINT, offsetof(Entry, priority), READONLY, "Where it stands among those who wait: the higher, the earlier."},
     {NULL, 0, 0, 0, NULL},
 };
 
@@ -635,6 +700,7 @@ static void system_dealloc(PyObject *self) {
     PyTypeObject *type = Py_TYPE(self);
     PyObject_GC_UnTrack(self);
     Py_XDECREF(system->entry_class);
+    Py_XDECREF(system->line);
     Py_XDECREF(system->due);
     Py_XDECREF(system->queues);
     Py_XDECREF(system->numbers);
@@ -647,6 +713,7 @@ static int system_traverse(PyObject *self, visitproc visit, void *arg) {
     System *system = (System *)self;
     if (visits_type) Py_VISIT(Py_TYPE(self));
     Py_VISIT(system->entry_class);
+    Py_VISIT(system->line);
     Py_VISIT(system->due);
     Py_VISIT(system->queues);
     Py_VISIT(system->numbers);
@@ -662,13 +729,28 @@ static void put(PyObject **place, PyObject *object) {
     Py_XDECREF(before);
 }
 
+/* The same, or nothing for None. */
+static void put_or_clear(PyObject **place, PyObject *object) {
+    PyObject *before = *place;
+    if (object != Py_None) {
+        put(place, object);
+        return;
+    }
+    *place = NULL;
+    Py_XDECREF(before);
+}
+
 static PyObject *system_set_up(PyObject *self, PyObject *args) {
     System *system = (System *)self;
-    PyObject *calls, *numbers, *queues, *due, *entry_class;
+    PyObject *calls, *numbers, *queues, *due, *line, *entry_class;
     int has_threads;
-    if (!PyArg_ParseTuple(args, "O!O!OO!O!p:_set_up", calls_type, &calls, &PyDict_Type, &numbers, &queues, &PySet_Type, &due, &PyType_Type,
-                          &entry_class, &has_threads))
+    if (!PyArg_ParseTuple(args, "O!O!OO!OO!p:_set_up", calls_type, &calls, &PyDict_Type, &numbers, &queues, &PySet_Type, &due, &line,
+                          &PyType_Type, &entry_class, &has_threads))
         return NULL;
+    if (line != Py_None && !PyObject_TypeCheck(line, line_type)) {
+        PyErr_SetString(PyExc_TypeError, "the line isn't one of _core.Line, nor None");
+        return NULL;
+    }
     if (!PyType_IsSubtype((PyTypeObject *)entry_class, entry_type)) {
         PyErr_SetString(PyExc_TypeError, "the class of entries isn't one of _core.Entry");
         return NULL;
@@ -678,25 +760,27 @@ static PyObject *system_set_up(PyObject *self, PyObject *args) {
     put(&system->queues, queues);
     put(&system->due, due);
     put((PyObject **)&system->entry_class, entry_class);
+    put_or_clear((PyObject **)&system->line, line);
     put((PyObject **)&system->calls, calls);
     return none();
 }
 
 static PyObject *system_call(PyObject *self, PyObject *args, PyObject *named) {
-    static char *keywords[] = {"operation", "timeout", NULL};
+    static char *keywords[] = {"operation", "timeout", "priority", NULL};
     System *system = (System *)self;
-    PyObject *name, *timeout = Py_None;
+    PyObject *name, *timeout = Py_None, *priority = NULL;
     if (named == NULL && PyTuple_Size(args) == 1) {
         name = PyTuple_GetItem(args, 0);
-    } else if (!PyArg_ParseTupleAndKeywords(args, named, "O|O:__call__", keywords, &name, &timeout)) {
+    } else if (!PyArg_ParseTupleAndKeywords(args, named, "O|OO:__call__", keywords, &name, &timeout, &priority)) {
         return NULL;
     }
-    return new_entry(system, system->entry_class, name, timeout);
+    return new_entry(system, system->entry_class, name, timeout, priority);
 }
 
 static PyMethodDef system_methods[] = {
     {"_set_up", system_set_up, METH_VARARGS,
-     "What belongs to it: its calls, the numbers of its operations, its queues, those that are due, and the class of its entries."},
+     "What belongs to it: its calls, the numbers of its operations, its queues, those that are due, the line of those who wait or None, and the "
+     "class of its entries."},
     {NULL, NULL, 0, NULL},
 };
 
@@ -1148,13 +1232,13 @@ PyMODINIT_FUNC PyInit__core(void) {
     if (!make_names()) return NULL;
     visits_type = strncmp(Py_GetVersion(), "3.8.", 4) != 0;
     if (!made_of(&calls_type, &calls_spec) || !made_of(&system_type, &system_spec) || !made_of(&entry_type, &entry_spec)) return NULL;
-    if (!made_of(&turns_type, &turns_spec)) return NULL;
+    if (!made_of(&turns_type, &turns_spec) || !make_order_types(visits_type)) return NULL;
     if (in_use == NULL) in_use = PyErr_NewException("wanzoche._attempts.InUse", PyExc_RuntimeError, NULL);
     if (in_use == NULL) return NULL;
     made = PyModule_Create(&module);
     if (made == NULL) return NULL;
     if (add(made, "Calls", calls_type) && add(made, "System", system_type) && add(made, "Entry", entry_type) && add(made, "Turns", turns_type)
-        && add(made, "InUse", in_use))
+        && add(made, "Line", line_type) && add(made, "Place", place_type) && add(made, "InUse", in_use))
         return made;
     Py_DECREF(made);
     return NULL;

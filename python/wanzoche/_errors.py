@@ -4,7 +4,7 @@ from __future__ import annotations
 
 from typing import Any, Optional, Sequence, Tuple
 
-from ._texts import Worker
+from ._texts import Waiting, Worker
 
 
 class WanzocheError(Exception):
@@ -85,13 +85,17 @@ def _runs(operations: Sequence[Tuple[str, str]]) -> str:
     return ", ".join("{} by {}".format(name, worker.told if isinstance(worker, Worker) else worker) for name, worker in operations)
 
 
-class Blocked(WanzocheError):
-    """A path forbids the start.
+def _behind(one: Waiting) -> str:
+    return "behind {} by {}, which has waited {:.1f} s".format(one.operation, one.worker.told, one.waited)
 
-    `path` is its number and `text` what it says, `resource` whose it is, `in_progress` the operations of the path that are in progress,
-    each with who runs it (a `Worker`), and `may_begin` those of its operations that no path forbids now. `own` is for who waits within
-    itself: what it has in progress, with its name, where the operation can't begin before that is left, whatever others do; else it is
-    empty.
+
+class Blocked(WanzocheError):
+    """A path forbids the start, or it is withheld for one who waits: `behind`, which is None where a path forbids it.
+
+    `path` is the number of the path, of a start that is withheld of the first that both are in, and `text` what it says, `resource` whose it
+    is, `in_progress` the operations of the path that are in progress, each with who runs it (a `Worker`), and `may_begin` those of its
+    operations that no path forbids now. `own` is for who waits within itself: what it has in progress, with its name, where the operation
+    can't begin before that is left, whatever others do; else it is empty.
     """
 
     def __init__(
@@ -104,8 +108,9 @@ class Blocked(WanzocheError):
         after: Optional[float] = None,
         may_begin: Sequence[str] = (),
         own: Sequence[Tuple[str, str]] = (),
+        behind: Optional[Waiting] = None,
     ) -> None:
-        self._made_of = (operation, path, resource, text, tuple(in_progress), after, tuple(may_begin), tuple(own))
+        self._made_of = (operation, path, resource, text, tuple(in_progress), after, tuple(may_begin), tuple(own), behind)
         self.operation = operation
         self.path = path
         self.resource = resource
@@ -113,16 +118,21 @@ class Blocked(WanzocheError):
         self.in_progress = tuple(in_progress)
         self.may_begin = tuple(may_begin)
         self.own = tuple(own)
+        self.behind = behind
         running = _runs(in_progress) or "nothing of it; may begin next: {}".format(", ".join(may_begin) or "nothing")
         running += "; nobody else can help before this is left: " + _runs(own) if own else ""
         waited = " for {:g} seconds".format(after) if after is not None and after > 0 else ""
-        super().__init__(
-            "{} is blocked{}: path {} of {}: {}; in progress: {}".format(operation, waited, path, resource, text, running)
-        )
+        state = "blocked{}:".format(waited) if behind is None else "withheld{}: {},".format(waited, _behind(behind))
+        super().__init__("{} is {} path {} of {}: {}; in progress: {}".format(operation, state, path, resource, text, running))
+
+    def over(self, limit: Optional[float]) -> "Timeout":
+        """The same where the time is over."""
+        operation, path, resource, text, in_progress, _, may_begin, own, behind = self._made_of
+        return Timeout(operation, path, resource, text, in_progress, limit, may_begin, own, behind)
 
 
 class Timeout(Blocked, TimeoutError):
-    """The time is over, and a path still forbids the start. It is a `TimeoutError`, too."""
+    """The time is over, and a path still forbids the start, or it is withheld. It is a `TimeoutError`, too."""
 
 
 class NotInProgress(WanzocheError):

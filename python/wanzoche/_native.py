@@ -44,6 +44,12 @@ class Activation(ctypes.Structure):
     operation: int
 
 
+class Waiting(ctypes.Structure):
+    """One who waits for a start: a `wanzoche_waiter`."""
+
+    _fields_ = [("operation", c_uint32), ("priority", c_uint32), ("arrived", c_uint64), ("shut_at", c_uint64)]
+
+
 class Taken(ctypes.Structure):
     """How much of a journal's text was taken over: a `wanzoche_taken`."""
 
@@ -87,6 +93,7 @@ STALLS = 48
 REFUSED = 49
 UNDECIDED = 50
 SCRIPT_TOO_LONG = 51
+WITHHELD = 57
 
 PUT, TAKE, LOOK, ADD = range(4)
 MOST_LINES = 1048576
@@ -155,6 +162,12 @@ live = _declared(_in_turn, "live", c_uint32, c_void_p)
 take_over: Any = (
     _declared(_in_turn, "take_over", Answer, c_void_p, c_char_p, c_size_t, c_void_p)
     if hasattr(_aside, "wanzoche_take_over")
+    else None
+)
+# A library before this call keeps no order among those who wait.
+may_start: Any = (
+    _declared(_in_turn, "may_start", Answer, c_void_p, c_uint32, c_uint32, c_uint64, c_void_p, c_size_t, c_void_p, c_size_t)
+    if hasattr(_aside, "wanzoche_may_start")
     else None
 )
 # What a start or a use would be answered, which a library before `take_over` can't say.

@@ -42,7 +42,8 @@ from ._held_up import held_up
 from ._metrics import Metrics
 from ._resumed import Journal, live_workers
 from ._signature import Signature
-from ._texts import TASKS, Live, Path, Report, Verdict, Worker, read_declaration, read_report, without_marks, worker_name
+from ._order import NEVER, Line, Told, new_line
+from ._texts import TASKS, Live, Path, Report, Verdict, Waiting, Worker, read_declaration, read_report, without_marks, worker_name
 from ._waiting import Queues, Waiter, patched_by
 from ._workers import Workers
 
@@ -58,7 +59,7 @@ def _host() -> str:
     return socket.gethostname()
 
 
-def _call(self: Any, operation: str, timeout: Optional[float] = None) -> Entry:
+def _call(self: Any, operation: str, timeout: Optional[float] = None, priority: int = 0) -> Entry:
     """What the core takes where paths are called."""
     raise NotImplementedError
 
@@ -70,8 +71,11 @@ class Paths(System):
     >>> with paths("deposit"):
     ...     pass  # whatever belongs to the deposit
 
-    `paths(operation, timeout=None)` is an entry for a `with` statement, which waits until the operation is admitted, or at most so many
-    seconds. Raises `UnknownOperation`.
+    `paths(operation, timeout=None, priority=0)` is an entry for a `with` statement, which waits until the operation is admitted, or at most
+    so many seconds. Among those who wait a higher priority comes first, and then who came first. Raises `UnknownOperation`.
+
+    Starts of others are withheld for one who has waited for `patience` seconds, if they would stand in its way: docs/waiting.md. With 0 that
+    is so from the first moment on, and with `math.inf` never: then whoever is quicker comes first.
 
     `room` is how many lines the journal takes before the paths rotate it by themselves, 1 to 1,048,576. `log` gets the lines that a
     rotation gives up, in their order, as strings: a callable, a list, or a file that is open for text. Without one they are dropped.
@@ -88,11 +92,14 @@ class Paths(System):
     Raises `JournalError`, which names the line, if a reply isn't owed or the text isn't a journal, and `OutOfRoom`.
 
     With `store` all processes share the paths that open it: a file, or a URL of PostgreSQL with the log's `name`. docs/shared.md and
-    docs/machines.md say what `sync`, `lost`, `grace` and `patience` are.
+    docs/machines.md say what `sync`, `lost`, `grace` and its `patience` are.
 
     All methods may be called by any thread, by a signal handler and by a finalizer. Raises `DeclarationError` if the text isn't a
-    declaration, and `ValueError` for a bad room or for a log without a journal.
+    declaration, and `ValueError` for a bad room, a bad patience or for a log without a journal.
     """
+
+    _wait = 5_000_000
+    """So many nanoseconds one waits before starts are withheld for it."""
 
     _looks = True
     """Whether it is known which thread or task has what in progress, so that it can be told that it is in its own way."""
@@ -121,8 +128,10 @@ class Paths(System):
     ) -> None:
         if store is not None:
             raise TypeError("a subclass of Paths has no store: derive it from StoredPaths")
-        if (name, grace, patience) != (None, None, None):
-            raise TypeError("`name`, `grace` and `patience` are of a store in PostgreSQL")
+        if (name, grace) != (None, None):
+            raise TypeError("`name` and `grace` are of a store in PostgreSQL")
+        if patience is not None:
+            self._wait = _nanoseconds_of(patience)
         room = 65536 if room is None else room
         source = self._source_of(text, room)
         if log is not None and not journal:
@@ -207,23 +216,23 @@ class Paths(System):
         lines are appended. None if they go on behind none."""
         return self._resumed
 
-    def enter(self, operation: str, timeout: Optional[float] = None) -> Entry:
+    def enter(self, operation: str, timeout: Optional[float] = None, priority: int = 0) -> Entry:
         """Starts an operation, and waits until it is admitted. Leave it by `entry.leave()`.
 
         Raises `Timeout` if it isn't admitted within so many seconds, `UnknownOperation`, and `Closed` if the paths are closed.
         """
-        return self(operation, timeout).__enter__()
+        return self(operation, timeout, priority).__enter__()
 
-    def try_enter(self, operation: str) -> Optional[Entry]:
-        """Starts an operation if it is admitted now; None if a path forbids it (`why` says which)."""
-        entry = self(operation)
+    def try_enter(self, operation: str, priority: int = 0) -> Optional[Entry]:
+        """Starts an operation if it is admitted now; None if a path forbids it, or it is withheld for one who waits (`why` says which)."""
+        entry = self(operation, None, priority)
         return entry if entry._try(self._thread_worker()) else None
 
-    def aio(self, operation: str, timeout: Optional[float] = None) -> AsyncEntry:
+    def aio(self, operation: str, timeout: Optional[float] = None, priority: int = 0) -> AsyncEntry:
         """An entry for an `async with` statement."""
-        return new_async_entry(self, operation, timeout)
+        return new_async_entry(self, operation, timeout, priority)
 
-    def guards(self, operation: str, timeout: Optional[float] = None) -> Callable[[Call], Call]:
+    def guards(self, operation: str, timeout: Optional[float] = None, priority: int = 0) -> Callable[[Call], Call]:
         """A decorator: each call of the function is this operation. A coroutine function waits as a task."""
         if callable(operation):
             raise TypeError("name the operation: `@paths.guards(..)` with one of {}".format(", ".join(self._operations)))
@@ -236,14 +245,14 @@ class Paths(System):
 
                 @functools.wraps(function)
                 async def waits(*args: Any, **named: Any) -> Any:
-                    async with self.aio(operation, timeout):
+                    async with self.aio(operation, timeout, priority):
                         return await cast(Awaitable[Any], function(*args, **named))
 
                 return cast(Call, waits)
 
             @functools.wraps(function)
             def calls(*args: Any, **named: Any) -> Any:
-                with self(operation, timeout):
+                with self(operation, timeout, priority):
                     return function(*args, **named)
 
             return cast(Call, calls)
@@ -260,12 +269,34 @@ class Paths(System):
         return bool(answer.code == native.CAN_START)
 
     def why(self, operation: str) -> Optional[Blocked]:
-        """What forbids the operation now, as an exception that isn't raised; None if nothing does."""
-        return self._why(operation, self._queues.workers(self._number(operation)))
+        """What forbids the operation now, or for whom a start of it is withheld, as an exception that isn't raised; None if nothing is in the
+        way."""
+        op = self._number(operation)
+        why = self._why(operation, self._queues.workers(op))
+        told = self._line.ahead_of(op, 0, self._worker_now()) if why is None and self._line else None
+        return why if told is None else self._behind(operation, told)
 
     def _why(self, operation: str, waiting: Iterable[int]) -> Optional[Blocked]:
         """The same, where these wait for it, as far as it is known who waits."""
         return None if self.can_start(operation) else self._why_of(operation, self.report(), waiting)
+
+    def _worker_now(self) -> int:
+        """The number of the task or thread that asks; 0 if it has none."""
+        in_loop = asyncio._get_running_loop() is not None
+        of_task = self._workers.of_task(asyncio.current_task()) if in_loop else None
+        of_thread: int = getattr(self._local, "worker", 0)
+        return of_task or of_thread
+
+    def _behind(self, operation: str, told: Told) -> Blocked:
+        """That a start is withheld for this one."""
+        ahead, report = self._waiting_of(told), self.report()
+        path = next(each for each in self._paths_of_text if {operation, ahead.operation} <= set(each.operations))
+        return self._blocked(operation, self._paths_of_text.index(path), report, (), ahead)
+
+    def _waiting_of(self, told: Told) -> Waiting:
+        """One who waits, as the line tells of it."""
+        op, worker, priority, waited = told
+        return Waiting(self._operations[op], self._worker(worker), priority, waited)
 
     def _why_of(self, operation: str, report: Report, waiting: Iterable[int] = ()) -> Optional[Blocked]:
         """What a report says that forbids the operation."""
@@ -276,12 +307,15 @@ class Paths(System):
         own = (self._own_of(operation, report, [each]) for each in waiting if worker_name(each) in busy)
         return self._blocked(operation, number, report, next(filter(None, own), ()))
 
-    def _blocked(self, operation: str, number: int, report: Report, own: Tuple[Tuple[str, str], ...]) -> Blocked:
-        """That this path forbids it, where who waits has these in progress, and nobody else can help before they are left."""
+    def _blocked(
+        self, operation: str, number: int, report: Report, own: Tuple[Tuple[str, str], ...], behind: Optional[Waiting] = None
+    ) -> Blocked:
+        """That this path forbids it, where who waits has these in progress, and nobody else can help before they are left; or that it is withheld
+        for one who waits."""
         path = self._paths_of_text[number]
         running = [(each.operation, each.worker) for each in report.live if each.operation in path.operations]
         may_begin = [each for each in path.operations if each in report.startable]
-        return Blocked(operation, number, path.resource, path.text, running, None, may_begin, own)
+        return Blocked(operation, number, path.resource, path.text, running, None, may_begin, own, behind)
 
     def _own_of(self, operation: str, report: Report, workers: Sequence[int]) -> Tuple[Tuple[str, str], ...]:
         """What these workers have in progress, if the operation can't begin before that is left."""
@@ -303,13 +337,15 @@ class Paths(System):
         """Of those of these that aren't in their own way."""
         waiting = [each for each in waiters if each.paths is not None]
         if waiting:
-            self._tell_wait(operation, report, waiting[0].worker, waiting[0].since, len(waiting) - 1)
+            first = waiting[0]
+            told = None if first.place is None else first.place.behind
+            self._tell_wait(operation, report, first.worker, first.since, len(waiting) - 1, told)
 
-    def _tell_wait(self, operation: str, report: Report, worker: int, since: float, others: int) -> None:
+    def _tell_wait(self, operation: str, report: Report, worker: int, since: float, others: int, told: Optional[Told] = None) -> None:
         """Writes to the log that this one has waited since then, and so many others, too, and for whom."""
-        if operation in report.blocked and _logger.isEnabledFor(logging.INFO):
+        if (operation in report.blocked or told is not None) and _logger.isEnabledFor(logging.INFO):
             who = self._worker(worker).told + (" (and {} more)".format(others) if others else "")
-            why = self._blocked(operation, report.blocked[operation], report, ())
+            why = self._blocked(operation, report.blocked[operation], report, ()) if told is None else self._behind(operation, told)
             _logger.info("%s has waited for %.0f s: %s", who, time.monotonic() - since, why)
 
     def _tell_held_up(self, operation: str, report: Report, waiters: Sequence[Waiter]) -> None:
@@ -355,6 +391,13 @@ class Paths(System):
             raise self._closed()
         waiting = {name: self._queues.waiting(op) for name, op in self._numbers.items()}
         return {name: number for name, number in waiting.items() if number}
+
+    def waiters(self) -> List[Waiting]:
+        """Who waits, in the order in which they come next where nothing is in their way. Of a task and a thread alike: the operation, the
+        worker, the priority, and for how many seconds it has waited."""
+        if native.can_start(self._at, 0).code == native.CLOSED:
+            raise self._closed()
+        return [] if self._line is None else [self._waiting_of(told) for told in self._line.waiters()]
 
     def metrics(self) -> Dict[str, Metrics]:
         """What was counted of each operation in this process since the paths were opened: how often it was begun, how many had to wait for
@@ -435,11 +478,16 @@ class Paths(System):
         self._at = ctypes.addressof(handle)
         self._numbers = numbers
         self._calls = Calls(handle, len(numbers))
+        self._line = self._new_line(handle)
         self._queues = self._new_queues()
-        self._set_up(self._calls, numbers, self._queues, self._queues.due, new_entry, patched_by() is None)
+        self._set_up(self._calls, numbers, self._queues, self._queues.due, self._line, new_entry, patched_by() is None)
+
+    def _new_line(self, handle: native.Handle) -> Optional[Line]:
+        """Who waits, in order; None where there is no order."""
+        return new_line(handle, self._wait) if native.may_start else None
 
     def _new_queues(self) -> Queues:
-        return Queues(self._calls)
+        return Queues(self._calls, self._line)
 
     def _dropped(self, operation: str) -> None:
         """Called after an entry in progress that nobody holds was finished: others have their turn, and a warning says so."""
@@ -616,6 +664,15 @@ def _explained(source: bytes) -> str:
     if native.explain(source, len(source), buffer, len(buffer)).code != native.WRITTEN:
         return ""
     return buffer.value.decode("utf-8", "replace").split(":", 3)[3]
+
+
+def _nanoseconds_of(patience: float) -> int:
+    """How long one waits before starts are withheld for it. Raises TypeError for what is no number, and ValueError for one below 0."""
+    if not isinstance(patience, (int, float)) or isinstance(patience, bool):
+        raise TypeError("the patience is a number of seconds, not {!r}".format(patience))
+    if not patience >= 0:
+        raise ValueError("the patience is 0 or more seconds, not {!r}".format(patience))
+    return int(patience * 1e9) if patience < 1e9 else NEVER
 
 
 def _log_call(log: Optional[Log]) -> Optional[Callable[[str], Any]]:

@@ -8,8 +8,9 @@ from types import TracebackType
 from typing import TYPE_CHECKING, Any, Dict, Generator, Optional, Set, Type, TypeVar, cast
 
 from . import _native as native
-from ._attempts import Operation, admitted, check_seconds, in_use, undo, waiting, warn_in_loop
+from ._attempts import Operation, admitted, check_priority, check_seconds, in_use, undo, waiting, warn_in_loop
 from ._metrics import new_counters, value_of
+from ._order import Line
 from ._waiting import Queue, Queues, TaskWaiter, ThreadWaiter, Waiter
 
 if TYPE_CHECKING:
@@ -49,22 +50,24 @@ class System:
         numbers: Dict[str, int],
         queues: Queues,
         due: Set[Queue],
+        line: Optional[Line],
         entry_class: "Type[PublicEntry]",
         has_threads: bool,
     ) -> None:
         """What belongs to it."""
         self._entry_class = entry_class
 
-    def __call__(self, operation: str, timeout: Optional[float] = None) -> "PublicEntry":
+    def __call__(self, operation: str, timeout: Optional[float] = None, priority: int = 0) -> "PublicEntry":
         """An entry for a `with` statement, which waits until the operation is admitted, or at most so many seconds."""
-        return self._entry_class(cast("Paths", self), operation, timeout)
+        return self._entry_class(cast("Paths", self), operation, timeout, priority)
 
 
 class _Operation(native.Record):
     """What the library writes of an entry, and what else its turn has to know: the turn has to do without the entry itself."""
 
-    def __init__(self, paths: "Paths", name: str, timeout: Optional[float]) -> None:
+    def __init__(self, paths: "Paths", name: str, timeout: Optional[float], priority: int) -> None:
         check_seconds(timeout)
+        self._priority = check_priority(priority)
         self._paths = paths
         self._op = paths._number(name)
         self._name = name
@@ -73,6 +76,19 @@ class _Operation(native.Record):
 
     def _begin(self, worker: int) -> int:
         return int(_begin(self._paths._at, worker, self._op, self._at))
+
+    def _ask(self, worker: int) -> int:
+        """The same of one who comes now: as of one that is blocked where it is withheld for one who waits. Others may go on behind it."""
+        line, queues = self._paths._line, self._paths._queues
+        if not line or not line.withholds():
+            return self._begin(worker)
+        if line.ahead_of(self._op, self._priority, worker) is not None:
+            self._worker = worker  # as the library writes it with an attempt: somebody enters this entry
+            return native.BLOCKED
+        code = self._begin(worker)
+        if code == _STARTED:
+            queues.wake_all()
+        return code
 
     def _end(self) -> int:
         return int(_end(self._paths._at, self._at))
@@ -96,7 +112,7 @@ def _turn(operation: _Operation, worker: int, waiter_of: Optional[Type[Waiter]])
         raise in_use(operation)
     try:
         try:
-            code = _begin(paths._at, worker, operation._op, operation._at)
+            code = operation._ask(worker) if paths._line else _begin(paths._at, worker, operation._op, operation._at)
             if code != _STARTED:
                 if waiter_of is not None:
                     yield from waiting(operation, code, worker, waiter_of)
@@ -158,8 +174,8 @@ class Entry:
     """The class that it gets when somebody enters it. Until then its class has a finalizer besides. Python loses an interrupt that comes
     while a finalizer runs, so only those have one of which there is something to say."""
 
-    def __init__(self, paths: "Paths", operation: str, timeout: Optional[float]) -> None:
-        self._operation: Operation = _Operation(paths, operation, timeout)
+    def __init__(self, paths: "Paths", operation: str, timeout: Optional[float], priority: int = 0) -> None:
+        self._operation: Operation = _Operation(paths, operation, timeout, priority)
         self._turn: Optional[_Turn] = None
 
     def __enter__(self: _Self) -> _Self:

@@ -41,7 +41,7 @@ class Entry(CoreEntry):
         """Called where a thread has to wait."""
         if _get_running_loop() is not None:
             warn_in_loop(self)
-        waiter = ThreadWaiter(self._op, self._timeout)
+        waiter = ThreadWaiter(self._op, self._timeout, self._priority)
         waiter.paths, waiter.worker = self._paths, worker
         return waiter
 
@@ -58,7 +58,7 @@ class Entry(CoreEntry):
         if self._live:
             raise in_use(self)
         try:
-            code = self._begin(worker)
+            code = self._ask(worker)
             if code != _STARTED:
                 for waiter in waiting(self, code, worker, TaskWaiter):
                     await cast(TaskWaiter, waiter).wait()
@@ -71,7 +71,7 @@ class Entry(CoreEntry):
         if self._live:
             raise in_use(self)
         try:
-            code = self._begin(worker)
+            code = self._ask(worker)
             return code == _STARTED or admitted(self, code, worker)
         except BaseException as error:
             undo(self, error, worker, None)

@@ -18,7 +18,7 @@ from ._log import MOST_IN_SEGMENT, SEGMENT, Log, may_pass
 from ._postgresql import Cut
 from ._requests import Finish, Question, Request, Start, Use, wake_nobody
 from ._store import Store
-from ._stored import Begun, StoredPaths, _Stored
+from ._stored import Begun, StoredPaths, _Stored, without_order
 from ._texts import Report, read_declaration
 from ._waiting import Queues
 
@@ -493,11 +493,11 @@ class ServedPaths(StoredPaths):
         self._served = ServedStore(str(store), source, handle, name=name, grace=self._grace, patience=self._patience, **options)
         return cast(Store, self._served)  # it has the calls that paths make
 
-    def __call__(self, operation: str, timeout: Optional[float] = None) -> Entry:
-        return ServedEntry(self, operation, timeout)
+    def __call__(self, operation: str, timeout: Optional[float] = None, priority: int = 0) -> Entry:
+        return ServedEntry(self, operation, without_order(timeout, priority))
 
-    def aio(self, operation: str, timeout: Optional[float] = None) -> AsyncEntry:
-        return ServedAsyncEntry(self, operation, timeout)
+    def aio(self, operation: str, timeout: Optional[float] = None, priority: int = 0) -> AsyncEntry:
+        return ServedAsyncEntry(self, operation, without_order(timeout, priority))
 
     def _new_queues(self) -> Queues:
         return ServedQueues(self._calls, self._served.clerk)

@@ -16,14 +16,14 @@ from types import TracebackType
 from typing import Any, Callable, Dict, Iterator, List, Mapping, NoReturn, Optional, Sequence, Tuple, Type, TypeVar, Union, cast
 
 from . import _native as native
-from ._attempts import admitted, check_seconds, frames_of_package, in_use, raise_if_late, undo, waiting
+from ._attempts import admitted, check_priority, check_seconds, frames_of_package, in_use, raise_if_late, undo, waiting
 from ._entries import AsyncEntry, Entry, check_number, raise_refused_use
 from ._errors import Blocked, Closed, Lost, StoreError, WanzocheError
 from ._metrics import new_counters, value_of
 from ._paths import Paths, _host, audit, declaration_error
 from ._replica import Replica
 from ._store import CHECK, Store
-from ._texts import Live, Report, Verdict, Worker, read_report
+from ._texts import Live, Report, Verdict, Waiting, Worker, read_report
 from ._waiting import Calls, Queue, Queues, TaskWaiter, ThreadWaiter, Waiter, patched_by
 
 LINGER = 1.0
@@ -56,6 +56,8 @@ class Begun:
     """An operation that is to begin, in progress or over: what its turn has to know. The turn has to do without the entry itself."""
 
     __slots__ = ("_paths", "_op", "_name", "_word", "_timeout", "_live", "_number", "_worker", "_is_tried", "__weakref__")
+
+    _priority = 0
 
     def __init__(self, paths: "StoredPaths", name: str, timeout: Optional[float]) -> None:
         check_seconds(timeout)
@@ -214,6 +216,13 @@ class _Stored(Entry):
         self._begun._is_tried = True
 
 
+def without_order(timeout: Optional[float], priority: int) -> Optional[float]:
+    """The same limit of time. Raises ValueError for a priority, which is for who waits at paths of one process."""
+    if check_priority(priority):
+        raise ValueError("over a store nobody stands in order: a priority is for those who wait in one process")
+    return timeout
+
+
 def _begun_alone(begun: Begun, worker: int) -> int:
     """Begins it, and waits at the store for its turn, if nobody else in this process waits for the operation: the answer's code."""
     paths, limit = begun._paths, begun._timeout
@@ -317,7 +326,7 @@ async def _begun_in_turn(begun: Begun, worker: int, waiter: TaskWaiter) -> int:
                 return end
         raise_if_late(begun, waiter)
         await waiter.wait()
-        paths._queues.asks(waiter)
+        paths._queues.woken(waiter)
 
 
 async def _aside(pool: concurrent.futures.Executor, call: Callable[..., T], *given: Any) -> T:
@@ -493,11 +502,15 @@ class StoredPaths(Paths):
         """The store, not yet open. It takes what it knows of the other options."""
         return Store(store, source, handle, **options)
 
-    def __call__(self, operation: str, timeout: Optional[float] = None) -> Entry:
-        return StoredEntry(self, operation, timeout)
+    def __call__(self, operation: str, timeout: Optional[float] = None, priority: int = 0) -> Entry:
+        return StoredEntry(self, operation, without_order(timeout, priority))
 
-    def aio(self, operation: str, timeout: Optional[float] = None) -> AsyncEntry:
-        return StoredAsyncEntry(self, operation, timeout)
+    def aio(self, operation: str, timeout: Optional[float] = None, priority: int = 0) -> AsyncEntry:
+        return StoredAsyncEntry(self, operation, without_order(timeout, priority))
+
+    def waiters(self) -> List[Waiting]:
+        """Over a store nobody knows who waits in other processes: raises TypeError. `waiting()` counts who waits in this one."""
+        raise TypeError("over a store nobody knows who waits in other processes: waiting() counts who waits in this one")
 
     @property
     def worker(self) -> str:
@@ -605,6 +618,9 @@ class StoredPaths(Paths):
 
     def _new_queues(self) -> Queues:
         return StoreQueues(self._calls, self._store)
+
+    def _new_line(self, handle: native.Handle) -> None:
+        return None
 
     def _pool(self) -> concurrent.futures.Executor:
         if self._executor is None:

@@ -46,6 +46,17 @@ class Live(NamedTuple):
     operation: str
 
 
+class Waiting(NamedTuple):
+    """One who waits."""
+
+    operation: str
+    """What it waits for."""
+    worker: Worker
+    priority: int
+    waited: float
+    """For how many seconds it has waited up to now."""
+
+
 class Report(NamedTuple):
     """What can happen next. `str` gives its text."""
 

@@ -7,6 +7,9 @@ a turn from being lost:
 * Whoever is going to wait joins its queue, and then asks once more whether it may start. So a finish either comes before that question,
   or finds it in the queue.
 * Whoever stops waiting, admitted or not, wakes the next.
+
+Who stands in whose way is the line's to say (`_order.py`): from whom a start is withheld asks again by itself when a door opens. It is woken
+before if it may go on.
 """
 
 from __future__ import annotations
@@ -17,7 +20,9 @@ import time
 from collections import OrderedDict
 from typing import Dict, Iterator, Optional, Protocol, Sequence, Set, Tuple, cast
 
+from . import _native as native
 from ._metrics import Waits
+from ._order import Line, Place
 
 
 class Calls(Protocol):
@@ -53,10 +58,12 @@ FIRST_LOOK = 1.0
 class Waiter:
     """Who waits for one operation, and until when."""
 
-    __slots__ = ("op", "loop", "paths", "worker", "looks", "since", "_until")
+    __slots__ = ("op", "priority", "place", "loop", "paths", "worker", "looks", "since", "_until")
 
-    def __init__(self, op: int, seconds: Optional[float]) -> None:
-        self.op = op
+    def __init__(self, op: int, seconds: Optional[float], priority: int = 0) -> None:
+        self.op, self.priority = op, priority
+        self.place: Optional[Place] = None
+        """Where it stands in line; None before, and where there is none."""
         self.loop: Optional[asyncio.AbstractEventLoop] = None
         self.paths: Optional[Looking] = None
         """Who looks whether it is in its own way; None if that isn't to be found out, or has been."""
@@ -69,6 +76,13 @@ class Waiter:
         """How many seconds are left; None if the time isn't limited."""
         return None if self._until is None else self._until - time.monotonic()
 
+    def sleeps(self) -> Optional[float]:
+        """For how many seconds it may sleep: until its time is over, or a door opens. None for ever."""
+        place = self.place
+        opens = None if place is None else place.opens
+        ends = self._until if opens is None else opens if self._until is None else min(opens, self._until)
+        return None if ends is None else max(ends - time.monotonic(), 0.0)
+
     def wake(self) -> None:
         """Ends the wait, or the next one. To wake it twice is to wake it once."""
         raise NotImplementedError
@@ -79,8 +93,9 @@ class ThreadWaiter(Waiter):
 
     __slots__ = ("_asleep",)
 
-    def __init__(self, op: int, seconds: Optional[float]) -> None:
-        self.op, self.loop, self.paths, self.worker = op, None, None, 0  # looks are counted of tasks
+    def __init__(self, op: int, seconds: Optional[float], priority: int = 0) -> None:
+        self.op, self.priority, self.place = op, priority, None
+        self.loop, self.paths, self.worker, self.looks = None, None, 0, 0
         self._until = None if seconds is None else time.monotonic() + seconds
         self._asleep = asleep = _new_lock()
         asleep.acquire()
@@ -92,7 +107,10 @@ class ThreadWaiter(Waiter):
             pass  # it is awake already
 
     def wait(self) -> None:
-        """Waits until it is woken, or the time is over."""
+        """Waits until it is woken, the time is over, or a door opens."""
+        if self.place is not None and self.place.opens is not None:
+            self._wait_for_door()
+            return
         if self._until is None and self._asleep.acquire(True, FIRST_LOOK):
             return
         looks = FIRST_LOOK
@@ -102,6 +120,13 @@ class ThreadWaiter(Waiter):
             if self.paths is not None:
                 self.paths._look_at([self])
             looks *= 2
+
+    def _wait_for_door(self) -> None:
+        if self._asleep.acquire(True, self.sleeps() or 0.0) or self.paths is None:
+            return
+        if time.monotonic() - self.since >= FIRST_LOOK * 2**self.looks:
+            self.looks += 1
+            self.paths._look_at([self])
 
     def _sleeps(self, looks: float) -> float:
         """For how many seconds it may sleep now, if it is looked after so many. Without a time limit it has slept for the first ones."""
@@ -116,8 +141,8 @@ class TaskWaiter(Waiter):
 
     __slots__ = ("_awake",)
 
-    def __init__(self, op: int, seconds: Optional[float]) -> None:
-        super().__init__(op, seconds)
+    def __init__(self, op: int, seconds: Optional[float], priority: int = 0) -> None:
+        super().__init__(op, seconds, priority)
         self.loop = asyncio.get_running_loop()
         self._awake = asyncio.Event()
 
@@ -126,9 +151,9 @@ class TaskWaiter(Waiter):
         self.loop.call_soon_threadsafe(self._awake.set)
 
     async def wait(self) -> None:
-        """Waits until it is woken, or the time is over."""
-        left = self.left()
-        alarm = None if left is None or self.loop is None else self.loop.call_later(max(left, 0.0), self._awake.set)
+        """Waits until it is woken, the time is over, or a door opens."""
+        left = self.sleeps()
+        alarm = None if left is None or self.loop is None else self.loop.call_later(left, self._awake.set)
         try:
             await self._awake.wait()
         finally:
@@ -141,12 +166,13 @@ _Loop = Optional[asyncio.AbstractEventLoop]
 
 
 class Queue:
-    """Who waits for one operation, in the order in which they came: threads, or the tasks of one loop."""
+    """Who waits for one operation with one priority, in the order in which they came: threads, or the tasks of one loop."""
 
-    __slots__ = ("op", "loop", "waiters", "_look_comes")
+    __slots__ = ("op", "priority", "loop", "waiters", "_look_comes")
 
-    def __init__(self, op: int, loop: _Loop) -> None:
+    def __init__(self, op: int, priority: int, loop: _Loop) -> None:
         self.op = op
+        self.priority = priority
         self.loop = loop
         self.waiters: "OrderedDict[Waiter, None]" = OrderedDict()
         self._look_comes = False
@@ -185,44 +211,68 @@ class Queue:
 class Queues:
     """Who waits at the system of a handle.
 
-    Each operation has a queue for threads, and one for the tasks of each loop: a loop that ends while the first of its tasks is being
-    woken holds up nobody else. A queue is in `due` if its first has to be woken once the operation may start, and not if one of it has been
-    woken already: that one asks again, or quits, and puts the queue back.
+    Each operation and priority has a queue for threads, and one for the tasks of each loop: a loop that ends while the first of its tasks is
+    being woken holds up nobody else. A queue is in `due` if its first has to be woken once it may start, and not if one of it has been woken
+    already: that one asks again, or quits, and puts the queue back.
     """
 
-    __slots__ = ("_is_blocked", "_queues", "due", "waits")
+    __slots__ = ("_is_blocked", "_line", "_queues", "due", "waits")
 
-    def __init__(self, calls: Calls) -> None:
+    def __init__(self, calls: Calls, line: Optional[Line] = None) -> None:
         self._is_blocked = calls.is_blocked
-        self._queues: Dict[Tuple[int, _Loop], Queue] = {}
+        self._line = line
+        self._queues: Dict[Tuple[int, int, _Loop], Queue] = {}
         self.due: Set[Queue] = set()
         self.waits = Waits()
 
     def join(self, waiter: Waiter) -> Queue:
         """The waiter waits for its operation, behind those that wait for it already, in this queue."""
-        queue = self._queues.get((waiter.op, waiter.loop)) or self._new_queue(waiter)
+        queue = self._queues.get((waiter.op, waiter.priority, waiter.loop)) or self._new_queue(waiter)
         waiter.since = time.monotonic()
         queue.waiters[waiter] = None
+        if self._line is not None:
+            waiter.place = Place(self._line, waiter.op, waiter.priority, waiter.worker)
+            waiter.place.stand()
         self.due.add(queue)
         return queue
 
-    def asks(self, waiter: Waiter) -> None:
+    def asks(self, waiter: Waiter) -> int:
+        """The waiter is going to begin, if it may: what its start would be answered."""
+        if waiter.place is not None:
+            return waiter.place.asks()
+        return native.BLOCKED if self._is_blocked(waiter.op) else native.CAN_START
+
+    def woken(self, waiter: Waiter) -> None:
         """The waiter was woken, and is going to ask whether it may start."""
-        queue = self._queues.get((waiter.op, waiter.loop))
+        queue = self._queues.get((waiter.op, waiter.priority, waiter.loop))
         if queue is not None:
             self.due.add(queue)
 
+    def withholds(self) -> bool:
+        """Whether a start may be withheld now for one who waits."""
+        return self._line is not None and self._line.withholds()
+
+    def rests(self, waiter: Waiter) -> None:
+        """The waiter has joined: what it has in progress isn't waited for any more, so others may go on."""
+        if self._line is not None and self._line.withholds() and self._line.holds(waiter.worker):
+            self.wake_all()
+
     def quit(self, waiter: Waiter) -> None:
         """The waiter waits no more, and the next is woken. To do so twice does no harm."""
-        queue = self._queues.get((waiter.op, waiter.loop))
+        withheld = self.withholds()
+        queue = self._queues.get((waiter.op, waiter.priority, waiter.loop))
         waiter.paths = None
         if queue is not None:
             self.leave(queue, waiter)
             self.due.add(queue)
             self._wake_first(queue)
+        if withheld:
+            self.wake_all()
 
     def leave(self, queue: Queue, waiter: Waiter) -> None:
         """The waiter waits no more in this queue; how long it did is noted once."""
+        if waiter.place is not None:
+            waiter.place.step_out()
         if queue.waiters.pop(waiter, waiter) is None:
             self.waits.note(waiter.op, time.monotonic() - waiter.since)
 
@@ -237,11 +287,10 @@ class Queues:
                 yield from (each.worker for each in list(queue.waiters) if each.worker)
 
     def wake_all(self, again: bool = False) -> None:
-        """Wakes the first of each queue whose operation may start, if it is due; of all queues after an interrupt, which may have come just
-        before a wake."""
+        """Wakes the first of each queue that may start, if it is due; of all queues after an interrupt, which may have come just before a
+        wake."""
         for queue in list(self._queues.values() if again else self.due):
-            if not (queue.waiters and self._is_blocked(queue.op)):
-                self._wake_first(queue)
+            self._wake_first(queue)
 
     def end_all(self) -> None:
         """Wakes all that wait."""
@@ -253,14 +302,14 @@ class Queues:
         for queue in list(self._queues.values()):
             if queue.is_over():
                 self._drop(queue)
-        return self._queues.setdefault((waiter.op, waiter.loop), Queue(waiter.op, waiter.loop))
+        return self._queues.setdefault((waiter.op, waiter.priority, waiter.loop), Queue(waiter.op, waiter.priority, waiter.loop))
 
     def _wake_first(self, queue: Queue) -> None:
         if not queue.waiters:
             self.due.discard(queue)
             if queue.waiters:  # one that came meanwhile
                 self.due.add(queue)
-        elif not self._is_blocked(queue.op):
+        elif not self._is_held_back(queue):
             self.due.discard(queue)
             try:
                 for first in queue.waiters:
@@ -271,6 +320,12 @@ class Queues:
                 if first_now is not None:
                     self._wake(queue, first_now)
 
+    def _is_held_back(self, queue: Queue) -> bool:
+        """Whether the first of a queue has to wait on, and needs no wake for that."""
+        first = queue.first()
+        place = None if first is None else first.place
+        return self._is_blocked(queue.op) if place is None else place.is_held_back()
+
     def _wake(self, queue: Queue, waiter: Waiter) -> None:
         try:
             waiter.wake()
@@ -278,5 +333,5 @@ class Queues:
             self._drop(queue)
 
     def _drop(self, queue: Queue) -> None:
-        self._queues.pop((queue.op, queue.loop), None)
+        self._queues.pop((queue.op, queue.priority, queue.loop), None)
         self.due.discard(queue)
