@@ -15,6 +15,7 @@ from unittest import mock
 
 from wanzoche import Blocked, Closed, Paths, Timeout, Waiting, _order
 from wanzoche._form import core
+from wanzoche._waiting import ThreadWaiter
 
 from .declarations import BOOK
 from .interrupts import Alarms, may_leave_unused
@@ -392,6 +393,25 @@ class Told(Threads):
         with paths("read"):
             self.comes(paths, "write", "writer")
             self.assertIsNone(paths.why("read"))
+        self.end(paths)
+
+    def test_a_handler_in_the_middle_of_its_thread_s_wait(self):
+        """It doesn't have to wait for its own thread."""
+        paths = self.strict(BOOK)
+        self.comes(paths, "read", "holder", waits=False)
+        wait, asked = ThreadWaiter.wait, []
+
+        def asks_meanwhile(waiter):
+            if not asked:
+                asked.append(paths.why("read"))
+                paths.enter("read").leave()
+                paths.try_enter("read").leave()
+                self.leaves("holder")
+            wait(waiter)
+
+        with mock.patch.object(ThreadWaiter, "wait", asks_meanwhile):
+            paths.enter("write").leave()
+        self.assertEqual(asked, [None])
         self.end(paths)
 
     def test_bad_options(self):

@@ -115,13 +115,21 @@ static bool is_before(const Waiter *one, const Waiter *other) {
     return one->priority != other->priority ? one->priority > other->priority : one->turn < other->turn;
 }
 
+/* The first of a rank whom one who asks might have to wait for; null if there is none. That isn't itself: a signal handler may ask in the middle
+** of its thread's wait, which can't go on before. */
+static Place *first_but(const Rank *rank, const Waiter *asker) {
+    Place *first = rank->first;
+    while (first != NULL && first->is.worker == asker->worker) first = first->behind;
+    return first != NULL && is_before(&first->is, asker) ? first : NULL;
+}
+
 /* Lists the firsts that stand before one who asks, in their order: how many they are. `shuts` says whether one of them may withhold anything. */
 static size_t list_waiting(Line *line, const Waiter *asker, uint64_t time, bool *shuts) {
     size_t count = 0, at;
     *shuts = false;
     for (size_t i = 0; i < line->ranks_used; i++) {
-        Place *first = line->ranks[i].first;
-        if (!is_before(&first->is, asker)) continue;
+        Place *first = first_but(&line->ranks[i], asker);
+        if (first == NULL) continue;
         for (at = count++; at > 0 && is_before(&first->is, &line->told[at - 1]->is); at--) line->told[at] = line->told[at - 1];
         line->told[at] = first;
     }

@@ -142,10 +142,11 @@ class Line:
 
     def _ahead(self, asker: Place) -> List[Place]:
         """Those who stand before one who asks, in order, but of each operation and priority the first alone: the others can't begin before
-        it."""
+        it. None of them is the one who asks: a signal handler may do so in the middle of its thread's wait, which can't go on before."""
         firsts: Dict[Tuple[int, int], Place] = {}
         for each in list(self.places):
-            firsts.setdefault((each.op, each.priority), each)
+            if each.worker != asker.worker:
+                firsts.setdefault((each.op, each.priority), each)
         key = asker.key()
         return sorted((each for each in firsts.values() if each.key() < key), key=Place.key)
 
