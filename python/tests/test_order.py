@@ -365,6 +365,12 @@ class Told(Threads):
     """What one is told who has to wait for another."""
 
     def test_for_whom(self):
+        patch, told = mock.patch.object(sys, "unraisablehook", lambda it: told.append(it.exc_value)), []
+        with patch:
+            self.tell_for_whom()
+        self.assertEqual(told, [])  # no entry that was withheld is called one that nobody entered
+
+    def tell_for_whom(self):
         paths = self.strict(BOOK)
         self.comes(paths, "read", "holder", waits=False)
         self.comes(paths, "write", "writer")
@@ -559,15 +565,24 @@ class Tasks(Threads):
     def test_one_that_is_let_in_ends_the_way_of_another(self):
         async def main():
             paths = self.strict(STEPS)
-            holder, hold = paths.enter("read"), paths.enter("hold")
+            holder, hold, may_leave = paths.enter("read"), paths.enter("hold"), asyncio.Event()
+
+            async def steps():
+                async with paths.aio("step", priority=1):
+                    self.came.append("step")
+                    await may_leave.wait()
+
             tasks = [asyncio.ensure_future(self.stays(paths, "write", "writer"))]
-            for number, (operation, priority) in enumerate((("read", 0), ("step", 1))):
-                await self.until_waiting(paths, number + 1)
-                tasks.append(asyncio.ensure_future(self.stays(paths, operation, operation, priority=priority)))
+            await self.until_waiting(paths, 1)
+            tasks.append(asyncio.ensure_future(self.stays(paths, "read", "read")))
+            await self.until_waiting(paths, 2)
+            tasks.append(asyncio.ensure_future(steps()))
             await self.until_waiting(paths, 3)
             hold.leave()
             await tasks[1]
             self.assertEqual(self.came, ["step", "read"])
+            may_leave.set()
+            await tasks[2]
             holder.leave()
             paths.enter("back").leave()
             await tasks[0]
