@@ -11,7 +11,7 @@ _wanzoche_operations() {
 }
 
 _wanzoche() {
-    local word=${COMP_WORDS[COMP_CWORD]} commands='exec status log audit watch recover pass operations' options='' wants='' store='' declaration='' behind=0 n it
+    local word=${COMP_WORDS[COMP_CWORD]} commands='exec status log audit watch view recover pass operations' options='' wants='' store='' declaration='' behind=0 n it
     COMPREPLY=()
     case ${COMP_WORDS[1]} in
     exec) options=' --help --store --name --declaration --timeout --nonblock --conflict-status --token-env --every --passed --failed --quiet --lost --no-sync ' ;;
@@ -19,6 +19,7 @@ _wanzoche() {
     log) options=' --help --store --name --declaration ' ;;
     audit) options=' --help --store --name --declaration ' ;;
     watch) options=' --help --store --name --declaration ' ;;
+    view) options=' --help --store --name --declaration --port --open ' ;;
     recover) options=' --help --store --name --declaration --even-alive ' ;;
     pass) options=' --help --store --name --declaration --timeout ' ;;
     operations) options=' --help --store --name --declaration ' ;;
@@ -44,7 +45,7 @@ _wanzoche() {
         fi
         options=${options/ $it / }
         case $it in
-        --conflict-status | --declaration | --every | --failed | --lost | --name | --passed | --store | --timeout | --token-env) wants=$it ;;
+        --conflict-status | --declaration | --every | --failed | --lost | --name | --passed | --port | --store | --timeout | --token-env) wants=$it ;;
         -*) ;;
         *) behind=$((n + 1)) ;;
         esac

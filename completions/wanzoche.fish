@@ -13,7 +13,7 @@ end
 
 function __wanzoche_lacks --argument-names option --description 'whether this option is still to come'
     set -l words (commandline -opc)
-    if contains -- $words[-1] --conflict-status --declaration --every --failed --lost --name --passed --store --timeout --token-env
+    if contains -- $words[-1] --conflict-status --declaration --every --failed --lost --name --passed --port --store --timeout --token-env
         set -e words[-1]
     end
     not contains -- $option $words; and not string match -q -- "$option=*" $words
@@ -40,7 +40,7 @@ function __wanzoche_behind --description 'the words behind the operation of exec
         set -e words[1]
         if test $is_value -eq 1
             set is_value 0
-        else if contains -- $word --conflict-status --declaration --every --failed --lost --name --passed --store --timeout --token-env
+        else if contains -- $word --conflict-status --declaration --every --failed --lost --name --passed --port --store --timeout --token-env
             set is_value 1
         else if not string match -q -- '-*' $word
             string join \n -- $words
@@ -89,6 +89,7 @@ complete -c wanzoche -n __wanzoche_is -a status -d 'say what can be started, whi
 complete -c wanzoche -n __wanzoche_is -a log -d 'write the lines of the journal'
 complete -c wanzoche -n __wanzoche_is -a audit -d 'say whether each reply in the journal was owed'
 complete -c wanzoche -n __wanzoche_is -a watch -d 'write the lines of the journal as they come'
+complete -c wanzoche -n __wanzoche_is -a view -d 'serve a page to browsers of this machine that shows how the store is, and write its address'
 complete -c wanzoche -n __wanzoche_is -a recover -d 'finish what a dead worker has in progress'
 complete -c wanzoche -n __wanzoche_is -a pass -d 'begin an operation and end it at once, so that the paths go on to what stands behind it'
 complete -c wanzoche -n __wanzoche_is -a operations -d 'write the operations that are declared, one in a line'
@@ -129,6 +130,12 @@ complete -c wanzoche -n '__wanzoche_is watch; and __wanzoche_lacks --help' -s h 
 complete -c wanzoche -n '__wanzoche_is watch; and __wanzoche_lacks --store' -l store -r -F -d 'the file of the journal that the processes share, or the URL of a PostgreSQL database'
 complete -c wanzoche -n '__wanzoche_is watch; and __wanzoche_lacks --name' -l name -x -d 'the name of the log, of a store in PostgreSQL'
 complete -c wanzoche -n '__wanzoche_is watch; and __wanzoche_lacks --declaration' -l declaration -r -F -d 'the file of the declaration, for a store that isn\'t there yet; else it has to be the store\'s'
+complete -c wanzoche -n '__wanzoche_is view; and __wanzoche_lacks --help' -s h -l help -d 'show this help message and exit'
+complete -c wanzoche -n '__wanzoche_is view; and __wanzoche_lacks --store' -l store -r -F -d 'the file of the journal that the processes share, or the URL of a PostgreSQL database'
+complete -c wanzoche -n '__wanzoche_is view; and __wanzoche_lacks --name' -l name -x -d 'the name of the log, of a store in PostgreSQL'
+complete -c wanzoche -n '__wanzoche_is view; and __wanzoche_lacks --declaration' -l declaration -r -F -d 'the file of the declaration, for a store that isn\'t there yet; else it has to be the store\'s'
+complete -c wanzoche -n '__wanzoche_is view; and __wanzoche_lacks --port' -l port -x -d 'the port of 127.0.0.1 on which it is served; else a free one'
+complete -c wanzoche -n '__wanzoche_is view; and __wanzoche_lacks --open' -l open -d 'open the page in a browser'
 complete -c wanzoche -n '__wanzoche_is recover; and __wanzoche_lacks --help' -s h -l help -d 'show this help message and exit'
 complete -c wanzoche -n '__wanzoche_is recover; and __wanzoche_lacks --store' -l store -r -F -d 'the file of the journal that the processes share, or the URL of a PostgreSQL database'
 complete -c wanzoche -n '__wanzoche_is recover; and __wanzoche_lacks --name' -l name -x -d 'the name of the log, of a store in PostgreSQL'

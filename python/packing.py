@@ -140,7 +140,7 @@ def _record(files: Dict[str, bytes], name: str) -> bytes:
 
 
 def _modules() -> List[str]:
-    return sorted(name for name in os.listdir(os.path.join(HERE, PACKAGE)) if name.endswith((".py", ".pyi", ".typed", ".sql")))
+    return sorted(name for name in os.listdir(os.path.join(HERE, PACKAGE)) if name.endswith((".py", ".pyi", ".typed", ".sql", ".html")))
 
 
 def _date() -> int:

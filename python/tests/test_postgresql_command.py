@@ -10,6 +10,7 @@ import sys
 import tempfile
 import time
 import unittest
+import urllib.request
 
 from wanzoche._every import seconds_since
 
@@ -194,6 +195,29 @@ class Commands(OnServer, unittest.TestCase):
                 self.assertIn(b"finished", process.stdout.readline())
             process.send_signal(signal.SIGINT)
             self.assertEqual(process.wait(LONGEST), 128 + signal.SIGINT)
+
+    def test_viewing(self):
+        paths = self.open(BOOK)
+        paths.enter("read").leave()
+        with running(self.words("view"), stdout=subprocess.PIPE) as process:
+            address = process.stdout.readline().decode().strip()
+
+            def news():
+                with urllib.request.urlopen(address + "news", timeout=LONGEST) as answer:
+                    return json.loads(answer.read().decode())
+
+            self.assertEqual((news()["store"], news()["verdict"], news()["bars"]), (self.name, {"sound": True, "lines": 2, "told": None}, []))
+            with paths("write"), running(self.words("exec", "--quiet", "read", "--", "true")) as waiting:
+                self.until(lambda: news()["waiting"])
+                told = news()
+                (found,), (waits,), (bar,) = told["in_progress"], told["waiting"], told["bars"]
+                self.assertEqual((found["operation"], found["pid"], bar[:3]), ("write", os.getpid(), ["write", found["worker"], 1]))
+                self.assertEqual((waits["operation"], waits["pid"]), ("read", waiting.pid))
+                self.assertTrue(told["began"] <= found["seen"] == bar[3])
+                waiting.terminate()
+            self.until(lambda: news()["bars"][0][4] is not None)
+            process.terminate()
+            self.assertEqual((process.stdout.read(), process.wait(LONGEST)), (b"", 128 + signal.SIGTERM))
 
     def test_lines_that_are_moved(self):
         """To the commands nothing changes."""

@@ -64,14 +64,14 @@ def _has_futex() -> bool:
 
 
 class Beside:
-    """What one opening of a store has of the file."""
+    """What one opening of a store has of the file. One that only reads asks for no more than the right to do so, and takes no lock."""
 
-    def __init__(self, path: str) -> None:
+    def __init__(self, path: str, only_reads: bool = False) -> None:
         with telling(path, "can't be opened"):
-            self.fd = open_file(path, os.O_RDWR)
+            self.fd = open_file(path, os.O_RDONLY if only_reads else os.O_RDWR)
             """The file with the locks; a child of a fork that keeps it keeps the presence, too."""
             try:
-                self.page = self._mapped(path)
+                self.page = self._mapped(path, only_reads)
             except BaseException:
                 os.close(self.fd)
                 raise
@@ -99,7 +99,7 @@ class Beside:
         self.has_futex = _has_futex()
         """Whether others are woken by the page's word."""
 
-    def _mapped(self, path: str) -> mmap.mmap:
+    def _mapped(self, path: str, only_reads: bool) -> mmap.mmap:
         head = os.pread(self.fd, _HEAD.size, 0)
         magic, version, self._length = _HEAD.unpack(head.ljust(_HEAD.size, b"\0"))
         if magic != _MAGIC:
@@ -107,9 +107,10 @@ class Beside:
         if version != VERSION:
             raise StoreError("{} is of version {}, and this package has {}".format(path, version, VERSION))
         with no_stream_is_free():
-            mapped = os.open(path, os.O_RDWR | os.O_CLOEXEC)  # a mapping keeps its descriptor, and a child of a fork would keep the locks of it
-            try:
-                return mmap.mmap(mapped, PAGE)
+            flags = os.O_RDONLY if only_reads else os.O_RDWR
+            mapped = os.open(path, flags | os.O_CLOEXEC)  # a mapping keeps its descriptor, and a child of a fork would keep the locks of it
+            try:  # a private mapping is this process's own once it is written to, and nobody who only reads does that
+                return mmap.mmap(mapped, PAGE, access=mmap.ACCESS_COPY if only_reads else mmap.ACCESS_WRITE)
             finally:
                 os.close(mapped)
 

@@ -15,10 +15,12 @@ from ._log import declaration_of
 from ._options import parser
 from ._passing import make_pass
 from ._paths import Paths
+from ._reading import Reader
 from ._served import OPENING, SCHEMES
 from ._showing import Onlooker, json_of, lines_of
 from ._stored import StoredPaths
 from ._streams import say, take_closed_streams, write
+from ._viewing import Served, Source, view
 from ._watching import Ended, watch_lines, watch_status
 
 WRONG_LINE = 5
@@ -62,11 +64,17 @@ def _stored_declaration(given: Any) -> bytes:
         file_beside.close()
 
 
-def _opened(given: Any) -> StoredPaths:
-    """The store that the words name. What the dead have in progress stays, but for an `exec` that wasn't told to keep it."""
-    is_served = given.store.startswith(SCHEMES)
+def _is_served(given: Any) -> bool:
+    """Whether the store is in PostgreSQL. Raises `StoreError` if the words name a log and it isn't, or no log and it is."""
+    is_served = bool(given.store.startswith(SCHEMES))
     if is_served != (given.name is not None):
         raise StoreError("--name is wanted for a store in PostgreSQL, and for no other")
+    return is_served
+
+
+def _opened(given: Any) -> StoredPaths:
+    """The store that the words name. What the dead have in progress stays, but for an `exec` that wasn't told to keep it."""
+    is_served = _is_served(given)
     text = _declaration(given)
     is_run = given.command == "exec"
     if is_run:
@@ -102,6 +110,19 @@ def _status(paths: StoredPaths, given: Any) -> int:
     if given.watch is not None:
         watch_status(paths, given.name or given.store, given.watch, given.json)
     write(json_of(Onlooker(paths).state(), paths.operations) if given.json else lines_of(paths))
+    return 0
+
+
+def _view(given: Any) -> int:
+    """Serves a page of the store, until it is ended. Over a file it is only read."""
+    if _is_served(given):
+        source: Source = Served(_opened(given))  # type: ignore[arg-type]  # what is served has these paths
+    else:
+        source = Reader(given.store, None if given.declaration is None else _text_in(given.declaration))
+    try:
+        view(source, given.name or given.store, given.port, given.open)
+    finally:
+        source.close()
     return 0
 
 
@@ -143,6 +164,8 @@ def main(words: Optional[List[str]] = None) -> int:
             raise WanzocheError("standard output is closed")
         if given.command == "operations":
             return _operations(given)
+        if given.command == "view":
+            return _view(given)
         with _opened(given) as paths:
             return _do(paths, given)
     except KeyboardInterrupt:

@@ -170,8 +170,9 @@ may_start: Any = (
     if hasattr(_aside, "wanzoche_may_start")
     else None
 )
-# What a start or a use would be answered, which a library before `take_over` can't say.
+# What a start, a finish or a use would be answered, which a library before `take_over` can't say.
 owed_start: Any = _declared(_in_turn, "owed_start", Answer, c_void_p, c_uint32, c_uint32) if take_over is not None else None
+owed_finish: Any = _declared(_in_turn, "owed_finish", Answer, c_void_p, c_uint32, c_uint64) if take_over is not None else None
 owed_use: Any = (
     _declared(_in_turn, "owed_use", Answer, c_void_p, c_uint32, c_uint64, c_uint32, c_uint64) if take_over is not None else None
 )

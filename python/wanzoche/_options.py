@@ -30,6 +30,7 @@ def parser(version: str) -> argparse.ArgumentParser:
     command("log", "write the lines of the journal")
     command("audit", "say whether each reply in the journal was owed")
     command("watch", "write the lines of the journal as they come")
+    _add_view(command("view", "serve a page to browsers of this machine that shows how the store is, and write its address"))
     recover = command("recover", "finish what a dead worker has in progress")
     recover.add_argument("worker", metavar="WORKER", help="its number, as `status` says it")
     recover.add_argument("--even-alive", action="store_true", help="also if it is alive: then it loses what it has")
@@ -46,6 +47,19 @@ def _add_status(status: argparse.ArgumentParser) -> None:
     status.add_argument("--json", action="store_true", help="as one line of JSON")
     told = "go on, and say it again when it has changed; look for what has died at least each so many seconds (1)"
     status.add_argument("--watch", type=_more_than_none, nargs="?", const=1.0, metavar="SECONDS", help=told)
+
+
+def _add_view(view: argparse.ArgumentParser) -> None:
+    """What `view` takes besides."""
+    view.add_argument("--port", type=_port_of, default=0, metavar="N", help="the port of 127.0.0.1 on which it is served; else a free one")
+    view.add_argument("--open", action="store_true", help="open the page in a browser")
+
+
+def _port_of(text: str) -> int:
+    """The number of a port. Raises ArgumentTypeError for anything else."""
+    if not text.isdecimal() or not 1 <= int(text) <= 65535:
+        raise argparse.ArgumentTypeError("the number of a port is wanted, from 1 to 65535, and not {}".format(text))
+    return int(text)
 
 
 def _more_than_none(text: str) -> float:

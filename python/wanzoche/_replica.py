@@ -4,7 +4,7 @@ from __future__ import annotations
 
 import ctypes
 import re
-from typing import Dict, List, NamedTuple, Optional
+from typing import Any, Dict, List, NamedTuple, Optional, Tuple
 
 from . import _native as native
 from ._texts import read_declaration
@@ -24,6 +24,9 @@ LINE = re.compile(_ATTEMPT + rb": " + _REPLY + rb"\n")
 _HEAD = b"journal 3 room 1048576\n"
 _VERBS = {b"put": native.PUT, b"take": native.TAKE, b"look": native.LOOK, b"add": native.ADD}
 _WITH_NUMBER: Dict[int, bytes] = {native.STARTED: b"started %d", native.BLOCKED: b"blocked %d", native.USED: b"used %d", native.FINISHED: b"finished"}
+_MAKING: Tuple[Any, Any, Any] = (native.start, native.finish, native.use)
+_ASKING: Tuple[Any, Any, Any] = _MAKING if native.owed_start is None else (native.owed_start, native.owed_finish, native.owed_use)
+"""The same without a change, where the library has them."""
 
 
 class Refusal(NamedTuple):
@@ -64,6 +67,17 @@ class Replica:
         buffer = ctypes.create_string_buffer(int(native.declaration(self.at, None, 0).number) + 1)
         native.declaration(self.at, buffer, len(buffer))
         return buffer.value.decode("ascii")
+
+    def report(self) -> str:
+        """The text of the report. Raises `MemoryError`."""
+        answer = native.Answer(native.TOO_SMALL, 4096)
+        while answer.code == native.TOO_SMALL:
+            size = answer.number + 1
+            buffer = ctypes.create_string_buffer(size)
+            answer = native.report(self.at, buffer, size)
+        if answer.code != native.WRITTEN:
+            raise MemoryError("no memory for a text of the library")
+        return ctypes.string_at(buffer, answer.number).decode("ascii")
 
     def start(self, worker: int, op: int) -> native.Answer:
         """Makes a start, if it is admitted. What is blocked changes nothing."""
@@ -130,9 +144,11 @@ class Replica:
             line = match(text, at + 1 if text.startswith(b"+", at) else at)
             if line is None:
                 return Refusal(at, text[at : text.find(b"\n", at)], None)
-            owed = self._owed(line)
+            owed = self._reply(line, _ASKING)  # so that a line that isn't owed changes nothing
             if owed != line.group(8):
                 return Refusal(at, text[at : line.end() - 1], owed)
+            if _ASKING is not _MAKING:
+                self._reply(line, _MAKING)
             self.lines += 1
             at = line.end()
         return None
@@ -142,19 +158,20 @@ class Replica:
         line = LINE.match(text, at)
         return line is not None and (line.group(2) is None or line.group(2) in self.operations)
 
-    def _owed(self, line: "re.Match[bytes]") -> bytes:
-        """Makes the attempt of a line: the reply."""
+    def _reply(self, line: "re.Match[bytes]", calls: Tuple[Any, Any, Any]) -> bytes:
+        """Makes the attempt of a line by one of the calls, or asks what it would be answered: the reply."""
+        start, finish, use = calls
         worker, name, finished, used, giving, number, taking, _ = line.groups()
         if int(worker) >= 1 << 32 or int(finished or used or 0) >= 1 << 64 or int(number or 0) >= 1 << 64:
             return b"no number of this size"
         if name is not None:
             if name not in self.operations:
                 return b"undeclared"
-            answer = native.start(self.at, int(worker), self.operations[name])
+            answer = start(self.at, int(worker), self.operations[name])
         elif finished is not None:
-            answer = native.finish(self.at, int(worker), int(finished))
+            answer = finish(self.at, int(worker), int(finished))
         else:
-            answer = native.use(self.at, int(worker), int(used), _VERBS[giving or taking], int(number or 0))
+            answer = use(self.at, int(worker), int(used), _VERBS[giving or taking], int(number or 0))
         told = _WITH_NUMBER.get(answer.code)
         if told is None:
             return bytes(native.words(answer.code))

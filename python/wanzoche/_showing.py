@@ -4,9 +4,10 @@ from __future__ import annotations
 
 import json
 import time
-from typing import Any, Dict, List, NamedTuple, Optional, Sequence, Tuple
+from typing import Any, Callable, Dict, List, Mapping, NamedTuple, Optional, Sequence, Tuple
 
 from ._asking import Asked
+from ._beside import Beside
 from ._log import Log
 from ._processes import Process, process_at
 from ._served import ServedPaths
@@ -69,15 +70,8 @@ class Onlooker:
         """How the store is now. Raises `StoreError`."""
         paths = self._paths
         report = paths.report()
-        lost = {each.activation for each in report.lost}
-        workers = dict.fromkeys(int(each.worker.split()[-1]) for each in report.live)
         beside = paths._store.path + ".shared" if isinstance(paths._store, Store) else None
-        processes = {worker: process_at(paths._store.process_of(worker), beside) for worker in workers}
-        found = []
-        for each in report.live:
-            worker = int(each.worker.split()[-1])
-            found.append(InProgress(each.activation, each.operation, worker, each.activation in lost, processes[worker]))
-        return State(report, tuple(found), tuple(self._waiting()))
+        return State(report, in_progress_of(report, paths._store.process_of, beside), tuple(self._waiting()))
 
     def _waiting(self) -> List[Waiting]:
         paths = self._paths
@@ -86,8 +80,7 @@ class Onlooker:
             log = paths._served._log
             rows = paths._served.ask(lambda: self._rows(log))
             return [Waiting(names[row[0]], 1, row[1], process_at(row[3], None)._replace(since=row[2])) for row in rows if row[0] in names]
-        counts = paths._store._beside.waiting
-        return [Waiting(name, counts[number]) for number, name in names.items() if counts[number]]
+        return waiting_at(paths._store._beside, names)
 
     def _rows(self, log: Log) -> List[Tuple[int, int, int, str]]:
         """At the desk: the operation, the worker, since when, and the worker's process, of all that wait and are alive."""
@@ -95,6 +88,25 @@ class Onlooker:
         dead = log.dead(sorted({int(row[1]) for row in rows}))
         told = [(int(row[0]), int(row[1]), int(row[2]), (row[3] or b"").decode("utf-8", "replace")) for row in rows]
         return [row for row in told if row[1] not in dead]
+
+
+def in_progress_of(report: Report, process_of: Callable[[int], Optional[str]], beside: Optional[str]) -> Tuple[InProgress, ...]:
+    """What a report says that is in progress, with the processes. The second tells what the store knows of a worker's, and the last is the
+    file beside the journal of one that has it."""
+    lost = {each.activation for each in report.lost}
+    workers = dict.fromkeys(int(each.worker.split()[-1]) for each in report.live)
+    processes = {worker: process_at(process_of(worker), beside) for worker in workers}
+    found = []
+    for each in report.live:
+        worker = int(each.worker.split()[-1])
+        found.append(InProgress(each.activation, each.operation, worker, each.activation in lost, processes[worker]))
+    return tuple(found)
+
+
+def waiting_at(beside: Beside, names: Mapping[int, str]) -> List[Waiting]:
+    """For which operations somebody waits over a file, and in how many processes."""
+    counts = beside.waiting
+    return [Waiting(name, counts[number]) for number, name in names.items() if counts[number]]
 
 
 def lines_of(paths: StoredPaths) -> str:
@@ -110,6 +122,11 @@ def lines_of(paths: StoredPaths) -> str:
 
 def json_of(state: State, operations: Sequence[str]) -> str:
     """The state as one line of JSON. docs/shared.md says what stands in it."""
+    return json.dumps(fields_of(state, operations)) + "\n"
+
+
+def fields_of(state: State, operations: Sequence[str]) -> Dict[str, Any]:
+    """What stands in that."""
     in_progress = [
         {"activation": each.activation, "operation": each.operation, "worker": each.worker, "lost": each.is_lost, **_told(each.process)}
         for each in state.in_progress
@@ -120,7 +137,7 @@ def json_of(state: State, operations: Sequence[str]) -> str:
         "lost": sum(each.is_lost for each in state.in_progress),
         "waiting": sum(each.many for each in state.waiting),
     }
-    told = {
+    return {
         "form": FORM,
         "frozen": state.report.frozen,
         "counts": counts,
@@ -128,7 +145,6 @@ def json_of(state: State, operations: Sequence[str]) -> str:
         "in_progress": in_progress,
         "waiting": waiting,
     }
-    return json.dumps(told) + "\n"
 
 
 def _operation(state: State, name: str) -> Dict[str, Any]:

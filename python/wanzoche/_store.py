@@ -519,13 +519,12 @@ class Store(Turns):
         """
         number = self._replica.lines - self._first + 2
         if refusal is not None and refusal.owed is not None:
-            told = "`{}`, where `{}` is owed".format(_shown(refusal.line), _shown(refusal.owed))
-            raise self._broken(told, number)
+            raise self._broken(wrong_of(refusal), number)
         if refusal is not None:
             rest = self._lines.text(self._end, size)
             places = (found.end() for found in re.finditer(rb"\n", rest))
             if not is_alone or any(self._replica.is_line(rest, at) for at in places):
-                raise self._broken("`{}` isn't a line of a journal".format(_shown(refusal.line)), number)
+                raise self._broken(wrong_of(refusal), number)
         if self._lines.path != self.path:
             raise self._broken("a file that was moved away doesn't end with a whole line", number)
         if is_alone:
@@ -950,6 +949,13 @@ highest_worker: Callable[[bytes], int] = _highest_worker if core is None else co
 def _shown(text: bytes) -> str:
     """A line for a message."""
     return text[:200].decode("ascii", "backslashreplace")
+
+
+def wrong_of(refusal: Refusal) -> str:
+    """What is wrong with a line that isn't taken over, in words."""
+    if refusal.owed is None:
+        return "`{}` isn't a line of a journal".format(_shown(refusal.line))
+    return "`{}`, where `{}` is owed".format(_shown(refusal.line), _shown(refusal.owed))
 
 
 def difference(found: str, given: str) -> Optional[str]:

@@ -26,14 +26,26 @@ class Ended(BaseException):
         self.number = number
 
 
+class Output:
+    """Standard output, as something that somebody reads."""
+
+    def __init__(self) -> None:
+        self._reader = select.poll()
+        self._reader.register(1, 0)
+
+    def wait(self, seconds: float) -> None:
+        """Returns after so many seconds, a thousandth at least. Raises `BrokenPipeError` if nobody reads any more."""
+        if self._reader.poll(1000 * max(seconds, 0.001)):
+            raise BrokenPipeError
+
+
 class Changes:
     """Tells when a store has changed since it was `seen`."""
 
     def __init__(self, paths: StoredPaths) -> None:
         self._paths = paths
         self._pause = ASKS if isinstance(paths, ServedPaths) else LOOKS
-        self._reader = select.poll()
-        self._reader.register(1, 0)
+        self._output = Output()
 
     def seen(self) -> Any:
         """What is the same as long as nothing is begun, finished or waited for. To be taken before a report, so that a change which comes
@@ -49,8 +61,7 @@ class Changes:
         reads standard output any more."""
         until = time.monotonic() + seconds
         while True:
-            if self._reader.poll(1000 * min(self._pause, max(until - time.monotonic(), 0.001))):
-                raise BrokenPipeError
+            self._output.wait(min(self._pause, until - time.monotonic()))
             if time.monotonic() >= until or self.seen() != seen:
                 return
 
@@ -88,7 +99,7 @@ def _plain(line: str) -> str:
 def watch_status(paths: StoredPaths, store: str, seconds: float, is_json: bool) -> NoReturn:
     """Shows how the store is, and again whenever that has changed, until a signal ends it: on a terminal as a table. So often, in seconds,
     it looks for what changes without a line of the journal, as a death. Raises `Ended`, `KeyboardInterrupt` and `BrokenPipeError`."""
-    signal.signal(signal.SIGTERM, _end)
+    signal.signal(signal.SIGTERM, end)
     table: Optional[Table] = None
     if not is_json and sys.stdout.isatty() and os.environ.get("TERM", "dumb") != "dumb":
         table = Table()
@@ -105,7 +116,8 @@ def watch_status(paths: StoredPaths, store: str, seconds: float, is_json: bool) 
         changes.wait(seen, seconds)
 
 
-def _end(number: int, _: Any) -> NoReturn:
+def end(number: int, _: Any) -> NoReturn:
+    """What a signal does that ends it: raises `Ended`."""
     raise Ended(number)
 
 

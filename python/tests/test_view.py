@@ -1,0 +1,362 @@
+"""What the command `view` shows of a store over a file, which it only reads."""
+
+import fcntl
+import json
+import os
+import signal
+import shutil
+import unittest
+
+import wanzoche._viewing as viewing
+from wanzoche import CorruptStore, OtherDeclaration, Paths, StoreError
+from wanzoche._beside import Beside, _asked, _is_free
+from wanzoche._reading import Reader
+from wanzoche._viewing import Picture
+
+from .declarations import BOOK, SLOT
+from .stores import ANOTHER, InFolder
+
+
+class OnReader(InFolder):
+    def reader(self, *given):
+        reader = Reader(self.file, *given)
+        self.addCleanup(reader.close)
+        return reader
+
+    def looks(self, reader):
+        """What it hands on; None if it has read all anew."""
+        told = []
+        is_new = reader.look(told.append)
+        self.assertFalse(is_new and told)
+        return None if is_new else b"".join(told).decode().replace("+", "")
+
+    def live(self, reader):
+        return [(each.operation, each.worker, each.is_lost) for each in reader.state().in_progress]
+
+    def changed(self, text, place=os.SEEK_END):
+        """Writes to the journal as nobody may."""
+        with open(self.file, "r+b") as file:
+            file.seek(0, place)
+            file.write(text)
+
+
+class Reading(OnReader, unittest.TestCase):
+    def test_lines_as_they_come(self):
+        paths = self.open(BOOK)
+        with paths("read"):
+            reader = self.reader()
+            self.assertIsNone(self.looks(reader))
+            self.assertEqual((self.live(reader), reader.lines), ([("read", 1, False)], 1))
+            self.assertEqual(self.looks(reader), "")
+            with paths("read"):
+                self.assertEqual(self.looks(reader), "1 start read: started 1\n")
+                self.assertEqual(len(self.live(reader)), 2)
+            self.assertEqual(self.looks(reader), "1 finish 1: finished\n")
+        self.assertEqual(self.looks(reader), "1 finish 0: finished\n")
+        state = reader.state()
+        self.assertEqual((state.report.startable, state.in_progress, state.waiting, reader.lines), (("read", "write"), (), (), 4))
+        self.assertEqual((reader.operations, [path.text for path in reader.paths]), (("read", "write"), ["{ read } , write"]))
+
+    def test_all_that_a_status_knows(self):
+        paths = self.open(BOOK)
+        with paths("write"):
+            waits = self.child(lambda: self.made(BOOK).enter("read"))
+            self.addCleanup(os.waitpid, waits, 0)
+            self.addCleanup(os.kill, waits, signal.SIGKILL)
+            self.until(lambda: paths._store._beside.waiting[0])
+            reader = self.reader()
+            self.looks(reader)
+            self.assertEqual(reader.state(), viewing.Onlooker(paths).state()._replace(report=reader.state().report))
+            ours, theirs = reader.state().report, paths.report()
+            self.assertEqual((ours.startable, ours.blocked, ours.live, ours.text), (theirs.startable, theirs.blocked, theirs.live, theirs.text))
+
+    def test_the_dead(self):
+        self.dies(lambda: setattr(self, "kept", self.made(BOOK).enter("write")))
+        reader = self.reader()
+        self.looks(reader)
+        self.assertEqual(self.live(reader), [("write", 1, True)])
+
+    def test_nobody_is_held_up(self):
+        """It has no lock, and takes no part: who opens the store beside it is alone."""
+        self.made(BOOK).close()
+        reader = self.reader()
+        self.looks(reader)
+        with open(self.file, "rb") as file, open(self.file + ".shared", "rb") as beside:
+            fcntl.flock(file, fcntl.LOCK_EX | fcntl.LOCK_NB)
+            for fd in (file.fileno(), beside.fileno()):
+                self.assertTrue(_is_free(fd, _asked(fcntl.F_WRLCK, 0, 0)))
+        before = self.text()
+        paths = self.open(BOOK)
+        self.assertFalse(paths._store._beside.has_others())
+        self.assertEqual(self.text(), before)
+
+    def test_nobody_holds_it_up(self):
+        """As a process that was stopped in its turn."""
+        paths = self.open(BOOK)
+        reader = self.reader()
+        self.looks(reader)
+        beside = Beside(self.file + ".shared")
+        self.addCleanup(beside.close)
+        with paths("read"):
+            beside.take_turn()
+            beside.take_sync()
+            self.assertEqual(self.looks(reader), "1 start read: started 0\n")
+            self.assertEqual(self.live(reader), [("read", 1, False)])
+            beside.give_sync()
+            beside.give_turn()
+
+    @unittest.skipIf(os.geteuid(), "only root can become another user")
+    def test_the_right_to_read_will_do(self):
+        os.chmod(self.folder, 0o755)
+        paths = self.open(BOOK)
+        with paths("write"):
+            child = os.fork()
+            if not child:
+                try:
+                    os.setgid(ANOTHER)
+                    os.setuid(ANOTHER)
+                    reader = Reader(self.file)
+                    reader.look(print)
+                    os._exit(10 * os.access(self.file, os.W_OK) + reader.lines + len(reader.state().in_progress))
+                except BaseException as error:
+                    os.write(2, "{}\n".format(error).encode())
+                    os._exit(9)
+            self.assertEqual(os.waitpid(child, 0)[1], 2 << 8)
+
+    def test_files_that_are_moved_away(self):
+        paths = self.open(BOOK)
+        paths.enter("read").leave()
+        paths.rotate()
+        reader = self.reader()
+        self.assertIsNone(self.looks(reader))
+        self.assertEqual(reader.lines, 2)
+        with paths("write"):
+            for _ in range(3):
+                paths.rotate()
+                paths._store._in_turn(lambda: None)
+            self.assertEqual(self.looks(reader), "1 start write: started 1\n")
+            paths.rotate()
+        self.assertEqual(self.looks(reader), "1 finish 1: finished\n")
+        paths.rotate()
+        for _ in range(2):
+            paths.enter("read").leave()
+            paths.rotate()
+        told = "".join("1 start read: started {0}\n1 finish {0}: finished\n".format(number) for number in (2, 3))
+        self.assertEqual((self.looks(reader), reader.lines), (told, 8))
+
+    def test_a_move_that_was_cut_off(self):
+        """The file has both names: it is read once."""
+        paths = self.open(BOOK)
+        with paths("read"):
+            os.link(self.file, self.file + ".1")
+            reader = self.reader()
+            self.looks(reader)
+            self.assertEqual(reader.lines, 1)
+        self.assertEqual(self.looks(reader), "1 finish 0: finished\n")
+        os.unlink(self.file + ".1")
+
+    def test_a_line_that_is_being_written(self):
+        self.open(BOOK)
+        reader = self.reader()
+        self.looks(reader)
+        self.changed(b"1 start re")
+        self.assertEqual(self.looks(reader), "")
+        self.changed(b"ad: started 0\n1")
+        self.assertEqual(self.looks(reader), "1 start read: started 0\n")
+
+    def test_lines_that_are_taken_back(self):
+        self.open(BOOK)
+        reader = self.reader()
+        self.looks(reader)
+        before = len(self.text())
+        for text, live in ((b"1 start write: started 0\n", "write"), (b"7 start read: started 0\n1 start read: started 1\n", "read")):
+            os.truncate(self.file, before)
+            self.changed(text)
+            self.looks(reader)
+            self.assertEqual({each[0] for each in self.live(reader)}, {live})
+        os.truncate(self.file, before)
+        self.assertIsNone(self.looks(reader))
+        self.assertEqual(self.live(reader), [])
+
+    def test_lines_that_are_wrong(self):
+        with self.made(BOOK) as paths:
+            for rotate in (paths.rotate, list):
+                paths.enter("read").leave()
+                rotate()
+        whole = len(self.text())
+        for text, told in (
+            (b"1 start write: started 5\n", "line 4: `1 start write: started 5`, where `started 2` is owed"),
+            (b"1 finish 0: finished\n", "line 4: `1 finish 0: finished`, where `stale` is owed"),
+            (b"<script>\n", "line 4: `<script>` isn't a line of a journal"),
+        ):
+            reader = self.reader()
+            self.looks(reader)
+            self.changed(text)
+            for _ in range(2):
+                with self.assertRaisesRegex(CorruptStore, told):
+                    self.looks(reader)
+                self.assertEqual((reader.lines, reader.state().report.startable), (4, ("read", "write")))
+            os.truncate(self.file, whole)
+            self.assertIsNone(self.looks(reader))
+
+    def test_heads_that_are_wrong(self):
+        self.made(BOOK).close()
+        for head in (b"journal 3 room 0\n", b"\n", b"x" * 64):
+            with open(self.file, "r+b") as file:
+                file.write(head)
+            with self.assertRaisesRegex(CorruptStore, "line 1: it has no head"):
+                self.looks(self.reader())
+        os.truncate(self.file, 10)
+        self.assertIsNone(self.looks(self.reader()))
+
+    def test_a_moved_file_with_half_a_line(self):
+        paths = self.open(BOOK)
+        paths.enter("read").leave()
+        paths.rotate()
+        with open(self.file + ".1", "ab") as file:
+            file.write(b"1 st")
+        with self.assertRaisesRegex(CorruptStore, "door.log.1: a file that was moved away doesn't end with a whole line"):
+            self.looks(self.reader())
+
+    def test_files_that_are_gone(self):
+        paths = self.made(BOOK)
+        entry = paths.enter("read")
+        reader = self.reader()
+        self.looks(reader)
+        for name in (self.file, self.file + ".shared"):
+            os.rename(name, name + ".away")
+            for _ in range(2):
+                with self.assertRaisesRegex(StoreError, "{} is gone".format(name)):
+                    self.looks(reader)
+            os.rename(name + ".away", name)
+            self.assertEqual(self.looks(reader), "")
+        entry.leave()
+        paths.close()
+        self.looks(reader)
+        for name in os.listdir(self.folder):
+            os.unlink(os.path.join(self.folder, name))
+        other = self.open(SLOT)  # another store in its place
+        with other("deposit"):
+            self.assertIsNone(self.looks(reader))
+            self.assertEqual((self.live(reader), reader.operations), ([("deposit", 1, False)], ("deposit", "remove")))
+
+    def test_another_journal_in_its_place(self):
+        """It isn't taken for what follows the one before, though that has gone to its end."""
+        with self.made(BOOK) as paths:
+            paths.enter("read").leave()
+        reader = self.reader()
+        self.looks(reader)
+        with open(self.file + ".new", "wb") as file:
+            file.write(b"journal 3 room 1048576\n")
+        os.replace(self.file + ".new", self.file)
+        self.assertIsNone(self.looks(reader))
+        self.assertEqual(reader.lines, 0)
+
+    def test_what_is_no_store(self):
+        with self.assertRaisesRegex(StoreError, "isn't there"):
+            Reader(self.file)
+        self.made(BOOK).close()
+        self.reader(BOOK.replace("\n", " \n").encode())
+        with self.assertRaises(OtherDeclaration):
+            Reader(self.file, SLOT.encode())
+        with self.assertRaises(OtherDeclaration):
+            Reader(self.file, b"nothing")
+        with open(self.file + ".shared", "r+b") as file:
+            file.write(b"x")
+        with self.assertRaisesRegex(StoreError, "isn't the file that a store has"):
+            Reader(self.file)
+
+    def test_nothing_is_left_open(self):
+        self.made(BOOK).close()
+        before = len(os.listdir("/proc/self/fd"))
+        reader = self.reader()
+        for _ in range(3):
+            self.looks(reader)
+            shutil.copy(self.file, self.file + ".new")
+            os.replace(self.file + ".new", self.file)
+        reader.close()
+        self.assertEqual(len(os.listdir("/proc/self/fd")), before)
+
+
+class Pictures(OnReader, unittest.TestCase):
+    def setUp(self):
+        super().setUp()
+        for name in ("SHOWS", "CHECKS"):
+            self.addCleanup(setattr, viewing, name, getattr(viewing, name))
+            setattr(viewing, name, 0)
+        self.paths = self.open(BOOK)
+        self.picture = Picture(self.reader(), "the <store>")
+
+    def told(self):
+        self.picture.turn()
+        return json.loads(self.picture.news.text)
+
+    def test_what_the_page_is_told(self):
+        with self.paths("read"):
+            told = self.told()
+            self.assertEqual((told["serial"], told["store"], told["fault"]), (1, "the <store>", None))
+            self.assertEqual(told["paths"], [{"resource": "book", "text": "{ read } , write", "operations": ["read", "write"]}])
+            self.assertEqual(told["verdict"], {"sound": True, "lines": 1, "told": None})
+            self.assertEqual(told["bars"], [["read", 1, 0, None, None, 1]])
+            self.assertIsNone(told["in_progress"][0]["seen"])
+            self.assertEqual(told["counts"], {"in_progress": 1, "lost": 0, "waiting": 0})
+            self.assertEqual(self.told(), told)
+            with self.paths("read"):
+                told = self.told()
+                self.assertEqual(told["serial"], 2)
+                seen = told["in_progress"][1]["seen"]
+                self.assertGreaterEqual(seen, told["began"])
+                self.assertEqual(told["bars"][1], ["read", 1, 1, seen, None, 1])
+        told = self.told()
+        self.assertEqual([bar[:3] for bar in told["bars"]], [["read", 1, 1], ["read", 1, 0]])
+        self.assertTrue(all(bar[4] is not None for bar in told["bars"]))
+
+    def test_a_wrong_line_and_its_mending(self):
+        self.told()
+        whole = len(self.text())
+        with self.paths("read"):
+            self.changed(b"1 finish 9: finished\n")
+            for _ in range(2):
+                told = self.told()
+                self.assertEqual((told["verdict"]["sound"], told["verdict"]["lines"], told["fault"]), (False, 1, None))
+                self.assertRegex(told["verdict"]["told"], "line 3: `1 finish 9: finished`, where `stale` is owed")
+                self.assertEqual([each["operation"] for each in told["in_progress"]], ["read"])
+                self.assertEqual(told["bars"], [["read", 1, 0, None, None, 1]])
+            os.truncate(self.file, len(self.text()) - len(b"1 finish 9: finished\n"))
+            self.assertEqual(self.told()["verdict"], {"sound": True, "lines": 1, "told": None})
+        self.assertGreater(len(self.text()), whole)
+
+    def test_files_that_are_gone(self):
+        """What was there last is shown, with the fault, until they are there again."""
+        with self.paths("read"):
+            self.told()
+            os.rename(self.file, self.file + ".away")
+            for _ in range(2):
+                told = self.told()
+                self.assertRegex(told["fault"], "door.log is gone")
+                self.assertEqual((told["counts"]["in_progress"], told["verdict"]["sound"]), (1, None))
+            os.rename(self.file + ".away", self.file)
+            told = self.told()
+            self.assertEqual((told["fault"], told["verdict"]["sound"]), (None, True))
+
+    def test_a_death(self):
+        """It comes without a line."""
+        child = self.child(lambda: [setattr(self, "kept", self.made(BOOK).enter("read")), signal.pause()])
+        self.until(lambda: self.told()["counts"]["in_progress"])
+        self.assertEqual(self.told()["counts"]["lost"], 0)
+        os.kill(child, signal.SIGKILL)
+        os.waitpid(child, 0)
+        self.assertEqual(self.told()["counts"]["lost"], 1)
+
+    def test_so_often(self):
+        """Lines are read at once, and shown when it is time."""
+        viewing.SHOWS = viewing.CHECKS = 1e9
+        self.assertEqual(self.told()["serial"], 1)
+        with self.paths("read"):
+            told = self.told()
+            self.assertEqual((told["serial"], self.picture._source.lines), (1, 1))
+            viewing.SHOWS = 0
+            self.assertEqual(self.told()["serial"], 2)
+            source = self.picture._source
+            source.look = source.state = None  # which isn't called again while nothing comes
+            self.assertEqual(self.told()["serial"], 2)
