@@ -8,7 +8,9 @@ use std::time::{Duration, Instant};
 
 use tasks::{poll_by, Counter, Polled};
 
-use crate::queue::MOST;
+use crate::holders::Who;
+use crate::queue::{Asked, Caller, MOST};
+use crate::state::Start;
 use crate::{thread_number, Blocked, EnterOwned, Error, Op, Options, OwnedGuard, Paths};
 
 #[allow(unreachable_pub)]
@@ -305,12 +307,31 @@ fn a_reader_goes_on_when_the_writers_time_is_over() {
     }
 }
 
+/// The same where one comes that stands before the writer, and begins what closes its way.
+#[test]
+fn a_reader_goes_on_when_a_newcomer_closes_the_writers_way() {
+    let text = "resource book cell operation read, write, sort, shelve, crowd
+                path { read } , write end path (sort ; shelve) , write end path crowd end end";
+    let paths = strict(text);
+    let _crowd = crowded(&paths);
+    let [read, write, sort] = ops(&paths, ["read", "write", "sort"]);
+    let _guard = held(&paths, read);
+    let _writer = waits(&paths, write);
+    let mut reader = waits(&paths, read);
+    assert!(!may_start(&paths, sort));
+    let _sorts = paths.try_enter(sort.with_priority(1)).unwrap();
+    assert_eq!(reader.counter.woken(), 1);
+    drop(reader.ready().unwrap());
+}
+
+/// An x that may go when the open is over, behind an h that waits for an r; and a b that waits for the open alone.
+const TURNS: &str = "resource r cell operation open, x, h, r, b, crowd
+                     path { x } , h , open end path r , h end path open , b end path crowd end end";
+
 /// One that was woken, and then found itself behind another, leaves its turn to the next.
 #[test]
 fn who_still_may_not_start_passes_the_turn_on() {
-    let text = "resource r cell operation open, x, h, r, b, crowd
-                path { x } , h , open end path r , h end path open , b end path crowd end end";
-    let paths = strict(text);
+    let paths = strict(TURNS);
     let _crowd = crowded(&paths);
     let [open, x, h, r, b] = ops(&paths, ["open", "x", "h", "r", "b"]);
     let (opens, _runs) = (held(&paths, open), held(&paths, r));
@@ -325,6 +346,37 @@ fn who_still_may_not_start_passes_the_turn_on() {
     assert!(first.is_pending());
     assert_eq!((first.counter.woken(), second.counter.woken()), (1, 1));
     drop(second.ready().unwrap());
+}
+
+/// The same of a thread. Before it comes, the other begins to wait: here by hand, while the thread can't have the lock.
+#[test]
+fn a_thread_that_still_may_not_start_passes_the_turn_on() {
+    let paths = strict(TURNS);
+    let _crowd = crowded(&paths);
+    let [open, x, h, r, b] = ops(&paths, ["open", "x", "h", "r", "b"]);
+    let (opens, _runs) = (held(&paths, open), held(&paths, r));
+    let own = Arc::clone(&paths);
+    let first = thread::spawn(move || own.enter_owned(x).map(drop));
+    until(|| paths.waiting(x) == Ok(1));
+    let mut second = waits(&paths, b);
+    let mut state = paths.monitor.lock();
+    let _ = state.system.finish(opens.worker(), opens.activation());
+    let asked = state.ask_next().unwrap();
+    let place = match &asked {
+        Asked::Thread(place) => *place,
+        Asked::Task(_) => panic!("a thread waits before the task"),
+    };
+    let start = Start { who: Who::UNKNOWN, ..paths.start_of(h.with_priority(1)).unwrap() };
+    let urgent = state.join(start, &mut Some(Caller::Thread)).unwrap();
+    drop(state);
+    paths.monitor.wake(asked);
+    until(|| !paths.monitor.lock().queue.is_asked(place));
+    // Since then the next one is asked, in one step.
+    assert_eq!(paths.monitor.lock().queue.asked(), 1);
+    until(|| second.counter.woken() == 1);
+    drop(second.ready().unwrap());
+    paths.monitor.give_up(urgent);
+    first.join().unwrap().unwrap();
 }
 
 /// A start that a path forbade, and that is withheld when this path no longer does: nobody told it to ask again when the door opens.

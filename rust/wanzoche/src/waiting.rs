@@ -387,7 +387,7 @@ impl Monitor {
         panics
     }
 
-    fn wake(&self, asked: Asked) {
+    pub(crate) fn wake(&self, asked: Asked) {
         match asked {
             Asked::Thread(place) => self.bed(place).notify_all(),
             Asked::Task(waker) => waker.wake(),
