@@ -10,7 +10,9 @@ import { counts, on, same, shows, spokenAs, text } from "./tests/seen.mjs";
 const [folder, pictures] = process.argv.slice(2);
 const store = join(folder, "door.log");
 const declaration = join(folder, "door.path");
-writeFileSync(declaration, "resource book cell operation read, write path { read } , write end end\n");
+writeFileSync(declaration, `resource door cell operation pass path pass end end
+resource book cell operation read, write path { read } , write end end
+`);
 
 const running = new Set();
 function wanzoche(...words) {
@@ -43,19 +45,23 @@ async function testWhatIsShown() {
   await begun(holder);
   await shows("who is in progress", () => columns("in-progress", 0, 1, 3), [["write", "process 2", String(holder.pid)]]);
   same("its command is a text", await columns("in-progress", 5), [["sh -c echo begun; read line <img src=x onerror=alert(1)>"]]);
+  const beside = holds("pass");
+  await begun(beside);
   same("and nothing of it is HTML", await value("document.querySelectorAll('img').length"), 0);
-  await shows("what can start", () => rows("operations"), [["read", "0", "0", "no: path 0 of book: { read } , write"],
-    ["write", "1", "0", "no: path 0 of book: { read } , write"]]);
+  await shows("what can start", () => rows("operations"), [["pass", "1", "0", "no: path 0 of door: pass"],
+    ["read", "0", "0", "no: path 1 of book: { read } , write"], ["write", "1", "0", "no: path 1 of book: { read } , write"]]);
   const waiter = holds("read");
   await shows("who waits, and for whom", () => columns("waiting", 0, 1, 3),
-    [["read", "1 process", "path 0 of book: { read } , write; in progress: write by process 2"]]);
-  await shows("a bar", () => bars(".live"), 1);
-  await shows("the summary", () => text("summary"), "1 in progress, 1 waiting");
+    [["read", "1 process", "path 1 of book: { read } , write; in progress: write by process 2"]]);
+  await shows("bars", () => bars(".live"), 2);
+  await shows("the summary", () => text("summary"), "2 in progress, 1 waiting");
   await lets(holder);
   await begun(waiter);
-  await shows("the next one", () => columns("in-progress", 0), [["read"]]);
-  await shows("both bars", async () => [await bars(""), await bars(".live")], [2, 1]);
-  await shows("the audit", () => text("verdict"), "sound so far, 5 lines");
+  await shows("the next one", () => columns("in-progress", 0), [["pass"], ["read"]]);
+  await shows("all bars", async () => [await bars(""), await bars(".live")], [3, 2]);
+  await shows("the audit", () => text("verdict"), "sound so far, 6 lines");
+  await lets(beside);
+  await shows("what is over", async () => [await bars(""), await bars(".live")], [3, 1]);
   return waiter;
 }
 
@@ -81,7 +87,7 @@ async function testKeys() {
 async function testSpoken() {
   same("a region", await spokenAs("#in-progress"), ["region", "In progress"]);
   const [role, name] = await spokenAs("#bars svg");
-  same("the bars", [role, name], ["image", "How often each operation was in progress in the last 10 minutes: read 1, write 1"]);
+  same("the bars", [role, name], ["image", "How often each operation was in progress in the last 10 minutes: pass 1, read 1, write 1"]);
   same("heads of columns", await on("#in-progress th", "it.scope"), "col");
   same("the summary is said", await on("#summary", "it.role ?? it.getAttribute('role')"), "status");
 }
