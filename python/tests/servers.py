@@ -14,14 +14,14 @@ import tempfile
 import time
 import unittest
 
-from wanzoche import Paths, _served
+from wanzoche import Paths, _clerk, _served
 
 from .limits import LONGEST
 from .stores import OverAStore
 
 NEEDED = os.environ.get("WANZOCHE_POSTGRESQL") == "needed"
 """Whether a server that can't be had is a failure."""
-_served.OPENING = LONGEST
+_served.OPENING = _clerk.SPARE = _clerk.CLOSING = LONGEST
 SETTINGS = {
     "fsync": "off",  # what a killed server has written is there when it is started again: only the machine may not fall
     "full_page_writes": "off",

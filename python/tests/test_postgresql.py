@@ -50,6 +50,11 @@ class Cutting:
         self.loses_answer = threading.Event()
         """The next bytes from the server are lost, and the connection is cut behind them."""
         self.is_open = True
+        self.is_held = False
+        """Nothing goes through, either way, and no connection ends."""
+        self._goes_on = threading.Event()
+        self._goes_on.set()
+        self.left, self._forgotten = None, 0
         self._is_over = False
         threading.Thread(target=self._serve, daemon=True).start()
 
@@ -72,9 +77,13 @@ class Cutting:
             threading.Thread(target=self._pump, args=(there, client, True), daemon=True).start()
 
     def _pump(self, source, goal, is_answer):
+        generation = self._forgotten
         try:
             while True:
                 data = source.recv(65536)
+                self._pass(data, is_answer)
+                if self._forgotten != generation:
+                    break
                 if not data or is_answer and self.loses_answer.is_set():
                     self.loses_answer.clear()
                     time.sleep(0.05)  # until the rest of a packet has gone the other way
@@ -85,6 +94,31 @@ class Cutting:
         for end in (source, goal):
             self._cut(end)
         source.close()
+
+    def _pass(self, data, is_answer):
+        """Waits as long as the link is held."""
+        if self.left is not None and is_answer:
+            self.left -= len(data)
+            if self.left < 0:
+                self.hold()
+        self._goes_on.wait()
+
+    def hold(self):
+        self.is_held = True
+        self._goes_on.clear()
+
+    def hold_behind(self, bytes):
+        """From now on it is held when so many bytes have come from the server."""
+        self.left = bytes
+
+    def forget(self):
+        """What is held never comes through, and its connection is cut."""
+        self._forgotten += 1
+        self.release()
+
+    def release(self):
+        self.left, self.is_held = None, False
+        self._goes_on.set()
 
     def _cut(self, end):
         try:
@@ -101,6 +135,7 @@ class Cutting:
     def close(self):
         self._is_over = True
         self._listens.close()
+        self.release()
         self.cut()
 
 
@@ -809,9 +844,10 @@ class Outages(OnServer, unittest.TestCase):
         entry = a.enter("write")
         self.proxy.is_open = False
         self.proxy.cut()
-        with self.assertRaisesRegex(StoreError, "the server doesn't answer: "):
-            a.close()
-        b.close()  # it has nothing to say
+        with mock.patch.object(_clerk, "CLOSING", 1.0):
+            with self.assertRaisesRegex(StoreError, "the server doesn't answer: "):
+                a.close()
+            b.close()  # it has nothing to say
         self.assertTrue(entry)
         self.open(BOOK).enter("read", timeout=LONGEST).leave()
 

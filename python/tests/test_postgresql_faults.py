@@ -384,10 +384,9 @@ class Rights(Faulty, unittest.TestCase):
         kept = self.a.enter("write")
         self.server.run("revoke insert on wanzoche.line from app")
         try:
-            begun = time.monotonic()
-            with self.assertRaisesRegex(StoreError, "permission denied for table line"):
-                self.a.close()
-            self.assertLess(time.monotonic() - begun, LONGEST)
+            with mock.patch.object(_clerk, "CLOSING", 1.0):
+                with self.assertRaisesRegex(StoreError, "permission denied for table line"):
+                    self.a.close()
             self.assertTrue(kept)
         finally:
             self.server.run("grant insert on wanzoche.line to app")
@@ -759,14 +758,16 @@ class Cancellations(unittest.TestCase):
 
     def test_a_statement_that_takes_too_long(self):
         """While somebody has locked a table."""
-        url = the_server().url + "&options=-c%20statement_timeout%3D1s"
+        heartbeat = _postgresql.HEARTBEAT.replace("statement_timeout = 60000", "statement_timeout = 1000")
+        self.assertNotEqual(heartbeat, _postgresql.HEARTBEAT)
 
         def locks(chance):
             for table in ("line", "waiting"):
                 the_server().run("begin; lock table wanzoche.{}; select pg_sleep(1.4); commit".format(table))
                 time.sleep(chance.random() * 0.3)
 
-        self.is_right(locks, url=url)
+        with mock.patch.object(_log, "HEARTBEAT", heartbeat):
+            self.is_right(locks)
 
     def test_statements_that_somebody_cancels(self):
         told = "select pg_cancel_backend(pid) from (select pid from pg_stat_activity where application_name = 'wanzoche' "

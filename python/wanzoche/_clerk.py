@@ -20,7 +20,7 @@ from typing import Any, Callable, Deque, Dict, List, Optional, Sequence, Set, Tu
 from . import _native as native
 from ._errors import Closed, CorruptStore, StoreError
 from ._log import Gone, Log, Wishes, may_pass
-from ._postgresql import Cut
+from ._postgresql import Cut, Slow
 from ._requests import Batch, Bell, Finish, Held, Nobody, Question, Request, Start, Use, wake_nobody
 from ._texts import Path
 
@@ -32,8 +32,10 @@ BEATEN = 8
 """After so many appends that came too late the next one is made in a turn: that keeps all others waiting for two calls."""
 CONNECTING = 10.0
 """So many seconds one attempt to connect may take."""
-LATE = 1.0
-"""So many seconds a close tries to reach a server that is away."""
+CLOSING = 2.0
+"""So many seconds a close tries to tell the server what it has to."""
+SPARE = 0.1
+"""So many seconds behind its time limit a caller waits for an answer."""
 PAUSE, LONGEST_PAUSE = 0.01, 1.0
 """So many seconds pass before the server is asked again; from one failure to the next the pause doubles, up to the longest."""
 
@@ -48,6 +50,8 @@ class Outage:
 
     def __init__(self) -> None:
         self.begun = time.monotonic()
+        self.error: Optional[Exception] = None
+        """What the server has refused."""
         self._pause = PAUSE
 
     def pause(self) -> float:
@@ -68,6 +72,9 @@ class Clerk:
         """Called at the desk of a start that has waited for a second, for two, four and so on, since then."""
         self.away: Optional[Exception] = None
         """Why the server can't be reached, or what it refuses; None while all is well."""
+        self.explains: Callable[[int], Any] = lambda op: None
+        """Called at the desk of an operation: what forbids it, as far as is known without a call at the server."""
+        self._away_since: Optional[float] = None  # since when there is no session
         self.is_over = False
         self._names = {op: name.encode() for name, op in numbers.items()}
         self._ops = {b"%d" % op: op for op in numbers.values()}  # as a notification says them
@@ -167,8 +174,22 @@ class Clerk:
 
     def end(self) -> None:
         """Tells the clerk to finish what is in progress, and to end. Doesn't wait for it."""
+        if not self._ends:
+            self.log.session.ends_by = time.monotonic() + CLOSING
         self._ends = True
         self.ring()
+
+    def ends_at(self, request: Request) -> float:
+        """By the monotonic clock, when nobody waits any longer for a reply: at the request's own limit, or when the server has been silent
+        for the patience. While it isn't silent, that is when to ask again."""
+        asked_at = self.log.session.asked_at
+        silent = asked_at if self._away_since is None else self._away_since
+        ends = time.monotonic() if silent is None else max(request.since, silent)
+        return min(ends + self._patience, float("inf") if request.until is None else request.until)
+
+    def give_up(self, request: Request) -> bool:
+        """Replies that the server doesn't answer. False if there is another reply, or will be in a moment."""
+        return request.reply(native.CLOSED, self.away or self.log.silent(Slow()))
 
     def waiting(self, op: int) -> int:
         """How many wait for the operation."""
@@ -207,6 +228,7 @@ class Clerk:
     def _do_as(self, request: Request, only: Optional[Batch]) -> None:
         """What is to be done for a request, and nobody else's. Then its thread waits for the session itself, or the clerk does."""
         self._here, watched = request, self._watched
+        self.log.session.soon = self.ends_at(request)
         try:
             if only is not None:
                 self._send(only)
@@ -375,6 +397,7 @@ class Clerk:
         ready = [] if self._inbox else self._poller.poll(seconds)
         self._is_asleep = False
         self._desk.acquire()
+        self.log.session.soon = float("inf")
         has_come = self._take_over()
         for each, _ in ready:
             if each == fd:
@@ -420,7 +443,7 @@ class Clerk:
     def _step(self) -> bool:
         """One call at the server, or several in a turn: False if there is nothing to do."""
         if self._flight is not None:
-            self._send(self._flight)
+            self._send_again(self._flight)
             return True
         if self._inbox:
             self._read_inbox()
@@ -461,10 +484,14 @@ class Clerk:
     def _forget_unwanted(self) -> None:
         for op, queue in self._starts.items():
             for start in queue:
-                if start.is_late:
+                if start.is_late and not start.is_over():
+                    start.told = self.explains(op)
                     start.reply(native.BLOCKED, self.away)
             if not all(each.is_wanted() for each in queue):
                 self._starts[op] = deque(each for each in queue if each.is_wanted())
+        self._uses = [each for each in self._uses if not each.is_over()]
+        self._finishes = [each for each in self._finishes if not each.is_over()]
+        self._questions = [each for each in self._questions if not each.is_over()]
 
     def _take_notices(self) -> None:
         notices = self.log.session.notices
@@ -521,6 +548,8 @@ class Clerk:
         for request in self._finishes:
             held = request.held
             number = held._number
+            if request.is_over():
+                continue  # who wanted it was told that it wasn't done
             if not held._live or number in found:
                 request.reply(native.STALE)
             elif number in self._done and self._done[number] is held:
@@ -673,6 +702,15 @@ class Clerk:
                 self._begin_anew()
         self._reply_blocked()
 
+    def _send_again(self, batch: Batch) -> None:
+        """Of one whose answer wasn't read. If somebody was told meanwhile that it hasn't been done, it is only found out whether it was."""
+        if not any(each.is_over() for each in _requests_of(batch)):
+            self._send(batch)
+        elif batch.is_stepped:
+            self._begin_anew()
+        else:
+            self._catch_up()
+
     def _looked(self) -> None:
         """The log has just been followed: a request that is refused now is refused."""
         self._is_stale = False
@@ -727,20 +765,25 @@ class Clerk:
             queue.remove(start)
         if self.log.replica.can_start(op):
             self._alone.discard(op)
-        if held._live or start.is_over():  # another thread has begun the same entry, or nobody waits for this start any more
+        if held._live or not start.claim():  # another thread has begun the same entry, or nobody waits for this start any more
             self._unknown.add(number)
             start.reply(native.NOT_YOURS)
             return
         self.held[number] = held
         held._number, held._worker = number, start.caller
         held._live = True
-        start.reply(native.STARTED)
+        start.tell(native.STARTED)
         if start.is_unwanted:
             self._inbox.append(Finish(wake_nobody, held))
 
     def _finished(self, finish: Finish, number: int, is_taken: bool) -> None:
-        self._let_go(number)
-        finish.reply(native.NOT_YOURS if is_taken else native.FINISHED)
+        if finish.claim():
+            self._let_go(number)
+            finish.tell(native.NOT_YOURS if is_taken else native.FINISHED)
+        else:
+            held = self.held.pop(number, None)  # who was told that it isn't done leaves it again, and is told then
+            if held is not None and not is_taken:
+                self._done[number] = held
 
     def _revert(self, batch: Batch) -> None:
         """Its lines aren't in the log: what they were for is wanted as before."""
@@ -786,6 +829,9 @@ class Clerk:
             self._bury_dead()
         while self._questions:
             each = self._questions[0]
+            if each.is_over():
+                self._questions.remove(each)
+                continue
             try:
                 each.value = each.asks()
                 each.reply(native.USED)
@@ -826,16 +872,16 @@ class Clerk:
         """Begins another session, however often that takes. Requests that are older than the patience fail."""
         outage = Outage()
         is_same: Optional[bool] = None
+        self._away_since = outage.begun
         _logger.info("the log %s: the server doesn't answer: %s", self.log.name, error)
         while is_same is None:
-            self.away = StoreError("the log {}: the server doesn't answer: {}".format(self.log.name, error))
+            self.away = self.log.silent(error)
             self._read_inbox()
             self._fail_old(outage.begun)
-            if self._ends and time.monotonic() > outage.begun + LATE:
-                raise self.away
+            if self._ends and time.monotonic() > self.log.session.ends_by:
+                raise self._outage and self._outage.error or self.away
             try:
-                limit = LATE if self._ends else min(CONNECTING, self._patience)
-                is_same = self.log.come_back(time.monotonic() + limit)
+                is_same = self.log.come_back(time.monotonic() + min(CONNECTING, self._patience))
             except (Cut, StoreError) as told:
                 self.log.session.close()
                 if self.log.is_removed:
@@ -844,7 +890,7 @@ class Clerk:
                 _logger.info("the log %s: the server is asked again: %s", self.log.name, told)
                 self._wait(outage.pause())
         _logger.info("the log %s: the server is there again, after %.1f s", self.log.name, time.monotonic() - outage.begun)
-        self.away, self._watched = None, -1
+        self.away, self._away_since, self._watched = None, None, -1
         flight = self._flight
         self._is_unsure = self._is_unsure or flight is not None and not flight.is_stepped and flight.before != self.log.place
         self._doubtful.update(self._registered)
@@ -883,9 +929,6 @@ class Clerk:
             if isinstance(request, Finish) and request.wake is wake_nobody:
                 self._unknown.add(request.held._number)
             request.reply(native.CLOSED, error)
-        self._uses = [each for each in self._uses if not each.is_over()]
-        self._finishes = [each for each in self._finishes if not each.is_over()]
-        self._questions = [each for each in self._questions if not each.is_over()]
         self._forget_unwanted()
 
     # When the server refuses a call
@@ -896,6 +939,7 @@ class Clerk:
         self._outage = self._outage or Outage()
         is_second, self._refusal, self.away = self._refusal is not None, error, error
         if not may_pass(error):
+            self._outage.error = error
             starts = [each for queue in self._starts.values() for each in queue if not (each.waits and each.has_looked)]
             self._refused = [*starts, *self._uses, *self._finishes, *self._questions, *_requests_of(self._flight)]
             if is_second:
@@ -907,7 +951,7 @@ class Clerk:
         outage = self._outage or Outage()
         self._read_inbox()
         self._fail_old(outage.begun)
-        if self._ends and self.away is not None and time.monotonic() > outage.begun + LATE:
+        if self._ends and self.away is not None and time.monotonic() > self.log.session.ends_by:
             raise self.away
         self._wait(outage.pause())
 
@@ -996,7 +1040,7 @@ class Clerk:
         """Finishes what is in progress, and gives the worker's number up."""
         self._read_inbox()
         while self._flight is not None:
-            self._send(self._flight)
+            self._send_again(self._flight)
         self._follow()
         numbers = [each.number for each in self.log.replica.live() if self._is_own(each)]
         if numbers:

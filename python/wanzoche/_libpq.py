@@ -8,6 +8,8 @@ from ctypes import POINTER, c_char_p, c_int, c_void_p
 from typing import Any, Dict, List, NamedTuple, Optional, Sequence
 
 Row = Sequence[Optional[bytes]]
+VERBOSE = 2
+"""Of libpq's errors: with codes and places."""
 
 
 class _Notice(ctypes.Structure):
@@ -42,6 +44,7 @@ class Library:
         self.notice = _typed(only_looks.PQnotifies, POINTER(_Notice), c_void_p)
         self.free = _typed(only_looks.PQfreemem, None, c_void_p)
         self.error = _typed(only_looks.PQerrorMessage, c_char_p, c_void_p)
+        self.verbosity = _typed(only_looks.PQsetErrorVerbosity, c_int, c_void_p, c_int)
         self.texts: Dict[int, Any] = {count: c_char_p * count for count in range(1, 17)}
 
 
@@ -103,10 +106,12 @@ class Direct:
         if self._library.sync(self._at) != 1:
             raise OSError(self._error())
 
-    def flush(self) -> None:
-        """Sends what wasn't sent yet."""
-        if self._library.flush(self._at) < 0:
+    def flush(self) -> int:
+        """Sends what wasn't sent yet, as far as that can be done now: 0 if that is all."""
+        left = int(self._library.flush(self._at))
+        if left < 0:
             raise OSError(self._error())
+        return left
 
     def is_busy(self) -> int:
         """Whether the next result isn't there yet."""
@@ -138,14 +143,27 @@ class Direct:
 _libraries: Dict[str, Library] = {}
 
 
-def direct(pq: Any, connection: Any) -> Any:
-    """The calls of a connection of psycopg.pq: by their addresses if it is the form in Python, or else its own."""
+def _library_of(pq: Any) -> Optional[Library]:
+    """That of psycopg's form in Python; None if it is another form, or another psycopg than those that were tried."""
     if pq.__impl__ != "python":
-        return connection
+        return None
     try:
-        name, at = importlib.import_module("psycopg.pq._pq_ctypes").pq._name, connection.pgconn_ptr
+        name = importlib.import_module("psycopg.pq._pq_ctypes").pq._name
         if name not in _libraries:
             _libraries[name] = Library(name)
     except (ImportError, AttributeError, OSError):
-        return connection  # another psycopg than those that were tried
-    return Direct(_libraries[name], at)
+        return None
+    return _libraries[name]
+
+
+def direct(pq: Any, connection: Any) -> Any:
+    """The calls of a connection of psycopg.pq: by their addresses if it is the form in Python, or else its own."""
+    library = _library_of(pq)
+    return connection if library is None else Direct(library, connection.pgconn_ptr)
+
+
+def tells_codes(pq: Any, connection: Any) -> None:
+    """From now on what a connection says of itself has the server's codes, where that can be had."""
+    library = _library_of(pq)
+    if library is not None:
+        library.verbosity(connection.pgconn_ptr, VERBOSE)

@@ -10,7 +10,7 @@ from typing import Any, Callable, Iterator, List, NamedTuple, Optional, Sequence
 
 from . import _native as native
 from ._errors import CorruptStore, OtherDeclaration, StoreError
-from ._postgresql import AGAIN, CANCELLED, HEARTBEAT, Call, Complaint, Cut, Row, Session, array
+from ._postgresql import AGAIN, CANCELLED, HEARTBEAT, Call, Complaint, Cut, Row, Session, Slow, array
 from ._replica import ROOM, Replica
 from ._store import difference
 
@@ -141,13 +141,22 @@ class Log:
         self._listens = False
         self._has_company = False  # whether others have appended lately
         self._commits = b"on"  # how the server commits what has to last
+        self._answer = ANSWER  # so many seconds a call waits for its answer
         self.is_removed = False
         """Whether there is no such log any more."""
 
     # Sessions
 
     def open(self, until: float) -> None:
-        """Opens the log, or makes it, and reads it all. The replica is open. Raises `Cut`, `StoreError` and `OtherDeclaration`."""
+        """Opens the log, or makes it, and reads it all. The replica is open. Each answer that isn't there by then has as many seconds as
+        there are now. Raises `Cut`, `StoreError` and `OtherDeclaration`."""
+        self._answer = max(until - time.monotonic(), 0.0)
+        try:
+            self._open(until)
+        finally:
+            self._answer = ANSWER
+
+    def _open(self, until: float) -> None:
         declaration, self.is_removed = self.replica.declaration(), False
         self.session.connect(until)
         make_schema(self.session, until)
@@ -472,7 +481,9 @@ class Log:
     def _call(self, *calls: Call) -> List[List[Row]]:
         for tries in range(5):
             try:
-                return self.session.call(calls, time.monotonic() + ANSWER)
+                return self.session.call(calls, time.monotonic() + self._answer)
+            except Slow as error:
+                raise self.silent(error) from error
             except Complaint as error:
                 if not error.code.startswith(AGAIN) or tries == 4 or len(calls) > 2 or calls[0].name == b"begin":
                     raise self._refused(error) from error
@@ -481,9 +492,15 @@ class Log:
     def _call_beside(self, call: Call, meanwhile: Callable[[], Any]) -> List[Row]:
         """The rows of a call that only reads, and something else until they are there."""
         try:
-            return self.session.call_beside([call], time.monotonic() + ANSWER, meanwhile)[0]
+            return self.session.call_beside([call], time.monotonic() + self._answer, meanwhile)[0]
+        except Slow as error:
+            raise self.silent(error) from error
         except Complaint as error:
             raise self._refused(error) from error
+
+    def silent(self, why: object) -> StoreError:
+        """What is raised while the server is away, and for which reason."""
+        return StoreError("the log {}: the server doesn't answer{}".format(self.name, "" if isinstance(why, Slow) else ": {}".format(why)))
 
     def _refused(self, error: Complaint) -> Exception:
         """What a complaint of the server is for a caller."""
@@ -497,8 +514,9 @@ class Log:
 
 
 def may_pass(error: BaseException) -> bool:
-    """Whether an error of a call only says that the server has cancelled it. Then it may be made again."""
-    return isinstance(error.__cause__, Complaint) and error.__cause__.code.startswith((CANCELLED, *AGAIN))
+    """Whether an error of a call only says that the server has cancelled it, or takes longer than who asks. Then it may be made again."""
+    cause = error.__cause__
+    return isinstance(cause, Slow) or isinstance(cause, Complaint) and cause.code.startswith((CANCELLED, *AGAIN))
 
 
 def make_schema(session: Session, until: float) -> None:

@@ -4,21 +4,28 @@ from __future__ import annotations
 
 import importlib
 import os
+import re
 import select
 import time
 from typing import Any, Callable, Dict, List, Mapping, NamedTuple, Optional, Sequence
 
 from ._errors import StoreError
-from ._libpq import Result, direct
+from ._libpq import Result, direct, tells_codes
 
 PATH = "set search_path = pg_catalog, pg_temp"
 """What the server is told first: nothing is looked for in a schema in which others may make functions and operators."""
+LIMITS = (
+    "set statement_timeout = 0; set lock_timeout = 0; set idle_session_timeout = 0; set idle_in_transaction_session_timeout = 0; "
+    "select set_config(name, '0', false) from pg_settings where name = 'transaction_timeout'"
+)
+"""What it is told next: whatever limits the role or the database has for others, this session has its own."""
 HEARTBEAT = (
     "set tcp_keepalives_idle = 5; set tcp_keepalives_interval = 2; set tcp_keepalives_count = 3; set tcp_user_timeout = 10000; "
-    "set idle_in_transaction_session_timeout = 3000; set client_min_messages = error; set plan_cache_mode = force_generic_plan; "
-    "set jit = off; set default_transaction_isolation = 'read committed'"
+    "set statement_timeout = 60000; set idle_in_transaction_session_timeout = 3000; set client_min_messages = error; "
+    "set plan_cache_mode = force_generic_plan; set jit = off; set default_transaction_isolation = 'read committed'"
 )
-"""What the server is told of a session: it ends one whose machine is silent for some ten seconds, and one that keeps others waiting."""
+"""What the server is told of a session that has the schema: it ends one whose machine is silent for some ten seconds, and one that keeps
+others waiting, and it cancels what nobody waits for any more."""
 FOR_LIBPQ = {
     "gssencmode": "disable",  # its library keeps a lock that a fork beside a connecting thread would leave locked
     "keepalives_idle": "5",
@@ -29,6 +36,8 @@ FOR_LIBPQ = {
 }
 CUT = ("08", "57P", "25P03")
 """What a server says that ends a session."""
+DENIED = ("22", "28", "3D", "42")
+"""What it says of a session that it won't begin, whoever asks again: a wrong option, password, or database, and a missing right."""
 AGAIN = ("40001", "40P01", "55P03")
 """What it says of a call that was undone and may be repeated."""
 CANCELLED = "57014"
@@ -36,6 +45,8 @@ CANCELLED = "57014"
 Row = Sequence[Optional[bytes]]
 
 
+LOOK = 0.1
+"""Who waits for an answer looks after so many seconds whether the limit is another one now."""
 BESIDE = 2.0
 """Behind a pooler, so many seconds another session is waited for. If there is none, this one has the only one that there is."""
 POOLED = (
@@ -46,6 +57,15 @@ POOLED = (
 
 class Cut(Exception):
     """The session is over. What was called may have been done or not."""
+
+
+class Denied(Cut):
+    """There is none, since the server won't have it."""
+
+
+class Slow(Exception):
+    """The answer isn't there, and who asks waits no longer. What was called may have been done or not, or is done later; the session goes
+    on, and the answer is read before the next call."""
 
 
 class Complaint(Exception):
@@ -96,6 +116,14 @@ class Session:
         self._synced, self._failed = int(status.PIPELINE_SYNC), int(status.FATAL_ERROR)
         self._good = (int(status.TUPLES_OK), int(status.COMMAND_OK))
         self._is_in_pipeline = False
+        self._is_sent = True  # whether nothing is left to be sent
+        self._owed, self._owed_until = 0, float("inf")  # so many synchronizations have yet to be answered, by then
+        self.asked_at: Optional[float] = None
+        """Since when an answer is waited for; None if none is."""
+        self.soon = float("inf")
+        """Who calls waits at most until then, or gets `Slow`. It may wait longer for the answer before."""
+        self.ends_by = float("inf")
+        """The session is over then if an answer is waited for. Any thread may say so, also in the midst of a call."""
         self.notices: List[bytes] = []
         """What the notifications said that have come."""
 
@@ -109,6 +137,7 @@ class Session:
             if own != self._connection.backend_pid:
                 self._refuse_pooler(own, until)
             self.run(PATH, until)
+            self.run(LIMITS, until)
         except Complaint as error:
             raise self._cut(str(error)) from error
 
@@ -135,23 +164,43 @@ class Session:
         pq = self._pq
         self.close()
         self._connection = connection = pq.PGconn.connect_start(self._info)
+        tells_codes(pq, connection)
         polled = pq.PollingStatus.WRITING
         while polled != pq.PollingStatus.OK:
             if polled == pq.PollingStatus.FAILED or connection.status == pq.ConnStatus.BAD:
-                raise self._cut(_message(connection))
-            self._poll(select.POLLOUT if polled == pq.PollingStatus.WRITING else select.POLLIN, until)
+                raise self._refused()
+            self._poller = select.poll()
+            self._poller.register(connection.socket, select.POLLOUT if polled == pq.PollingStatus.WRITING else select.POLLIN)
+            self._wait(until)
             polled = connection.connect_poll()
+        connection.nonblocking = 1
         self._poller = select.poll()
         self._poller.register(connection.socket, select.POLLIN)
         if connection.server_version < 140000:
             raise StoreError("the server is PostgreSQL {}: 14 or later is needed".format(connection.server_version // 10000))
         self._calls = direct(pq, connection)
 
-    def _poll(self, events: int, until: float) -> None:
-        poll = select.poll()
-        poll.register(self._connection.socket, events)
-        if not poll.poll(max(until - time.monotonic(), 0) * 1000):
-            raise self._cut("it doesn't answer")
+    def _refused(self) -> Cut:
+        """What is raised when there is no connection."""
+        told, is_denied = _message(self._connection).rstrip(), self._connection.needs_password
+        codes, places = _CODE.findall(told), list(_PLACE.finditer(told))
+        if codes and places and places[-1].end() == len(told):  # the last server that was tried has said it
+            is_denied = codes[-1].startswith(DENIED)
+        told = _CODE.sub(" ", _PLACE.sub("", told)) or "the connection was closed"
+        self.close()
+        return (Denied if is_denied or not codes and _DENIAL.search(told) else Cut)(told)
+
+    def _wait(self, until: float) -> None:
+        """Until something comes or can be sent. Raises `Slow` when who asks waits no longer, and `Cut` when nobody does."""
+        while True:
+            ends = min(until, self.ends_by)
+            seconds = min(ends, self.soon) - time.monotonic()
+            if self._poller.poll(min(max(seconds, 0), LOOK) * 1000):
+                return
+            if seconds <= 0 and self.soon < ends:
+                raise Slow("the server doesn't answer")
+            if seconds <= 0:
+                raise self._cut("it doesn't answer")
 
     def _cut(self, why: str) -> Cut:
         self.close()
@@ -167,6 +216,7 @@ class Session:
     def close(self) -> None:
         """Ends the session."""
         connection, self._calls, self._connection, self._is_in_pipeline = self._connection, None, None, False
+        self._owed, self._is_sent, self.asked_at = 0, True, None
         self.notices.clear()
         if connection is not None:
             connection.finish()
@@ -181,8 +231,9 @@ class Session:
 
     def run(self, script: str, until: float) -> List[List[Row]]:
         """The rows of the last statement of a script. Only before anything is prepared. Raises Cut and Complaint."""
+        self.asked_at = time.monotonic()
         self._connection.send_query(script.encode())
-        return self._answers(0, until)
+        return self._answers(until)
 
     def prepare(self, statements: "dict[bytes, str]", until: float) -> None:
         """Prepares statements by their names."""
@@ -192,46 +243,58 @@ class Session:
         for name, text in statements.items():
             connection.send_prepare(name, text.encode())
         connection.pipeline_sync()
-        self._answers(1, until)
+        self._owed, self.asked_at = 1, time.monotonic()
+        self._answers(until)
 
     def call(self, calls: Sequence[Call], until: float) -> List[List[Row]]:
-        """The rows of each call, in one round trip. Raises Cut, and Complaint when the answers of all are read."""
-        return self._answers(self._send(calls), until)
+        """The rows of each call, in one round trip. Raises `Cut`, `Slow`, and `Complaint` when the answers of all are read."""
+        self._send(calls, until)
+        return self._answers(until)
 
     def call_beside(self, calls: Sequence[Call], until: float, meanwhile: Callable[[], Any]) -> List[List[Row]]:
         """The same, and something else between question and answer. If that raises, the session is over."""
-        syncs = self._send(calls)
+        self._send(calls, until)
         try:
-            self._calls.flush()
+            self._flush()
             meanwhile()
         except BaseException:
             self.close()
             raise
-        return self._answers(syncs, until)
+        return self._answers(until)
 
-    def _send(self, calls: Sequence[Call]) -> int:
-        """Sends calls: how many synchronizations will be answered."""
+    def _send(self, calls: Sequence[Call], until: float) -> None:
+        """Sends calls, behind the answer of who waited no longer for his."""
+        if self._owed:
+            self._skip_answers()
         connection = self._calls
         if connection is None or self._connection.pgconn_ptr is None:
             raise self._cut("the connection was closed")
         try:
-            return _send_to(connection, calls)
+            self.asked_at, self._owed_until = time.monotonic(), until
+            self._owed = _send_to(connection, calls)
         except Exception as error:
             raise self._cut(str(error)) from error
 
-    def _answers(self, syncs: int, until: float) -> List[List[Row]]:
-        """What comes until so many synchronizations, or until the end of a script."""
+    def _skip_answers(self) -> None:
+        """Reads what is owed to who asks no more."""
         try:
-            return self._read(syncs, until)
-        except (Cut, Complaint):
+            self._answers(self._owed_until)
+        except Complaint:
+            pass
+
+    def _answers(self, until: float) -> List[List[Row]]:
+        """What comes until all synchronizations that are owed, or until the end of a script."""
+        try:
+            return self._read(until)
+        except (Cut, Complaint, Slow):
             raise
         except Exception as error:
             raise self._cut(str(error)) from error
 
-    def _read(self, syncs: int, until: float) -> List[List[Row]]:
+    def _read(self, until: float) -> List[List[Row]]:
         found: List[List[Row]] = []
         complaint: Optional[Complaint] = None
-        self._calls.flush()
+        self._flush()
         while True:
             result = self._next(until)
             if result is None:
@@ -240,13 +303,14 @@ class Session:
                 continue
             status = int(result.status)
             if status == self._synced:
-                syncs -= 1
-                if not syncs:
+                self._owed -= 1
+                if not self._owed:
                     break
             elif status == self._failed:
                 complaint = complaint or self._complaint(result)
             elif status in self._good:
                 found.append(_rows(result))
+        self.asked_at = None
         self._take_notices()
         if complaint is not None:
             raise complaint
@@ -256,10 +320,18 @@ class Session:
         """The next result, when it is there."""
         connection = self._calls
         while connection.is_busy():
-            if not self._poller.poll(max(until - time.monotonic(), 0) * 1000):
-                raise self._cut("it doesn't answer")
+            self._wait(until)
             connection.consume_input()
+            if not self._is_sent:
+                self._flush()
         return connection.get_result()
+
+    def _flush(self) -> None:
+        """Sends what can be sent now. `_wait` ends, too, when there is room for the rest."""
+        is_sent = not self._calls.flush()
+        if is_sent != self._is_sent:
+            self._is_sent = is_sent
+            self._poller.modify(self._connection.socket, select.POLLIN if is_sent else select.POLLIN | select.POLLOUT)
 
     def _complaint(self, result: Any) -> Complaint:
         """What a result says that is an error. Raises Cut if it ends the session."""
@@ -281,7 +353,8 @@ class Session:
             connection.consume_input()
             if self._connection.status == self._pq.ConnStatus.BAD:
                 raise self._cut(_message(self._connection))
-            self._read_unasked(connection)
+            if not self._owed:
+                self._read_unasked(connection)
         except Cut:
             raise
         except Exception as error:
@@ -302,6 +375,12 @@ class Session:
         while notice is not None:
             self.notices.append(bytes(notice.extra))
             notice = self._calls.notifies()
+
+
+_CODE, _PLACE = re.compile(r"(?<=:)  ([0-9A-Z]{5}):  ?"), re.compile(r"\n\S+ +\w+, \w+\.c:\d+")
+"""In what libpq says of a connection: the code of what a server has said, and where in the server's source that stands."""
+_DENIAL = re.compile('password authentication failed|(database|role) ".*" does not exist|permission denied for database|pg_hba.conf')
+"""The same as `DENIED` where there are no codes, of a server that speaks English."""
 
 
 def _besides(given: Mapping[str, Any]) -> Dict[str, str]:

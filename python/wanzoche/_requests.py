@@ -26,22 +26,38 @@ class Request:
     def __init__(self, wake: Callable[[], None]) -> None:
         self.wake = wake
         self.since = time.monotonic()
+        self.until: Optional[float] = None
+        """When nobody waits for the reply any more, by the monotonic clock; None if only the patience ends that."""
         self.code: Optional[int] = None
         self.error: Optional[BaseException] = None
+        self._claims = [True]  # who takes it out replies: that is one step of the interpreter
 
     def is_over(self) -> bool:
         """Whether the reply is there."""
         return self.code is not None
 
-    def reply(self, code: int, error: Optional[BaseException] = None) -> None:
-        """Only the first reply counts."""
-        if self.code is None:
-            self.error = error
-            self.code = code
-            try:
-                self.wake()
-            except RuntimeError:
-                pass  # the loop of a task is closed, and the task over with it
+    def claim(self) -> bool:
+        """Whether the caller is the one who replies: it then calls `tell`, and nobody else does."""
+        try:
+            return self._claims.pop()
+        except IndexError:
+            return False
+
+    def tell(self, code: int, error: Optional[BaseException] = None) -> None:
+        """The reply of who has claimed that."""
+        self.error = error
+        self.code = code
+        try:
+            self.wake()
+        except RuntimeError:
+            pass  # the loop of a task is closed, and the task over with it
+
+    def reply(self, code: int, error: Optional[BaseException] = None) -> bool:
+        """Only the first reply counts: whether this is it."""
+        if not self.claim():
+            return False
+        self.tell(code, error)
+        return True
 
 
 class Start(Request):
@@ -60,6 +76,8 @@ class Start(Request):
         """After so many seconds of waiting it is told of in the program's log."""
         self.is_late = False
         """Its time is over: it is blocked if it isn't started by now."""
+        self.told: Any = None
+        """What forbade it then, as far as was known."""
         self.is_unwanted = False
         """Nobody waits for it any more: it is finished if it is started."""
 

@@ -6,20 +6,22 @@ import asyncio
 import copy
 import threading
 import time
+import weakref
 from types import TracebackType
 from typing import Any, Callable, Dict, List, NoReturn, Optional, Tuple, Type, TypeVar, cast
 
+from . import _clerk
 from . import _native as native
 from ._attempts import InUse, admitted, in_use
 from ._clerk import Clerk
 from ._entries import AsyncEntry, Entry
 from ._errors import Blocked, Closed, Lost, StoreError, Timeout
 from ._log import MOST_IN_SEGMENT, SEGMENT, Log, may_pass
-from ._postgresql import Cut
+from ._postgresql import Cut, Denied
 from ._requests import Finish, Question, Request, Start, Use, wake_nobody
 from ._store import Store
 from ._stored import Begun, StoredPaths, _Stored, without_order
-from ._texts import Report, read_declaration
+from ._texts import Report, read_declaration, read_report
 from ._waiting import Queues
 
 OPENING = 10.0
@@ -80,10 +82,11 @@ class ServedStore:
             try:
                 self._log.open(until)
                 return
+            except Denied as error:
+                raise StoreError("the log {}: there is no session: {}".format(self._log.name, error)) from error
             except Cut as error:
                 if time.monotonic() >= until - 0.1:
-                    told = "the log {}: the server doesn't answer: {}".format(self._log.name, error)
-                    raise StoreError(told) from error
+                    raise self._log.silent(error) from error
             except StoreError as error:
                 if not (may_pass(error) or self._log.is_removed) or time.monotonic() >= until - 0.1:
                     raise
@@ -102,23 +105,29 @@ class ServedStore:
         over it doesn't."""
         asleep = threading.Lock()
         asleep.acquire()
-        start = begun._attempt = Start(asleep.release, begun, worker, until is None or until > time.monotonic())
+        start = begun._attempt = new_start(begun, worker, asleep.release, until)
         try:
             self.clerk.do(start)
             self.clerk.wait_here(start, until)
-            if start.is_over():
-                pass
-            elif until is None or not start.waits:
-                asleep.acquire()
-            elif not asleep.acquire(True, min(max(until - time.monotonic(), 0.0), threading.TIMEOUT_MAX)):
-                self.late(start)
-                asleep.acquire()
+            if start.waits and until is not None:
+                self._sleep(start, asleep, until)
+                if not start.is_over():
+                    self.late(start)
+            self._sleep(start, asleep)
         except BaseException:
             self.give_up(begun)
             raise
         finally:
             _note_wait(begun, start)
         return self.code_of(start)
+
+    def _sleep(self, request: Request, asleep: Any, until: float = float("inf")) -> None:
+        """Waits for the reply, at the longest until then. Who has waited as long as he may for the server replies himself."""
+        while not request.is_over():
+            now, ends = time.monotonic(), self.clerk.ends_at(request)
+            if now >= until or now >= ends and self.clerk.give_up(request):
+                return
+            asleep.acquire(True, min(max(min(ends, until) - now, 0.001), threading.TIMEOUT_MAX))
 
     def late(self, start: Start) -> None:
         """Its time is over: it gets its reply soon."""
@@ -134,13 +143,14 @@ class ServedStore:
             if start.code == native.STARTED:
                 self.drop(begun)
 
-    def _wait_for(self, make: Callable[[Callable[[], None]], Request]) -> int:
-        """Makes a request, and waits for the reply: the answer's code."""
+    def _wait_for(self, make: Callable[[Callable[[], None]], Request], until: Optional[float] = None) -> int:
+        """Makes a request, and waits for the reply, at the longest until then: the answer's code."""
         asleep = threading.Lock()
         asleep.acquire()
         request = make(asleep.release)
+        request.until = until
         self.clerk.do(request)
-        asleep.acquire()
+        self._sleep(request, asleep)
         return self.code_of(request)
 
     def code_of(self, request: Request) -> int:
@@ -177,15 +187,15 @@ class ServedStore:
             raise Lost(_LOST.format(begun._number))
         return native.Answer(code, made[0].number)
 
-    def ask(self, asks: Callable[[], T]) -> T:
-        """What a question gives at the desk, when the log has been followed."""
+    def ask(self, asks: Callable[[], T], until: Optional[float] = None) -> T:
+        """What a question gives at the desk, when the log has been followed. Raises `StoreError` if it isn't known then."""
         made: List[Question] = []
 
         def make(wake: Callable[[], None]) -> Request:
             made.append(Question(wake, asks))
             return made[0]
 
-        self._wait_for(make)
+        self._wait_for(make, until)
         return cast(T, made[0].value)
 
     def recover(self, worker: int, even_alive: bool) -> int:
@@ -257,10 +267,13 @@ class ServedStore:
         self.clerk.has_to_be_away()
         self._is_closed = True
         self.clerk.end()
-        if threading.current_thread() is not self.clerk.thread:
-            self.clerk.thread.join()
-        if isinstance(self.clerk.fault, StoreError) and self.clerk.away is not None and self.clerk.held:
-            raise copy.copy(self.clerk.fault)
+        clerk = self.clerk
+        if threading.current_thread() is not clerk.thread:
+            clerk.thread.join(_clerk.CLOSING + _clerk.SPARE)
+            if clerk.held and not clerk.is_over:
+                raise clerk.away or self._log.silent("it can't be told that these paths are closed")
+        if isinstance(clerk.fault, StoreError) and clerk.away is not None and clerk.held:
+            raise copy.copy(clerk.fault)
 
     def end(self) -> None:
         """The same, without waiting for it."""
@@ -354,14 +367,40 @@ class _Served(_Stored):
             self._unused()
 
 
+def new_start(begun: ServedBegun, worker: int, wake: Callable[[], None], until: Optional[float], loop: Any = None) -> Start:
+    """A start that waits until then for its turn. Without a time it waits; with one that is over it doesn't."""
+    waits = until is None or until > time.monotonic()
+    start = Start(wake, begun, worker, waits, loop)
+    start.until = _ends(begun, until)
+    return start
+
+
+def _ends(begun: ServedBegun, until: Optional[float]) -> Optional[float]:
+    """When nobody waits any longer for the server; None if only the patience says so, as where the turn isn't waited for."""
+    return until + _clerk.SPARE if begun._timeout and until is not None else None
+
+
 def _begin(begun: ServedBegun, worker: int) -> None:
     """Begins it when it is admitted. Raises `Timeout`."""
     limit = begun._timeout
     until = None if limit is None else time.monotonic() + limit
     while not admitted(begun, _code_of_start(begun, worker, until), worker):
-        why = begun._paths.why(begun._name)
+        why = _why(begun, until)
         if why is not None:
             raise _timeout(why, limit)
+
+
+def _why(begun: ServedBegun, until: Optional[float]) -> Optional[Blocked]:
+    """What forbids it. If the server doesn't say so in time: what did so when its time was over."""
+    paths, told = cast(ServedPaths, begun._paths), begun._attempt and begun._attempt.told
+    try:
+        return begun.store().ask(lambda: paths._blocked_now(begun._name), _ends(begun, until))
+    except Closed:
+        raise paths._closed() from None
+    except StoreError:
+        if told is None:
+            raise
+        return cast(Blocked, told)
 
 
 def _code_of_start(begun: ServedBegun, worker: int, until: Optional[float]) -> int:
@@ -406,11 +445,13 @@ class ServedAsyncEntry(_Served, AsyncEntry):
             raise
 
     async def _begin(self, begun: ServedBegun, worker: int) -> None:
-        limit, paths = begun._timeout, cast(ServedPaths, begun._paths)
-        waits = limit is None or limit > 0
+        limit, paths, loop = begun._timeout, cast(ServedPaths, begun._paths), asyncio.get_running_loop()
+        until = None if limit is None else time.monotonic() + limit
         while True:
-            start = begun._attempt = Start(wake_nobody, begun, worker, waits, asyncio.get_running_loop())
-            alarm = None if limit is None or not waits else asyncio.get_running_loop().call_later(limit, begun.store().late, start)
+            start = begun._attempt = new_start(begun, worker, wake_nobody, until, loop)
+            alarm = None
+            if start.waits and until is not None:
+                alarm = loop.call_later(until - time.monotonic(), begun.store().late, start)
             try:
                 await _replied(begun.store(), start)
             finally:
@@ -420,12 +461,14 @@ class ServedAsyncEntry(_Served, AsyncEntry):
             if admitted(begun, _code_unless_closed(begun, start), worker):
                 return
             question = Question(wake_nobody, lambda: paths._blocked_now(begun._name))
+            question.until = start.until
             await _replied(begun.store(), question)
+            if question.error is not None and start.told is not None and isinstance(question.error, StoreError):
+                raise _timeout(start.told, limit)
             if _code_unless_closed(begun, question) == native.CLOSED:
                 raise paths._closed()
             if question.value is not None:
                 raise _timeout(question.value, limit)
-            waits = False
 
     async def __aexit__(self, kind: Optional[Type[BaseException]], error: Optional[BaseException], trace: Optional[TracebackType]) -> None:
         if self._is_in_progress():
@@ -454,11 +497,25 @@ def _code_unless_closed(begun: ServedBegun, request: Request) -> int:
 
 
 async def _replied(store: ServedStore, request: Request) -> None:
-    """Hands a request to the clerk. Returns when the reply is there."""
-    loop, event = asyncio.get_running_loop(), asyncio.Event()
+    """Hands a request to the clerk. Returns when the reply is there. Who has waited as long as he may for the server replies himself."""
+    loop, event, clerk = asyncio.get_running_loop(), asyncio.Event(), store.clerk
     request.wake = lambda: cast(None, loop.call_soon_threadsafe(event.set))
-    store.clerk.submit(request)
-    await event.wait()
+    clerk.submit(request)
+    while not request.is_over():
+        seconds = clerk.ends_at(request) - time.monotonic()
+        if seconds <= 0 and clerk.give_up(request):
+            return
+        alarm = loop.call_later(max(seconds, 0.001), event.set)
+        try:
+            await event.wait()
+        finally:
+            alarm.cancel()
+        event.clear()
+
+
+def _known_of(paths: "Optional[ServedPaths]", op: int) -> Optional[Blocked]:
+    """What forbids an operation, as far as its paths know."""
+    return None if paths is None else paths._blocked_as_known(paths._operations[op])
 
 
 class ServedQueues(Queues):
@@ -500,6 +557,8 @@ class ServedPaths(StoredPaths):
         return ServedAsyncEntry(self, operation, without_order(timeout, priority))
 
     def _new_queues(self) -> Queues:
+        this = weakref.ref(self)
+        self._served.clerk.explains = lambda op: _known_of(this(), op)
         return ServedQueues(self._calls, self._served.clerk)
 
     def _report_for_log(self) -> Report:
@@ -509,6 +568,12 @@ class ServedPaths(StoredPaths):
         """At the desk: what forbids the operation."""
         told = None if self._replica_can_start(operation) else self._read_report()
         return None if told is None else self._why_of(operation, told)
+
+    def _blocked_as_known(self, operation: str) -> Optional[Blocked]:
+        """The same, without a call at the server: nobody is asked who is dead."""
+        if self._replica_can_start(operation):
+            return None
+        return self._why_of(operation, read_report(self._text_of(native.report), self._process))
 
     def _replica_can_start(self, operation: str) -> bool:
         return self._served._replica.can_start(self._number(operation))
