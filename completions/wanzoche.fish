@@ -110,7 +110,7 @@ complete -c wanzoche -n '__wanzoche_is exec; and __wanzoche_wants operation; and
 complete -c wanzoche -n '__wanzoche_is exec; and __wanzoche_wants operation; and __wanzoche_lacks --passed' -l passed -x -d 'the operation that begins and ends behind a command that succeeded' -a '(__wanzoche_operations)'
 complete -c wanzoche -n '__wanzoche_is exec; and __wanzoche_wants operation; and __wanzoche_lacks --failed' -l failed -x -d 'the same behind one that failed: that ended with another status than 0, by a signal, or that couldn\'t be run' -a '(__wanzoche_operations)'
 complete -c wanzoche -n '__wanzoche_is exec; and __wanzoche_wants operation; and __wanzoche_lacks --quiet' -l quiet -d 'say nothing of what it waits for, nor where the operation isn\'t admitted in time'
-complete -c wanzoche -n '__wanzoche_is exec; and __wanzoche_wants operation; and __wanzoche_lacks --lost' -l lost -x -a 'finish keep' -d 'what happens to an operation in the way whose process is dead: it is finished, or kept until `recover` (finish)'
+complete -c wanzoche -n '__wanzoche_is exec; and __wanzoche_wants operation; and __wanzoche_lacks --lost' -l lost -x -a 'finish keep' -d 'what happens to an operation in the way whose process is dead: it is finished, or kept until `recover` (what a log has; finish)'
 complete -c wanzoche -n '__wanzoche_is exec; and __wanzoche_wants operation; and __wanzoche_lacks --no-sync' -l no-sync -d 'don\'t wait for the disk'
 complete -c wanzoche -n '__wanzoche_is status; and __wanzoche_lacks --help' -s h -l help -d 'show this help message and exit'
 complete -c wanzoche -n '__wanzoche_is status; and __wanzoche_lacks --store' -l store -r -F -d 'the file of the journal that the processes share, or the URL of a PostgreSQL database'

@@ -971,7 +971,7 @@ class Crashes(OnServer, unittest.TestCase):
         entries = [a.enter("read") for _ in range(20)]
         self.server.kill()
         self.server.start()
-        self.assertEqual(len(self.open(BOOK, lost="keep").report().live), 20)
+        self.assertEqual(len(self.open(BOOK).report().live), 20)
         for entry in entries:
             entry.leave()
         self.assertTrue(a.audit())
@@ -1055,8 +1055,8 @@ class Refusals(OnServer, unittest.TestCase):
     def test_another_schema(self):
         self.open(BOOK).close()
         self.server.run("update wanzoche.schema set number = 7")
-        self.addCleanup(self.server.run, "update wanzoche.schema set number = 3")
-        self.refused(StoreError, "^the schema wanzoche is number 7, and this package has 3$")
+        self.addCleanup(self.server.run, "update wanzoche.schema set number = {}".format(_log.SCHEMA))
+        self.refused(StoreError, "^the schema wanzoche is number 7, and this package has {}$".format(_log.SCHEMA))
 
     def test_a_server_that_is_not_there(self):
         with mock.patch.object(_served, "OPENING", 0.3):

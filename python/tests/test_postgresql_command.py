@@ -53,7 +53,7 @@ class Commands(OnServer, unittest.TestCase):
         self.assertEqual(self.runs("log"), (lines, "", 0))
         self.assertEqual(self.runs("audit"), ("sound\n", "", 0))
         self.assertEqual(self.runs("status"), ("startable read write\nfrozen no\n", "", 0))
-        paths = self.open(BOOK)
+        paths = self.open(BOOK, grace=None)
         with paths("write"):
             told, why, status = self.runs("exec", "--nonblock", "--conflict-status", "9", "read", "--", "echo", "hello")
             self.assertEqual((told, status), ("", 9))
@@ -70,12 +70,12 @@ class Commands(OnServer, unittest.TestCase):
 
     def test_a_command_outlives_who_runs_it(self):
         """Then its operation is in progress until it ends, too."""
-        words = self.words("exec", "--declaration", self.declaration, "write", "--", "sh", "-c", "echo ready; read line")
+        paths = self.open(BOOK)
+        words = self.words("exec", "write", "--", "sh", "-c", "echo ready; read line")
         with subprocess.Popen(words, stdin=subprocess.PIPE, stdout=subprocess.PIPE) as process:
             self.assertEqual(process.stdout.readline(), b"ready\n")
             process.kill()
             process.wait(LONGEST)
-            paths = self.open(BOOK)
             with self.assertRaises(TimeoutError):
                 paths.enter("read", timeout=4 * self.grace)
             process.stdin.close()
@@ -151,7 +151,7 @@ class Commands(OnServer, unittest.TestCase):
         asking = [subprocess.Popen(words, stdout=subprocess.PIPE, stderr=subprocess.PIPE) for _ in range(3)]
         self.assertEqual(sorted(each.communicate(timeout=LONGEST)[0] for each in asking), [b"", b"", b"ran\n"])
         self.assertEqual(sorted(each.returncode for each in asking), [0, 1, 1])
-        paths, kept = self.open(NIGHTLY), time.time_ns
+        paths, kept = self.open(NIGHTLY, grace=None), time.time_ns
         time.time_ns = lambda: 0
         self.addCleanup(setattr, time, "time_ns", kept)
         with paths("nightly") as entry:
@@ -177,10 +177,10 @@ class Commands(OnServer, unittest.TestCase):
             entry.leave()
 
     def test_recovery(self):
-        self.dies(lambda: setattr(self, "kept", self.made(BOOK).enter("write")))
-        paths = self.open(BOOK, lost="keep")
+        self.dies(lambda: setattr(self, "kept", self.made(BOOK, lost="keep").enter("write")))
+        paths = self.open(BOOK)
         self.until(lambda: paths.report().lost)
-        self.until(lambda: self.runs("recover", "1") == ("finished 1\n", "", 0))  # when the grace is over that the command gives
+        self.until(lambda: self.runs("recover", "1") == ("finished 1\n", "", 0)) 
         self.assertNotIn("lost", self.runs("status")[0])
         with paths("read"):
             worker = paths.worker.split()[-1]
@@ -294,7 +294,7 @@ class Page(OnServer, unittest.TestCase):
     def test_segments(self):
         """The texts that it takes are all lines, also of a dozen segments."""
         (language, declared), = [block for block in self.blocks if block[0] == "python"]
-        paths = self.open(re.search('"""(.*?)"""', declared, re.S).group(1))
+        paths = self.open(re.search('"""(.*?)"""', declared, re.S).group(1), grace=None)
         for _ in range(12):
             paths.enter("job").leave()
             paths.rotate()

@@ -538,7 +538,7 @@ class Removals(Faulty, unittest.TestCase):
             begun = time.monotonic()
             self.server.run(ends, 0)
             self.assertFalse(self.removes())
-            self.assertIsNone(self.open(BOOK, lost="keep").try_enter("read"))
+            self.assertIsNone(self.open(BOOK).try_enter("read"))
             self.assertFalse(self.removes())
             for paths in self.opened:
                 paths.close()
@@ -551,7 +551,7 @@ class Removals(Faulty, unittest.TestCase):
 
     def holds(self, tells, goes):
         """In a child: what it says before it leaves, and then."""
-        entry = self.made(BOOK).enter("write")
+        entry = self.made(BOOK, lost="keep").enter("write")
         os.write(tells, b"in\n")
         os.read(goes, 1)
         try:

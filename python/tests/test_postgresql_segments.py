@@ -701,7 +701,7 @@ class Inserts(Rotating, unittest.TestCase):
 class Deaths(Rotating, unittest.TestCase):
     def test_a_process_that_is_killed_while_it_moves_lines(self):
         """At random moments: while it waits for its turn, or does so, or behind it."""
-        a = self.open(BOOK, grace=60)
+        a = self.open(BOOK, room=4)
         for number in range(12):
             self.enters(a, 5)
 
@@ -867,7 +867,7 @@ class Earlier(Rotating):
         old.call(b"append", 1, 0, None, "1 start read: started 0", "{}", "{}", "{}", "{}", "f")
         old.connection.close()
         a = self.open(BOOK)
-        self.assertEqual((self.number(), a.worker), (3, "process 2"))
+        self.assertEqual((self.number(), a.worker), (_log.SCHEMA, "process 2"))
         self.enters(a, 2, "write")  # what the dead one had is finished
         self.until(lambda: self.server.run("select is_over from wanzoche.worker where worker = 1") == [(True,)])
         a.rotate()
@@ -886,7 +886,7 @@ class FromOne(Earlier, unittest.TestCase):
         old = self.old_process()
         told = old.call(b"put", 1, 0, None, "1 start read: started 0")
         a = self.open(BOOK, room=4)
-        self.assertEqual(self.number(), 3)
+        self.assertEqual(self.number(), _log.SCHEMA)
         old.call(b"append", 1, 1, told[0][0], None, "{0}", "{}", "{}", "{}", "f")
         self.enters(a, 2)
         news, final, mark = old.call(b"lines", 0, None)[0]
@@ -940,8 +940,8 @@ class FromOne(Earlier, unittest.TestCase):
             self.server.run("grant usage on schema wanzoche to {}".format(role))
             self.server.run("grant select, insert, update, delete on all tables in schema wanzoche to {}".format(role))
         url = self.server.url.replace("postgres@", "app@")
-        told = "^the schema wanzoche is number 1, and can't be brought to 3, so its owner has to run schema.sql: permission denied for"
-        with self.assertRaisesRegex(StoreError, told):
+        told = "^the schema wanzoche is number 1, and can't be brought to {}, so its owner has to run schema.sql: permission denied for"
+        with self.assertRaisesRegex(StoreError, told.format(_log.SCHEMA)):
             self.made(BOOK, store=url)
         self.open(BOOK).close()
         a = self.open(BOOK, store=url)
@@ -960,7 +960,7 @@ class FromTwo(Earlier, unittest.TestCase):
         old = self.old_process()
         old.call(b"append", 1, 0, None, "1 start read: started 0", "{}", "{}", "{}", "{}", "f")
         a = self.open(BOOK)
-        self.assertEqual(self.number(), 3)
+        self.assertEqual(self.number(), _log.SCHEMA)
         old.call(b"append", 1, 1, old.call(b"lines", 0, None)[0][2], None, "{0}", "{}", "{}", "{}", "f")
         self.moves(a)
         news, final, mark = old.call(b"lines", len(self.standing()) - 1, self.stamps()[-1])[0]
@@ -981,10 +981,10 @@ class FromTwo(Earlier, unittest.TestCase):
             script = file.read()
         for _ in range(2):
             self.server.run(script)
-            self.assertEqual(self.number(), 3)
+            self.assertEqual(self.number(), _log.SCHEMA)
             self.moves(self.open(BOOK), 2)
-        self.server.run("update wanzoche.schema set number = 4")
-        with self.assertRaisesRegex(Exception, "the schema wanzoche is number 4, and this makes 3"):
+        self.server.run("update wanzoche.schema set number = 9")
+        with self.assertRaisesRegex(Exception, "the schema wanzoche is number 9, and this makes {}".format(_log.SCHEMA)):
             self.server.run(script)
 
     def test_many_bring_it_up_at_once(self):
@@ -994,7 +994,7 @@ class FromTwo(Earlier, unittest.TestCase):
             thread.start()
         for thread in threads:
             thread.join(LONGEST)
-        self.assertEqual((len(found), self.number()), (6, 3))
+        self.assertEqual((len(found), self.number()), (6, _log.SCHEMA))
         self.moves(found[0])
         self.assertTrue(all(each.audit() for each in found))
 

@@ -5,7 +5,7 @@ from __future__ import annotations
 import os
 import signal
 import sys
-from typing import Any, List, Optional
+from typing import Any, Dict, List, Optional
 
 from . import __version__
 from ._beside import Beside
@@ -16,7 +16,7 @@ from ._options import parser
 from ._passing import make_pass
 from ._paths import Paths
 from ._reading import Reader
-from ._served import OPENING, SCHEMES
+from ._served import OPENING, SCHEMES, KeepingPaths
 from ._showing import Onlooker, json_of, lines_of
 from ._stored import StoredPaths
 from ._streams import say, take_closed_streams, write
@@ -81,9 +81,13 @@ def _opened(given: Any) -> StoredPaths:
         with Paths(text, journal=False, room=2) as alone:  # before a store is made for them
             check_words(alone, given)
     sync = not (is_run and given.no_sync)
-    named = {"name": given.name} if is_served else {}
-    paths: Any = Paths(text, store=given.store, sync=sync, lost=given.lost if is_run else "keep", **named)
-    return paths  # type: ignore[no-any-return]
+    named: Dict[str, Any] = {"name": given.name} if is_served else {}
+    if is_run:
+        named["lost"] = given.lost
+    elif not is_served:
+        named["lost"] = "keep"
+    kind: Any = KeepingPaths if is_served and not is_run else Paths
+    return kind(text, store=given.store, sync=sync, **named)  # type: ignore[no-any-return]
 
 
 def _operations(given: Any) -> int:

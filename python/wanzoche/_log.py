@@ -14,10 +14,8 @@ from ._postgresql import AGAIN, CANCELLED, HEARTBEAT, Call, Complaint, Cut, Row,
 from ._replica import ROOM, Replica
 from ._store import difference
 
-SCHEMA = 3
+SCHEMA = 4
 """The number of the schema that this package knows. It brings one of an earlier number there."""
-SEGMENT = 16384
-"""So many lines go into a segment, if nothing else is said."""
 MOST_IN_SEGMENT = native.MOST_LINES - ROOM
 """So many may: what is in progress behind them has room in a journal, too."""
 KEPT = 1000
@@ -74,7 +72,7 @@ STATEMENTS = {
     b"begin": "begin",
     b"commit": "commit",
     b"rollback": "rollback",
-    b"open": "select * from wanzoche.open($1, $2)",
+    b"open": "select * from wanzoche.open($1, $2, $3, $4, $5)",
     b"arrive": "select wanzoche.arrive($1, $2, {}, $3)".format(SCHEMA),
     b"process": "select process from wanzoche.worker where log = $1 and worker = $2",
     b"hold": "select wanzoche.hold($1, $2)",
@@ -105,6 +103,25 @@ class Moved(Exception):
     """The next line stands in a segment: nobody but `follow` reads it there."""
 
 
+class Settings(NamedTuple):
+    """What all that open a log keep to. The first writes it."""
+
+    lost: str = "finish"
+    """What becomes of what the dead have in progress."""
+    grace: float = 5.0
+    """So many seconds a process may be without a session."""
+    room: int = 16384
+    """So many lines go into a segment."""
+
+
+class Given(NamedTuple):
+    """What one gives who opens a log; None of what it leaves to the log."""
+
+    lost: Optional[str] = None
+    grace: Optional[float] = None
+    room: Optional[int] = None
+
+
 class Wishes(NamedTuple):
     """What an append does beside its lines."""
 
@@ -125,18 +142,19 @@ class Place(NamedTuple):
 class Log:
     """What one opening has of it."""
 
-    def __init__(self, url: str, name: str, source: bytes, handle: native.Handle, *, room: int, sync: bool, grace: float) -> None:
+    def __init__(self, url: str, name: str, source: bytes, handle: native.Handle, *, sync: bool, given: Given) -> None:
         self.name = name
-        self.due = room + KEPT
+        self.settings = Settings()
+        self.due = 0
         """With so many lines in the log this process calls `rotate`."""
         self.replica = Replica(source, handle)
         self.session = Session(url)
         self.place = Place()
         self.worker = 0
-        self._room = room
+        self._given = given
         self._moved = 0  # so many lines are in segments, as far as is known
         self._sync = sync
-        self._grace = b"%f seconds" % grace
+        self._grace = b""
         self._log = b""
         self._listens = False
         self._has_company = False  # whether others have appended lately
@@ -161,14 +179,31 @@ class Log:
         self.session.connect(until)
         make_schema(self.session, until)
         self._prepare(until)
-        ((number, found),) = self._call(Call(b"open", (self.name.encode(), declaration.encode())))[0]
+        wanted = [str(each).encode() for each in self._wanted()]
+        number, found, *settings = self._call(Call(b"open", (self.name.encode(), declaration.encode(), *wanted)))[0][0]
         assert number is not None and found is not None
         told = difference(found.decode(), declaration)
         if told:
             raise OtherDeclaration("the log {} is of another declaration: {}".format(self.name, told))
         self._log = number
+        self._keep_to(settings)
         self._arrive()
         self.follow()
+
+    def _wanted(self) -> Settings:
+        """What is written if nobody has opened the log yet."""
+        return Settings()._replace(**{name: given for name, given in self._given._asdict().items() if given is not None})
+
+    def _keep_to(self, settings: Row) -> None:
+        """Knows what the log has. Raises `StoreError` if this process was given something else."""
+        lost, grace, room = [each or b"" for each in settings]
+        self.settings = Settings(lost.decode(), float(grace), int(room))
+        for name, given, own in zip(Given._fields, self._given, self.settings):
+            if given is not None and given != own:
+                told = "the log {} was made with {}={!r}, and not with {}={!r}: give the same, or nothing"
+                raise StoreError(told.format(self.name, name, own, name, given))
+        self.due = self.settings.room + KEPT
+        self._grace = b"%f seconds" % self.settings.grace
 
     def come_back(self, until: float) -> bool:
         """Begins another session, after one was cut: False if the worker was taken for dead meanwhile. Then this is a new one."""
@@ -239,7 +274,7 @@ class Log:
         return Call(b"segment", (self._log, b"%d" % place))
 
     def _know_moved(self, lines: int) -> None:
-        self._moved, self.due = lines, lines + self._room + KEPT
+        self._moved, self.due = lines, lines + self.settings.room + KEPT
 
     def append(self, text: Optional[bytes], wishes: Wishes, *, before: Place, is_stepped: bool) -> Tuple[bool, Set[int]]:
         """Appends lines if their place is the next one, and finishes, and takes over what has come: whether the lines are in the log, and
@@ -454,16 +489,16 @@ class Log:
     def rotate(self) -> None:
         """Moves the lines of a segment, if nobody else has. If it can't be done now, it is tried again so many lines later."""
         try:
-            self._move(self._room)
+            self._move(self.settings.room)
         except CorruptStore:
             raise
         except StoreError:
-            self.due = self.place.lines + self._room
+            self.due = self.place.lines + self.settings.room
 
     def rotate_all(self) -> None:
         """Moves all lines that are known but the last. Raises `StoreError` if that can't be done now."""
         while self._moved < self.place.lines - 1:
-            self._move(min(self._room, self.place.lines - 1 - self._moved))
+            self._move(min(self.settings.room, self.place.lines - 1 - self._moved))
 
     def _move(self, lines: int) -> None:
         """Moves so many lines to a segment, if they are the next to move; knows then what others have moved."""

@@ -93,8 +93,8 @@ def _add_exec(run: argparse.ArgumentParser) -> None:
     run.add_argument("--failed", metavar="OPERATION", help=told)
     told = "say nothing of what it waits for, nor where the operation isn't admitted in time"
     run.add_argument("--quiet", action="store_true", help=told)
-    told = "what happens to an operation in the way whose process is dead: it is finished, or kept until `recover` (%(default)s)"
-    run.add_argument("--lost", choices=["finish", "keep"], default="finish", metavar="finish|keep", help=told)
+    told = "what happens to an operation in the way whose process is dead: it is finished, or kept until `recover` (what a log has; finish)"
+    run.add_argument("--lost", choices=["finish", "keep"], metavar="finish|keep", help=told)
     run.add_argument("--no-sync", action="store_true", help="don't wait for the disk")
     run.add_argument("operation", metavar="OPERATION", help="the operation; options stand before it")
     run.add_argument("run", nargs=argparse.REMAINDER, metavar="-- COMMAND ..", help="the command with its words")

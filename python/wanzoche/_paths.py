@@ -121,7 +121,7 @@ class Paths(System):
         resume: Union[None, str, bytes] = None,
         store: Union[None, str, "os.PathLike[str]"] = None,
         sync: bool = True,
-        lost: str = "finish",
+        lost: Optional[str] = None,
         name: Optional[str] = None,
         grace: Optional[float] = None,
         patience: Optional[float] = None,

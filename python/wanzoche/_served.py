@@ -16,7 +16,7 @@ from ._attempts import InUse, admitted, in_use
 from ._clerk import Clerk
 from ._entries import AsyncEntry, Entry
 from ._errors import Blocked, Closed, Lost, StoreError, Timeout
-from ._log import MOST_IN_SEGMENT, SEGMENT, Log, may_pass
+from ._log import MOST_IN_SEGMENT, Given, Log, may_pass
 from ._postgresql import Cut, Denied
 from ._requests import Finish, Question, Request, Start, Use, wake_nobody
 from ._store import Store
@@ -26,7 +26,6 @@ from ._waiting import Queues
 
 OPENING = 10.0
 """So many seconds an opening tries to reach the server."""
-GRACE = 5.0
 PATIENCE = 30.0
 SCHEMES = ("postgresql://", "postgres://")
 T = TypeVar("T")
@@ -48,15 +47,15 @@ class ServedStore:
         handle: native.Handle,
         *,
         name: str,
-        room: int,
         sync: bool,
-        finishes_lost: bool,
-        grace: float,
+        given: Given,
+        may_finish: bool,
         patience: float,
     ) -> None:
-        self._log = Log(url, name, source, handle, room=room, sync=sync, grace=grace)
+        """With `may_finish` it finishes what the dead have in progress if the log says so."""
+        self._log = Log(url, name, source, handle, sync=sync, given=given)
         self._replica = self._log.replica
-        self._finishes_lost, self._patience = finishes_lost, patience
+        self._may_finish, self._patience = may_finish, patience
         self._is_closed = False
         self.clerk: Clerk
 
@@ -72,7 +71,8 @@ class ServedStore:
             self._replica.close()
             raise
         numbers, paths = read_declaration(self._replica.declaration())
-        self.clerk = Clerk(self._log, paths, numbers, self._finishes_lost, self._patience)
+        finishes_lost = self._may_finish and self._log.settings.lost == "finish"
+        self.clerk = Clerk(self._log, paths, numbers, finishes_lost, self._patience)
         self.clerk.thread.start()
         return answer
 
@@ -535,19 +535,31 @@ class ServedPaths(StoredPaths):
     """Paths over a log in PostgreSQL: what `Paths(text, store="postgresql://..", name=..)` makes. See `Paths`."""
 
     _served: ServedStore
-    _usual_room = SEGMENT
+    _may_finish = True
+    """Whether what the dead have in progress is finished, if the log says so."""
 
-    def _new_store(self, store: Any, source: bytes, handle: native.Handle, other: Dict[str, Any], **options: Any) -> Store:
+    def _new_store(
+        self,
+        store: Any,
+        source: bytes,
+        handle: native.Handle,
+        other: Dict[str, Any],
+        *,
+        room: Optional[int],
+        sync: bool,
+        lost: Optional[str],
+    ) -> Store:
         name, grace, patience = other.pop("name", None), other.pop("grace", None), other.pop("patience", None)
-        if not isinstance(name, str) or not name:
+        if not isinstance(name, str) or not name or "\0" in name:
             raise ValueError('a store in PostgreSQL needs the log\'s name: `name="pool"`')
-        if options["room"] > MOST_IN_SEGMENT:
-            raise ValueError("the room of a log in PostgreSQL is 1 to {:,} lines, not {:,}".format(MOST_IN_SEGMENT, options["room"]))
-        self._grace = GRACE if grace is None else float(grace)
-        self._patience = PATIENCE if patience is None else float(patience)
-        if not (self._grace >= 0 and self._patience >= 0):
+        if room is not None and room > MOST_IN_SEGMENT:
+            raise ValueError("the room of a log in PostgreSQL is 1 to {:,} lines, not {:,}".format(MOST_IN_SEGMENT, room))
+        given = Given(lost, None if grace is None else float(grace), room)
+        seconds = PATIENCE if patience is None else float(patience)
+        if not (0 <= (given.grace or 0.0) < float("inf") and seconds >= 0):
             raise ValueError("`grace` and `patience` are seconds, not {} and {}".format(grace, patience))
-        self._served = ServedStore(str(store), source, handle, name=name, grace=self._grace, patience=self._patience, **options)
+        may_finish = self._may_finish
+        self._served = ServedStore(str(store), source, handle, name=name, sync=sync, given=given, may_finish=may_finish, patience=seconds)
         return cast(Store, self._served)  # it has the calls that paths make
 
     def __call__(self, operation: str, timeout: Optional[float] = None, priority: int = 0) -> Entry:
@@ -577,3 +589,9 @@ class ServedPaths(StoredPaths):
 
     def _replica_can_start(self, operation: str) -> bool:
         return self._served._replica.can_start(self._number(operation))
+
+
+class KeepingPaths(ServedPaths):
+    """The same for commands that finish nothing by themselves, whatever the log says."""
+
+    _may_finish = False

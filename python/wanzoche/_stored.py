@@ -456,7 +456,6 @@ class Follower(threading.Thread):
 class StoredPaths(Paths):
     """Paths over a store: what `Paths(text, store=..)` makes. See `Paths`."""
 
-    _usual_room = native.MOST_LINES
     _looks = False
 
     def __init__(
@@ -465,21 +464,20 @@ class StoredPaths(Paths):
         *,
         store: Any,
         sync: bool = True,
-        lost: str = "finish",
+        lost: Optional[str] = None,
         room: Optional[int] = None,
         **other: Any,
     ) -> None:
-        room = self._usual_room if room is None else room
         if other.pop("log", None) is not None or not other.pop("journal", True) or other.pop("resume", None) is not None:
             raise ValueError("a store is the journal itself: it takes no `log`, no `journal` and no `resume`")
-        if lost not in ("finish", "keep"):
+        if lost not in (None, "finish", "keep"):
             raise ValueError("`lost` is 'finish' or 'keep', not {!r}".format(lost))
-        source = self._source_of(text, room)
+        source = self._source_of(text, native.MOST_LINES if room is None else room)
         if patched_by() is not None:
             told = "{} has put greenlets in the place of threads, and over a store who waits holds up all of them: docs/shared.md has what helps"
             warnings.warn(told.format(patched_by()), RuntimeWarning, frames_of_package())
         handle = native.Handle()
-        opened = self._new_store(store, source, handle, other, room=room, sync=sync, finishes_lost=lost == "finish")
+        opened = self._new_store(store, source, handle, other, room=room, sync=sync, lost=lost)
         self._store = opened
         if other:
             raise TypeError("Paths has no {}".format(", ".join(other)))
@@ -498,9 +496,20 @@ class StoredPaths(Paths):
         self._finalizer = weakref.finalize(self, opened.end)
         self._finalizer.atexit = False
 
-    def _new_store(self, store: Any, source: bytes, handle: native.Handle, other: Dict[str, Any], **options: Any) -> Store:
-        """The store, not yet open. It takes what it knows of the other options."""
-        return Store(store, source, handle, **options)
+    def _new_store(
+        self,
+        store: Any,
+        source: bytes,
+        handle: native.Handle,
+        other: Dict[str, Any],
+        *,
+        room: Optional[int],
+        sync: bool,
+        lost: Optional[str],
+    ) -> Store:
+        """The store, not yet open. It takes what it knows of the other options. None is what wasn't given."""
+        most = native.MOST_LINES if room is None else room
+        return Store(store, source, handle, room=most, sync=sync, finishes_lost=lost != "keep")
 
     def __call__(self, operation: str, timeout: Optional[float] = None, priority: int = 0) -> Entry:
         return StoredEntry(self, operation, without_order(timeout, priority))

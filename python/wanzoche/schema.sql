@@ -42,19 +42,26 @@ do $$ begin
     if not exists (select from pg_namespace where nspname = 'wanzoche') then
         create schema wanzoche;
         create table wanzoche.schema (number int not null);
-        insert into wanzoche.schema values (3);
-    elsif (select number from wanzoche.schema) > 3 then
-        raise exception 'the schema wanzoche is number %, and this makes 3', (select number from wanzoche.schema);
+        insert into wanzoche.schema values (4);
+    elsif (select number from wanzoche.schema) > 4 then
+        raise exception 'the schema wanzoche is number %, and this makes 4', (select number from wanzoche.schema);
     end if;
-    update wanzoche.schema set number = 3;
+    update wanzoche.schema set number = 4;
 end $$;
 
 create table if not exists wanzoche.log (
     log int generated always as identity primary key check (log < 1048576),
     name text not null unique,
     declaration text not null,
-    workers int not null default 0 check (workers < 268435456)  -- the last number that was given
+    workers int not null default 0 check (workers < 268435456),  -- the last number that was given
+    -- What whoever opens the log keeps to. Null until somebody has opened it whose package knows these.
+    lost text check (lost in ('finish', 'keep')),  -- what becomes of what a dead worker has in progress
+    grace float8 check (grace >= 0),  -- so many seconds a worker may be without a session
+    room int check (room > 0)  -- so many lines go into a segment
 );
+alter table wanzoche.log add column if not exists lost text check (lost in ('finish', 'keep'));
+alter table wanzoche.log add column if not exists grace float8 check (grace >= 0);
+alter table wanzoche.log add column if not exists room int check (room > 0);
 
 create table if not exists wanzoche.line (
     log int not null,
@@ -116,6 +123,7 @@ do $$ declare x record; begin
 end $$;
 
 -- Of earlier numbers, with fewer parameters: who calls them so gets those below.
+drop function if exists wanzoche.open(text, text);
 drop function if exists wanzoche.arrive(int, text);
 drop function if exists wanzoche.arrive(int, text, int);
 drop function if exists wanzoche.bury(int, int, int, bigint[], int[], interval, boolean);
@@ -123,19 +131,21 @@ drop function if exists wanzoche.bury(int, int, int, bigint[], int[], interval, 
 create or replace function wanzoche.key(l int, w int) returns bigint language sql immutable
 return (22391::bigint << 48) | (l::bigint << 28) | w;
 
--- The log of this name, which is made if there is none and a declaration is given; its declaration is returned.
-create or replace function wanzoche.open(called text, declared text, out l int, out declaration text)
+-- The log of this name, which is made if there is none. What it has is returned: what was given is written if it has nothing yet.
+create or replace function wanzoche.open(called text, declared text, wanted_lost text, wanted_grace float8, wanted_room int,
+    out l int, out declaration text, out lost text, out grace float8, out room int)
 language plpgsql set search_path = pg_catalog, pg_temp as $$
 begin
-    select x.log, x.declaration into l, declaration from wanzoche.log x where x.name = called;
-    if l is null and declared is not null then
-        perform pg_advisory_xact_lock(wanzoche.key(0, 0));
-        select x.log, x.declaration into l, declaration from wanzoche.log x where x.name = called;
-        if l is null then
-            insert into wanzoche.log (name, declaration) values (called, declared) returning log into l;
-            declaration := declared;
+    for attempt in 1..2 loop
+        select x.log, x.declaration, x.lost, x.grace, x.room into l, declaration, lost, grace, room from wanzoche.log x
+            where x.name = called;
+        if attempt = 2 or lost is not null or declaration <> declared then
+            return;
         end if;
-    end if;
+        insert into wanzoche.log as x (name, declaration, lost, grace, room)
+            values (called, declared, wanted_lost, wanted_grace, wanted_room)
+            on conflict (name) do update set lost = excluded.lost, grace = excluded.grace, room = excluded.room where x.lost is null;
+    end loop;
 end $$;
 
 -- A new worker, whose lock the session has, and whose package knows the schema of this number. Null if the log was removed.
