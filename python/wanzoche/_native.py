@@ -44,12 +44,6 @@ class Activation(ctypes.Structure):
     operation: int
 
 
-class Waiting(ctypes.Structure):
-    """One who waits for a start: a `wanzoche_waiter`."""
-
-    _fields_ = [("operation", c_uint32), ("priority", c_uint32), ("arrived", c_uint64), ("shut_at", c_uint64)]
-
-
 class Taken(ctypes.Structure):
     """How much of a journal's text was taken over: a `wanzoche_taken`."""
 

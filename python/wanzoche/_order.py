@@ -8,9 +8,10 @@ from __future__ import annotations
 
 import ctypes
 import itertools
+import struct
 import time
 from collections import OrderedDict
-from typing import TYPE_CHECKING, Dict, List, Optional, Tuple
+from typing import TYPE_CHECKING, Dict, Iterator, List, Optional, Tuple
 
 from . import _native as native
 from ._form import core
@@ -19,6 +20,9 @@ SHUT = 200_000_000
 """For so many nanoseconds the door of one who waits stays shut. Then it opens for those who came meanwhile."""
 NEVER = 2**64 - 1
 """The patience of a line where nothing is ever withheld."""
+
+_WAITER, _ACTIVATION = struct.Struct("IIQQ"), struct.Struct("QII")
+"""As a `wanzoche_waiter` and a `wanzoche_activation` lie in memory."""
 
 Told = Tuple[int, int, int, float]
 """Of one who waits: the operation, the worker, the priority, and for how many seconds it has waited."""
@@ -108,7 +112,7 @@ class Line:
 
     def holds(self, worker: int) -> bool:
         """Whether this worker has something in progress."""
-        return any(each.worker == worker for each in self._live())
+        return any(each == worker for _, each, _ in self._live())
 
     def ahead_of(self, op: int, priority: int, worker: int) -> Optional[Told]:
         """For whom the start of an operation is withheld of a worker who comes now with a priority; None if it isn't."""
@@ -125,12 +129,12 @@ class Line:
 
     def ruling(self, asker: Place, now: int) -> Tuple[int, Optional[Place]]:
         """What a start would be answered now, and for whom it is withheld if it is."""
-        ahead = self._ahead(asker)
+        ahead = self._ahead(asker) if self.withholds() else []
         if any(self._shut_at(each, now) < asker.arrived for each in ahead):
-            waiting = (native.Waiting * len(ahead))(*[native.Waiting(it.op, it.priority, it.arrived, self._shut_at(it, now)) for it in ahead])
-            resting = {asker.worker, *(each.worker for each in list(self.places))}
-            running = [each.operation for each in self._live() if each.worker not in resting]
-            given = waiting, len(ahead), (ctypes.c_uint32 * len(running))(*running), len(running)
+            waiting = b"".join([_WAITER.pack(it.op, it.priority, it.arrived, self._shut_at(it, now)) for it in ahead])
+            resting = {asker.worker, *[each.worker for each in list(self.places)]}
+            running = [op for _, worker, op in self._live() if worker not in resting]
+            given = waiting, len(ahead), struct.pack("{}I".format(len(running)), *running), len(running)
             answer = native.may_start(self._at, asker.op, asker.priority, asker.arrived, *given)
             if answer.code != native.OUT_OF_MEMORY:  # else nothing is withheld
                 return answer.code, ahead[answer.number] if answer.code == native.WITHHELD else None
@@ -150,14 +154,14 @@ class Line:
         key = asker.key()
         return sorted((each for each in firsts.values() if each.key() < key), key=Place.key)
 
-    def _live(self) -> List[native.Activation]:
-        """What is in progress."""
+    def _live(self) -> Iterator[Tuple[int, ...]]:
+        """What is in progress: of each the number, the worker and the operation."""
         room = native.live(self._at)
         while True:
-            listed = (native.Activation * room)()
-            count = native.list_live(self._at, listed, room)
+            listed = bytearray(room * _ACTIVATION.size)
+            count = native.list_live(self._at, (ctypes.c_char * len(listed)).from_buffer(listed) if listed else None, room)
             if count <= room:
-                return list(listed[:count])
+                return _ACTIVATION.iter_unpack(bytes(listed[: count * _ACTIVATION.size]))
             room = count
 
     def _times_shut(self, place: Place, now: int) -> int:
