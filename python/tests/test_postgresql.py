@@ -824,7 +824,7 @@ class Outages(OnServer, unittest.TestCase):
 
     def test_a_server_that_is_away(self):
         """Whoever asks is told after some time, and what is in progress stays so."""
-        a = self.open(BOOK, store=self.through, patience=0.5, grace=60)
+        a = self.open(BOOK, store=self.through, outage=0.5, grace=60)
         entry = a.enter("write")
         self.proxy.is_open = False
         self.proxy.cut()

@@ -322,7 +322,7 @@ class Rights(Faulty, unittest.TestCase):
         self.addCleanup(self.server.run, "drop owned by app; drop role app")
         self.server.run("grant usage on schema wanzoche to app")
         self.server.run("grant select, insert, update, delete on all tables in schema wanzoche to app")
-        self.a = self.open(BOOK, store=self.server.url.replace("postgres@", "app@"), patience=4 * LONGEST)
+        self.a = self.open(BOOK, store=self.server.url.replace("postgres@", "app@"), outage=4 * LONGEST)
 
     def test_a_call_behind_the_line(self):
         """The line is there, and what is called behind it is refused: nobody holds what was started."""
@@ -413,10 +413,10 @@ class Odd(Faulty, unittest.TestCase):
 @needs_server
 class Dropped(Faulty, unittest.TestCase):
     def test_what_nobody_leaves_is_left_later(self):
-        """Also when the server was away for longer than the patience."""
+        """Also when the server was away for longer than an outage may last."""
         proxy = Cutting(self.server.port)
         self.addCleanup(proxy.close)
-        a, b = self.open(BOOK, store=self.server.tcp_url(port=proxy.port), patience=0.3, grace=60), self.open(BOOK, grace=60)
+        a, b = self.open(BOOK, store=self.server.tcp_url(port=proxy.port), outage=0.3, grace=60), self.open(BOOK, grace=60)
         entry = a.enter("write")
         proxy.is_open = False
         proxy.cut()

@@ -24,7 +24,7 @@ SILENT = "^the log .*: the server doesn't answer"
 class Held(OnServer):
     """Paths over a link that can be held."""
 
-    patience = NEVER
+    outage = NEVER
 
     def setUp(self):
         super().setUp()
@@ -36,7 +36,7 @@ class Held(OnServer):
         self.addCleanup(self.proxy.close)
         libpq = {**_postgresql.FOR_LIBPQ, "tcp_user_timeout": str(1000 * LONGEST), "keepalives": "0"}
         with mock.patch.object(_postgresql, "FOR_LIBPQ", libpq):
-            self.a = self.open(BOOK, store=self.server.tcp_url(port=self.proxy.port), patience=self.patience)
+            self.a = self.open(BOOK, store=self.server.tcp_url(port=self.proxy.port), outage=self.outage)
         self.b = self.open(BOOK)
         self.addCleanup(self.proxy.release)
 
@@ -83,7 +83,7 @@ class Held(OnServer):
 
 @needs_server
 class OwnLimits(Held, unittest.TestCase):
-    """Of the call itself, where the patience is long."""
+    """Of the call itself, where an outage may last long."""
 
     def test_a_start(self):
         for _ in range(3):
@@ -195,10 +195,10 @@ class OwnLimits(Held, unittest.TestCase):
 
 
 @needs_server
-class Patience(Held, unittest.TestCase):
+class Outages(Held, unittest.TestCase):
     """Of the paths, where a call has no limit of its own."""
 
-    patience = LIMIT
+    outage = LIMIT
 
     def test_each_call(self):
         entry = self.a.enter("write")

@@ -82,7 +82,7 @@ class Round(witness.Round):
 
     def open(self, url=None):
         """Opens the log, at a server or beside it."""
-        return Paths(self.text, store=url or self.url, name=self.name, grace=self.grace, patience=LONGEST, sync=self.sync, room=self.room)
+        return Paths(self.text, store=url or self.url, name=self.name, grace=self.grace, outage=LONGEST, sync=self.sync, room=self.room)
 
     def again(self):
         return self.open(self.server.url)

@@ -103,7 +103,7 @@ class Partitions(unittest.TestCase):
         self.name = new_name()
 
     def made(self, network):
-        return Paths(BOOK, store=self.server.tcp_url(network.here), name=self.name, grace=20.0, patience=LONGEST)
+        return Paths(BOOK, store=self.server.tcp_url(network.here), name=self.name, grace=20.0, outage=LONGEST)
 
     def first(self):
         """Holds a write while its link is cut for a moment, and then for long."""

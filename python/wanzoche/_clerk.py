@@ -64,7 +64,7 @@ class Clerk:
     """Works until it is told to end, or until a line of the log isn't owed. What else goes wrong is told to those who wanted it, and it goes
     on. All but `submit`, `do`, `ring` and `end` is for who is at the desk."""
 
-    def __init__(self, log: Log, paths: Sequence[Path], numbers: Dict[str, int], finishes_lost: bool, patience: float) -> None:
+    def __init__(self, log: Log, paths: Sequence[Path], numbers: Dict[str, int], finishes_lost: bool, outage: float) -> None:
         self.log = log
         self.held: Dict[int, Held] = {}
         self.fault: Optional[BaseException] = None
@@ -79,7 +79,7 @@ class Clerk:
         self._names = {op: name.encode() for name, op in numbers.items()}
         self._ops = {b"%d" % op: op for op in numbers.values()}  # as a notification says them
         self._rivals = _rivals(paths, numbers)
-        self._finishes_lost, self._patience = finishes_lost, patience
+        self._finishes_lost, self._longest_outage = finishes_lost, outage
         self._inbox: Deque[Request] = deque()
         self._bell = Bell()
         self._desk = threading.RLock()
@@ -181,11 +181,11 @@ class Clerk:
 
     def ends_at(self, request: Request) -> float:
         """By the monotonic clock, when nobody waits any longer for a reply: at the request's own limit, or when the server has been silent
-        for the patience. While it isn't silent, that is when to ask again."""
+        for as long as an outage may last. While it isn't silent, that is when to ask again."""
         asked_at = self.log.session.asked_at
         silent = asked_at if self._away_since is None else self._away_since
         ends = time.monotonic() if silent is None else max(request.since, silent)
-        return min(ends + self._patience, float("inf") if request.until is None else request.until)
+        return min(ends + self._longest_outage, float("inf") if request.until is None else request.until)
 
     def give_up(self, request: Request) -> bool:
         """Replies that the server doesn't answer. False if there is another reply, or will be in a moment."""
@@ -869,7 +869,7 @@ class Clerk:
     # When the session was cut
 
     def _come_back(self, error: BaseException) -> None:
-        """Begins another session, however often that takes. Requests that are older than the patience fail."""
+        """Begins another session, however often that takes. Requests that are older than an outage may last fail."""
         outage = Outage()
         is_same: Optional[bool] = None
         self._away_since = outage.begun
@@ -881,7 +881,7 @@ class Clerk:
             if self._ends and time.monotonic() > self.log.session.ends_by:
                 raise self._outage and self._outage.error or self.away
             try:
-                is_same = self.log.come_back(time.monotonic() + min(CONNECTING, self._patience))
+                is_same = self.log.come_back(time.monotonic() + min(CONNECTING, self._longest_outage))
             except (Cut, StoreError) as told:
                 self.log.session.close()
                 if self.log.is_removed:
@@ -911,7 +911,7 @@ class Clerk:
 
     def _fail_old(self, begun: float) -> None:
         """In an outage since then: replies to those who have waited long enough."""
-        before = time.monotonic() - self._patience
+        before = time.monotonic() - self._longest_outage
         flight = self._flight
         if flight is not None:
             for request, _ in flight.lines:

@@ -92,7 +92,7 @@ class Paths(System):
     Raises `JournalError`, which names the line, if a reply isn't owed or the text isn't a journal, and `OutOfRoom`.
 
     With `store` all processes share the paths that open it: a file, or a URL of PostgreSQL with the log's `name`. docs/shared.md and
-    docs/machines.md say what `sync`, `lost`, `grace` and its `patience` are.
+    docs/machines.md say what `sync`, `lost`, `grace` and `outage` are.
 
     All methods may be called by any thread, by a signal handler and by a finalizer. Raises `DeclarationError` if the text isn't a
     declaration, and `ValueError` for a bad room, a bad patience or for a log without a journal.
@@ -124,12 +124,13 @@ class Paths(System):
         lost: Optional[str] = None,
         name: Optional[str] = None,
         grace: Optional[float] = None,
+        outage: Optional[float] = None,
         patience: Optional[float] = None,
     ) -> None:
         if store is not None:
             raise TypeError("a subclass of Paths has no store: derive it from StoredPaths")
-        if (name, grace) != (None, None):
-            raise TypeError("`name` and `grace` are of a store in PostgreSQL")
+        if (name, grace, outage) != (None, None, None):
+            raise TypeError("`name`, `grace` and `outage` are of a store in PostgreSQL")
         if patience is not None:
             self._wait = _nanoseconds_of(patience)
         room = 65536 if room is None else room

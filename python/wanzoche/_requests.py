@@ -27,7 +27,7 @@ class Request:
         self.wake = wake
         self.since = time.monotonic()
         self.until: Optional[float] = None
-        """When nobody waits for the reply any more, by the monotonic clock; None if only the patience ends that."""
+        """When nobody waits for the reply any more, by the monotonic clock; None if only an outage ends that."""
         self.code: Optional[int] = None
         self.error: Optional[BaseException] = None
         self._claims = [True]  # who takes it out replies: that is one step of the interpreter

@@ -26,7 +26,7 @@ from ._waiting import Queues
 
 OPENING = 10.0
 """So many seconds an opening tries to reach the server."""
-PATIENCE = 30.0
+OUTAGE = 30.0
 SCHEMES = ("postgresql://", "postgres://")
 T = TypeVar("T")
 
@@ -50,12 +50,12 @@ class ServedStore:
         sync: bool,
         given: Given,
         may_finish: bool,
-        patience: float,
+        outage: float,
     ) -> None:
         """With `may_finish` it finishes what the dead have in progress if the log says so."""
         self._log = Log(url, name, source, handle, sync=sync, given=given)
         self._replica = self._log.replica
-        self._may_finish, self._patience = may_finish, patience
+        self._may_finish, self._outage = may_finish, outage
         self._is_closed = False
         self.clerk: Clerk
 
@@ -72,7 +72,7 @@ class ServedStore:
             raise
         numbers, paths = read_declaration(self._replica.declaration())
         finishes_lost = self._may_finish and self._log.settings.lost == "finish"
-        self.clerk = Clerk(self._log, paths, numbers, finishes_lost, self._patience)
+        self.clerk = Clerk(self._log, paths, numbers, finishes_lost, self._outage)
         self.clerk.thread.start()
         return answer
 
@@ -376,7 +376,7 @@ def new_start(begun: ServedBegun, worker: int, wake: Callable[[], None], until: 
 
 
 def _ends(begun: ServedBegun, until: Optional[float]) -> Optional[float]:
-    """When nobody waits any longer for the server; None if only the patience says so, as where the turn isn't waited for."""
+    """When nobody waits any longer for the server; None if only the outage says so, as where the turn isn't waited for."""
     return until + _clerk.SPARE if begun._timeout and until is not None else None
 
 
@@ -549,17 +549,17 @@ class ServedPaths(StoredPaths):
         sync: bool,
         lost: Optional[str],
     ) -> Store:
-        name, grace, patience = other.pop("name", None), other.pop("grace", None), other.pop("patience", None)
+        name, grace, outage = other.pop("name", None), other.pop("grace", None), other.pop("outage", None)
         if not isinstance(name, str) or not name or "\0" in name:
             raise ValueError('a store in PostgreSQL needs the log\'s name: `name="pool"`')
         if room is not None and room > MOST_IN_SEGMENT:
             raise ValueError("the room of a log in PostgreSQL is 1 to {:,} lines, not {:,}".format(MOST_IN_SEGMENT, room))
         given = Given(lost, None if grace is None else float(grace), room)
-        seconds = PATIENCE if patience is None else float(patience)
+        seconds = OUTAGE if outage is None else float(outage)
         if not (0 <= (given.grace or 0.0) < float("inf") and seconds >= 0):
-            raise ValueError("`grace` and `patience` are seconds, not {} and {}".format(grace, patience))
+            raise ValueError("`grace` and `outage` are seconds, not {} and {}".format(grace, outage))
         may_finish = self._may_finish
-        self._served = ServedStore(str(store), source, handle, name=name, sync=sync, given=given, may_finish=may_finish, patience=seconds)
+        self._served = ServedStore(str(store), source, handle, name=name, sync=sync, given=given, may_finish=may_finish, outage=seconds)
         return cast(Store, self._served)  # it has the calls that paths make
 
     def __call__(self, operation: str, timeout: Optional[float] = None, priority: int = 0) -> Entry:

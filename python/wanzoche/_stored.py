@@ -470,6 +470,9 @@ class StoredPaths(Paths):
     ) -> None:
         if other.pop("log", None) is not None or not other.pop("journal", True) or other.pop("resume", None) is not None:
             raise ValueError("a store is the journal itself: it takes no `log`, no `journal` and no `resume`")
+        if other.pop("patience", None) is not None:
+            told = "over a store nobody stands in order, so there is no patience; how long a silent PostgreSQL server is waited for says `outage`"
+            raise TypeError(told)
         if lost not in (None, "finish", "keep"):
             raise ValueError("`lost` is 'finish' or 'keep', not {!r}".format(lost))
         source = self._source_of(text, native.MOST_LINES if room is None else room)
