@@ -77,7 +77,7 @@ $(work)/memory.o: dist/system.c
 	@mkdir -p $(@D)
 	$(CC) $(c_flags) -DLIBRARY -c $< -o $@
 
-$(work)/names.o: c/wanzoche.c include/wanzoche.h
+$(work)/names.o: c/wanzoche.c include/wanzoche.h include/wanzoche_store.h
 	@mkdir -p $(@D)
 	$(CC) $(c_flags) -c $< -o $@
 
@@ -85,20 +85,26 @@ $(program): $(work)/pathsys.o $(work)/system.o
 	@mkdir -p $(@D)
 	$(CC) $(CFLAGS) $(LDFLAGS) $(static) -Wl,--gc-sections $(wrap) $^ -lpthread -o $@
 
-# One object of three, of which only the names of wanzoche.h stay.
+$(work)/store/%.o: c/store/%.c $(wildcard c/store/*.h) include/wanzoche.h include/wanzoche_store.h
+	@mkdir -p $(@D)
+	$(CC) $(c_flags) -D_GNU_SOURCE -pthread -c $< -o $@
+
+# One object of three, of which only the names of wanzoche.h stay; and one of the store, which only programs with a store get.
 $(work)/wanzoche.o: $(work)/path_c.o $(work)/memory.o $(work)/names.o
+$(work)/store.o: $(patsubst c/store/%.c,$(work)/store/%.o,$(wildcard c/store/*.c))
+$(work)/wanzoche.o $(work)/store.o:
 	$(CC) -nostdlib -r -o $@ $^
 	$(OBJCOPY) --wildcard --keep-global-symbol='wanzoche_*' $@
 
-$(static_library): $(work)/wanzoche.o
+$(static_library): $(work)/wanzoche.o $(work)/store.o
 	@mkdir -p $(@D)
 	rm -f $@
-	$(AR) rcsD $@ $<
+	$(AR) rcsD $@ $^
 
-$(shared_library): $(work)/wanzoche.o
+$(shared_library): $(work)/wanzoche.o $(work)/store.o
 	@mkdir -p $(@D)
 	echo '{ global: wanzoche_*; local: *; };' > $(work)/shown
-	$(CC) $(CFLAGS) $(LDFLAGS) -shared -Wl,-z,defs -Wl,--gc-sections -Wl,-soname,$(@F) -Wl,--version-script=$(work)/shown $< -o $@
+	$(CC) $(CFLAGS) $(LDFLAGS) -shared -Wl,-z,defs -Wl,--gc-sections -Wl,-soname,$(@F) -Wl,--version-script=$(work)/shown $^ -lpthread -o $@
 
 # Only the part of Python's interface that is stable from 3.8 on.
 $(core): python/wanzoche/_core.c python/wanzoche/_order.c python/wanzoche/_order.h include/wanzoche.h

@@ -11,6 +11,7 @@
 ** and the words of codes.
 */
 #include "wanzoche.h"
+#include "wanzoche_store.h"
 
 #if defined(__STDC_VERSION__) && __STDC_VERSION__ >= 201112L
 _Static_assert(sizeof(wanzoche) == 2 * sizeof(void *), "a pointer and a bool");
@@ -386,6 +387,18 @@ const char *wanzoche_words(uint32_t code) {
     case WANZOCHE_WITHHELD: return "withheld";
     case WANZOCHE_NEXT: return "next";
     case WANZOCHE_NOBODY: return "nobody";
+    case WANZOCHE_LATE: return "late";
+    case WANZOCHE_OWED: return "owed";
+    case WANZOCHE_SYSTEM: return "refused by the system";
+    case WANZOCHE_IN_USE: return "in use";
+    case WANZOCHE_OTHER_DECLARATION: return "other declaration";
+    case WANZOCHE_NOT_A_STORE: return "not a store";
+    case WANZOCHE_CORRUPT: return "corrupt";
+    case WANZOCHE_UNSYNCED: return "unsynced";
+    case WANZOCHE_FORKED: return "forked";
+    case WANZOCHE_ALIVE: return "alive";
+    case WANZOCHE_RECOVERED: return "recovered";
+    case WANZOCHE_COUNTED: return "counted";
     default: return "no such code";
     }
 }
