@@ -200,8 +200,10 @@ wanzoche_answer wanzoche_store_open(wanzoche_store **store, const char *file, co
     if (s == NULL) return (wanzoche_answer){WANZOCHE_OUT_OF_MEMORY, 0};
     pthread_setcancelstate(PTHREAD_CANCEL_DISABLE, &cancel);
     s->folder = s->beside = -1;
-    if (open_all(s, file, text, length, options, deadline(limit))) *store = s;
-    else {
+    if (open_all(s, file, text, length, options, deadline(limit))) {
+        s->message[0] = 0;
+        *store = s;
+    } else {
         answer = s->trouble;
         if (message != NULL && size > 0) snprintf(message, size, "%s", s->message);
         take_apart(s);

@@ -92,10 +92,17 @@ static inline const char *report(wanzoche_store *s) {
     return text;
 }
 
+/* All lines, which the caller frees, with room for those that come meanwhile. */
 static inline char *journal(wanzoche_store *s) {
-    wanzoche_answer a = wanzoche_store_journal(s, NULL, 0, LONGEST);
-    char *text = malloc((size_t)a.number + 1);
-    if (text == NULL || wanzoche_store_journal(s, text, (size_t)a.number + 1, LONGEST).code != WANZOCHE_WRITTEN) exit(7);
+    wanzoche_answer a = {WANZOCHE_TOO_SMALL, 0};
+    char *text = NULL;
+    while (a.code == WANZOCHE_TOO_SMALL) {
+        size_t size = (size_t)a.number + 1000;
+        free(text);
+        text = malloc(size);
+        a = wanzoche_store_journal(s, text, size, LONGEST);
+    }
+    if (a.code != WANZOCHE_WRITTEN) exit(7);
     return text;
 }
 

@@ -128,20 +128,29 @@ static void in_use(void) {
     CHECK(code_of(file) == WANZOCHE_OPENED);
 }
 
-/* No stream of this process is a file of the store, whichever is closed; and no program that it runs gets one. */
-static void streams(void) {
+/* No program that this process runs gets a file of the store. */
+static void programs(void) {
     char command[200], text[16] = "";
     int f;
-    if (freopen("/dev/null", "r", stdin) == NULL || close(0) != 0 || close(1) != 0 || close(2) != 0) exit(7);
     begin_anew();
     mine = opened(NULL);
     CHECK(left(mine, entered(mine, READ)));
-    f = open(beside(".out"), O_RDWR | O_CREAT, 0600); /* gets the first that is free */
-    CHECK(f == 0);
-    snprintf(command, sizeof command, "ls -l /proc/self/fd | grep -c '%s[^o]*$' > %s", file, beside(".count"));
+    snprintf(command, sizeof command, "ls -l /proc/self/fd | grep -cE '%s(.shared)?$' > %s", file, beside(".count"));
     if (system(command) != 0) errno = 0;
     f = open(beside(".count"), O_RDONLY);
-    CHECK(read(f, text, sizeof text - 1) > 0 && atoi(text) == 0);
+    CHECK(read(f, text, sizeof text - 1) > 0 && text[0] == '0');
+    close(f);
+    CHECK(is_closed(mine));
+}
+
+/* No stream of this process is one, whichever is closed. */
+static void streams(void) {
+    if (close(0) != 0 || close(1) != 0 || close(2) != 0) exit(7);
+    begin_anew();
+    mine = opened(NULL);
+    CHECK(fcntl(0, F_GETFD) == -1 && fcntl(1, F_GETFD) == -1 && fcntl(2, F_GETFD) == -1);
+    CHECK(left(mine, entered(mine, READ)) && wanzoche_store_rotate(mine, LONGEST).code == WANZOCHE_ROTATED);
+    CHECK(fcntl(0, F_GETFD) == -1 && fcntl(1, F_GETFD) == -1 && fcntl(2, F_GETFD) == -1);
     CHECK(is_closed(mine));
 }
 
@@ -255,6 +264,7 @@ int main(void) {
     other_page("resource book cell operation read, write path { read }, write end end", false, WANZOCHE_OPENED);
     other_page("resource book cell operation read, write path { read }, write end end", true, WANZOCHE_IN_USE);
     other_page("resource book cell operation read, write path read, write end end", false, WANZOCHE_OTHER_DECLARATION);
+    programs();
     CHECK(has_ended(child(streams)));
     remove_all();
     printf("store_files: %d failures\n", failures);

@@ -2,17 +2,18 @@
 ** The store where it is cut off: at each of its calls of the system, and each
 ** exchange of a word of the page, the process is killed, killed in the middle of a
 ** line, stopped, or has the call refused. Then others go on, what was answered is
-** in the journal, and nothing else is in progress.
+** in the journal, and nothing else is in progress. With `owe` another leaves its
+** operation while the process is stopped, which goes on then, or is killed.
 **
 ** It is built with the parts of the store, and with WANZOCHE_STORE_POINTS.
-** store_points kill|torn|stop|refuse [FROM]
+** store_points kill|torn|stop|refuse|owe [FROM]
 */
 #include <pthread.h>
 #include <stdatomic.h>
 
 #include "store.h"
 
-enum { KILL, TORN, STOP, REFUSE };
+enum { KILL, TORN, STOP, REFUSE, OWE };
 
 /* What the process that is cut off shares with the test. */
 struct log {
@@ -41,7 +42,7 @@ int wanzoche_store_point(const char *call) {
     if (!is_armed || ++told->points != at) return 0;
     snprintf(told->call, sizeof told->call, "%s", call);
     if (how == KILL) kill(getpid(), SIGKILL);
-    if (how == STOP) kill(getpid(), SIGSTOP);
+    if (how == STOP || how == OWE) kill(getpid(), SIGSTOP);
     if (how == TORN && strcmp(call, "write") == 0) return -1;
     return how == REFUSE && is_of_system(call) ? error : 0;
 }
@@ -140,6 +141,17 @@ static bool has_line(const char *text, const char *format, const char *name, uin
     return strstr(text, line) != NULL;
 }
 
+static void until_finished(wanzoche_store *s, uint64_t activation) {
+    bool is_finished = false;
+    for (int k = 0; k < LONGEST && !is_finished; k++) {
+        char *text = journal(s);
+        is_finished = has_line(text, " finish%s %llu: finished\n", "", activation);
+        free(text);
+        usleep(500);
+    }
+    CHECK(is_finished);
+}
+
 static void check_answered(wanzoche_store *s) {
     char *text = journal(s);
     for (uint32_t k = 0; k < told->starts; k++)
@@ -174,6 +186,46 @@ static void check_beside_stopped(wanzoche_store *s) {
     CHECK(b.code == WANZOCHE_FINISHED || b.code == WANZOCHE_OWED);
 }
 
+/* A short part beside one that reads. */
+static void act_beside_reader(void) {
+    wanzoche_store *one;
+    is_armed = true;
+    if (open_with(&one, BOOK, NULL).code == WANZOCHE_OPENED) {
+        leaves(&one, enters(&one, READ, LONGEST));
+        (void)!wanzoche_store_enter(one, WRITE, 1).code;
+        wanzoche_store_close(one, LONGEST);
+    }
+    is_armed = false;
+    told->is_over = 1;
+}
+
+/* One that is stopped at this point while another leaves. Whether it got there. */
+static bool owed_beside(uint32_t point, uint32_t *owed) {
+    wanzoche_store *s;
+    int status = 0;
+    wanzoche_answer a;
+    uint64_t reading;
+    pid_t pid;
+    begin_anew();
+    memset(told, 0, sizeof *told);
+    at = point;
+    s = opened(&KEEP);
+    reading = entered(s, READ);
+    pid = child(act_beside_reader);
+    if (waitpid(pid, &status, WUNTRACED) != pid) exit(7);
+    a = wanzoche_store_leave(s, reading, 0);
+    CHECK(a.code == WANZOCHE_FINISHED || a.code == WANZOCHE_OWED);
+    *owed += a.code == WANZOCHE_OWED;
+    if (a.code == WANZOCHE_OWED) CHECK(WIFSTOPPED(status) && wanzoche_store_enter(s, WRITE, 0).code == WANZOCHE_LATE);
+    if (WIFSTOPPED(status)) kill(pid, point % 2 == 0 ? SIGCONT : SIGKILL);
+    if (WIFSTOPPED(status) && waitpid(pid, &status, 0) != pid) exit(7);
+    until_finished(s, reading);
+    (void)!wanzoche_store_recover(s, wanzoche_store_worker(s) + 1, false, LONGEST).code; /* what that one had stays */
+    check_others(s);
+    CHECK(is_closed(s));
+    return told->points >= point;
+}
+
 /* One that is cut off at this point, beside one that has the store open, or alone. Whether it got there. */
 static bool cut_off(uint32_t point, bool is_alone) {
     wanzoche_store *s;
@@ -203,21 +255,22 @@ static bool cut_off(uint32_t point, bool is_alone) {
 }
 
 int main(int arguments, char **argument) {
-    static const char *const names[] = {"kill", "torn", "stop", "refuse"};
+    static const char *const names[] = {"kill", "torn", "stop", "refuse", "owe"};
     static const int errors[] = {ENOSPC, EIO, EMFILE, EACCES};
-    uint32_t from = arguments > 2 ? (uint32_t)atoi(argument[2]) : 1, step = arguments > 3 ? (uint32_t)atoi(argument[3]) : 1, cut = 0;
+    uint32_t from = arguments > 2 ? (uint32_t)atoi(argument[2]) : 1, step = arguments > 3 ? (uint32_t)atoi(argument[3]) : 1, cut = 0, owed = 0;
     told = mmap(NULL, sizeof *told, PROT_READ | PROT_WRITE, MAP_SHARED | MAP_ANONYMOUS, -1, 0);
-    while (how < REFUSE && strcmp(names[how], argument[1]) != 0) how++;
+    while (how < OWE && strcmp(names[how], argument[1]) != 0) how++;
     for (int alone = 0; alone < 2; alone++)
         for (uint32_t point = from;; point += step) {
             int before = failures;
             bool got_there;
             error = errors[point % 4];
-            got_there = cut_off(point, alone != 0);
+            got_there = how == OWE ? owed_beside(point, &owed) : cut_off(point, alone != 0);
             if (failures > before) printf("store_points %s: at point %u, %s, %s\n", names[how], point, told->call, alone ? "alone" : "beside another");
             if (!got_there || failures > 20) break;
             cut++;
         }
+    CHECK(how != OWE || owed > 0);
     remove_all();
     printf("store_points: %s at %u points, %d failures\n", names[how], cut, failures);
     return failures != 0;
