@@ -249,6 +249,19 @@ static wanzoche_answer finish_all(store *s, int64_t limit) {
     return wait_for_sync(s, written, answer);
 }
 
+/*
+** Waits until all calls have returned. Who sleeps in a slot is woken, again and
+** again, since it may have looked just before; who sleeps for the turn sees it at
+** the end of its slice.
+*/
+static void wait_for_visitors(store *s) {
+    while (s->visitors > 0) {
+        for (int slot = 0; slot < SLOTS; slot++)
+            if (SLOT_WORKER(s->page->slots[slot].word) == s->worker) futex_wake(&s->page->slots[slot].word, 1, 0);
+        pause_for(MILLISECOND / 5);
+    }
+}
+
 wanzoche_answer wanzoche_store_close(wanzoche_store *store, int64_t limit) {
     wanzoche_answer answer = {WANZOCHE_CLOSED, 0};
     int cancel;
@@ -256,7 +269,7 @@ wanzoche_answer wanzoche_store_close(wanzoche_store *store, int64_t limit) {
     pthread_setcancelstate(PTHREAD_CANCEL_DISABLE, &cancel);
     if (!store->is_forked) {
         store->is_closing = true;
-        while (store->visitors > 0) pause_for(MILLISECOND / 5); /* who sleeps sees it at the end of its slice */
+        wait_for_visitors(store);
         answer = finish_all(store, limit);
     }
     take_apart(store);

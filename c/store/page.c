@@ -70,14 +70,14 @@ static bool fill_page(store *s, int file, const struct stat *like, uint64_t work
     memset(page, 0, sizeof *page);
     memcpy(page->magic, MAGIC, sizeof MAGIC);
     page->version = PAGE_VERSION;
-    page->declaration = (uint32_t)s->declaration_length;
+    page->declaration = (uint32_t)s->declaration_length + 1;
     page->workers = workers;
     give_access(file, like, true);
     /* All its bytes are allocated, so that none is refused when it is touched. */
-    error = goes_on("fallocate") ? posix_fallocate(file, 0, (off_t)(sizeof *page + s->declaration_length)) : errno;
+    error = goes_on("fallocate") ? posix_fallocate(file, 0, (off_t)(sizeof *page + page->declaration)) : errno;
     if (error != 0) errno = error;
     is_filled = error == 0 && write_whole(file, (const char *)page, sizeof *page) &&
-                write_whole(file, s->declaration, s->declaration_length) && sync_file(file) == 0;
+                write_whole(file, s->declaration, s->declaration_length) && write_whole(file, "\n", 1) && sync_file(file) == 0;
     error = errno;
     free(page);
     errno = error;

@@ -54,6 +54,16 @@ static void a_book(void) {
 static const char LINES[] = "1 start read: started 0\n1 use 0 put 7: used 0\n1 finish 0: finished\n"
                             "2 start write: started 1\n2 use 1 look: used 7\n2 finish 1: finished\n";
 
+/* Whether a text stands in the journal's file. */
+static bool has_text(const char *wanted) {
+    static char text[1000];
+    int f = open(file, O_RDONLY);
+    ssize_t length = read(f, text, sizeof text - 1);
+    close(f);
+    text[length < 0 ? 0 : length] = 0;
+    return strstr(text, wanted) != NULL;
+}
+
 static void lines_of_two(const wanzoche_store_options *options, bool rotates) {
     wanzoche_store *other;
     uint64_t number;
@@ -62,6 +72,7 @@ static void lines_of_two(const wanzoche_store_options *options, bool rotates) {
     mine = opened(options);
     number = entered(mine, READ);
     CHECK(wanzoche_store_use(mine, number, WANZOCHE_PUT, 7, LONGEST).code == WANZOCHE_USED && left(mine, number));
+    CHECK(has_text(options == NULL ? "\n1 finish 0: finished\n" : "\n+1 finish 0: finished\n")); /* a mark says that a sync was owed */
     other = opened(options);
     if (rotates) CHECK(wanzoche_store_rotate(other, LONGEST).code == WANZOCHE_ROTATED && wanzoche_store_rotate(mine, LONGEST).code == WANZOCHE_ROTATED);
     number = entered(other, WRITE);
@@ -144,7 +155,7 @@ static void closed_while_one_waits(void) {
     CHECK(left(other, number) && is_closed(other));
 }
 
-enum { THREADS = 8, EACH = 200 };
+enum { THREADS = 8, EACH = 1500 };
 static _Atomic uint32_t writers, readers, overlaps;
 
 static void *works(void *given) {
@@ -193,6 +204,7 @@ int main(void) {
     a_book();
     lines_of_two(NULL, false);
     lines_of_two(NULL, true);
+    lines_of_two(&QUICK, true);
     small_room();
     one_leave_for_all();
     closed_while_one_waits();

@@ -19,16 +19,20 @@ import time
 from ctypes import c_uint8, c_uint32, c_uint64
 from typing import Any, Optional
 
-from ._errors import StoreError
+from ._errors import StoreError, StoreInUse
 from ._files import give_access, is_of_system, no_stream_is_free, open_file, sync_folder, telling, write
 
 VERSION = 1
 """Of this file's form. A package refuses a store of another one."""
 
+OF_LIBRARY = 2
+"""The version of the page that the C library's processes have here (include/wanzoche_store.h)."""
+
 _MAGIC = b"wanzoche"
 _HEAD = struct.Struct("=8sII")  # the magic, the version, and the length of the declaration
 _PROCESS = struct.Struct("=Q")
 PAGE = 4096
+_PLACE_OF_LIBRARY = 69632  # where its declaration stands
 _OFD_GETLK, _OFD_SETLK, _OFD_SETLKW = 36, 37, 38
 _FLOCK = "hhqqi4x"  # struct flock on Linux with 64 bits
 _TURN, _SYNC, _WORKERS = 1 << 40, (1 << 40) + 1, 1 << 41
@@ -213,6 +217,24 @@ class Beside:
             time.sleep(pause)
             pause = min(pause * 2, 0.005)
         return True
+
+
+def declared_by_library(path: str, is_alone: bool) -> Optional[str]:
+    """The declaration of a store that the C library's processes had open, and nobody has now; None if there is no page of theirs. `is_alone`
+    is whether the journal is locked for this process alone. Raises `StoreInUse` if somebody may have it open."""
+    try:
+        fd = open_file(path, os.O_RDWR)
+    except FileNotFoundError:
+        return None
+    try:
+        magic, version, length = _HEAD.unpack(os.pread(fd, _HEAD.size, 0).ljust(_HEAD.size, b"\0"))
+        if magic != _MAGIC or version != OF_LIBRARY:
+            return None
+        if not is_alone or not _is_free(fd, _asked(fcntl.F_WRLCK, _TURN, 0)):
+            raise StoreInUse("{} is open by processes of the C library".format(path))
+        return os.pread(fd, length, _PLACE_OF_LIBRARY).decode("ascii", "replace")
+    finally:
+        os.close(fd)
 
 
 def make(path: str, declaration: str, like: os.stat_result) -> None:

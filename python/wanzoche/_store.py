@@ -13,7 +13,7 @@ from collections import deque
 from typing import TYPE_CHECKING, Any, Callable, Deque, Dict, List, Optional, Protocol, Tuple, TypeVar, cast
 
 from . import _native as native
-from ._beside import Beside, make
+from ._beside import Beside, declared_by_library, make
 from ._errors import Closed, CorruptStore, Lost, OtherDeclaration, StoreError, StoreInUse
 from ._files import give_access, is_of_system, open_file, read, refused, sync_folder, telling, write
 from ._form import core
@@ -171,6 +171,10 @@ class Store(Turns):
         with telling(self.path, "can't be opened"):
             self._has_to_have_one_name()
             is_alone = self._lines.has_to_itself(beside)
+            found = declared_by_library(beside, is_alone)
+            if found is not None:
+                self._has_to_declare(found, declaration)
+                os.unlink(beside)
             if is_alone and not os.path.exists(beside):
                 make(beside, declaration, os.fstat(self._lines.fd))
         self._beside = Beside(beside)
@@ -204,7 +208,11 @@ class Store(Turns):
         """Raises `StoreInUse` if others have another file beside the journal, and `OtherDeclaration` if the store is of another one."""
         if not self._beside.belongs_to(self._lines.fd):
             raise StoreInUse("{0} is open in another place, with another file beside it than {0}.shared".format(self.path))
-        told = difference(self._beside.declaration(), declaration)
+        self._has_to_declare(self._beside.declaration(), declaration)
+
+    def _has_to_declare(self, found: str, declaration: str) -> None:
+        """Raises `OtherDeclaration` if the store's declaration isn't the one that is given."""
+        told = difference(found, declaration)
         if told:
             raise OtherDeclaration("{} is of another declaration: {}".format(self.path, told))
 
