@@ -13,8 +13,9 @@ struct wait {
 /* In a turn: it was called, and asks. If it is blocked again it waits on. */
 static void hear(store *s, struct wait *wait) {
     struct page *page = s->page;
+    uint32_t called = SLOT_OF(s->worker, SLOT_CALLED);
     if (wait->slot < 0) return;
-    page->slots[wait->slot].word = SLOT_OF(s->worker, SLOT_WAITING);
+    atomic_compare_exchange_strong(&page->slots[wait->slot].word, &called, SLOT_OF(s->worker, SLOT_WAITING));
     if (page->called[wait->operation] == wait->slot + 1) page->called[wait->operation] = 0;
 }
 
@@ -43,7 +44,7 @@ static bool try_in_turn(store *s, struct wait *wait, uint64_t until, wanzoche_an
     *answer = ask(s, wait);
     waits = answer->code == WANZOCHE_BLOCKED && now() < until;
     if (waits) begin_to_wait(s, wait);
-    else if (waited) free_slot(s, wait->slot);
+    else if (waited) free_slot(s, wait->slot, s->worker);
     if (answer->code == WANZOCHE_STARTED) *written = note_written(s);
     /* Behind a start that was waited for, others may start beside it; and a call that comes to nothing is passed on. */
     if (s->is_current && (wait->looks || (waited && answer->code != WANZOCHE_BLOCKED))) announce(s);
@@ -79,7 +80,7 @@ static bool sleep_in_slot(store *s, struct wait *wait, uint64_t until) {
 
 /* Waits no more, without a turn. A call that had come is passed on. */
 static void give_up(store *s, struct wait *wait) {
-    if (wait->slot >= 0 && free_slot(s, wait->slot) == SLOT_CALLED) leave_duty(s);
+    if (wait->slot >= 0 && free_slot(s, wait->slot, s->worker) == SLOT_CALLED) leave_duty(s);
 }
 
 static wanzoche_answer enter(store *s, uint32_t operation, int64_t limit) {

@@ -237,7 +237,7 @@ uint64_t turn_limit(int64_t limit);
 /* waiting.c: who waits. */
 int claim_slot(store *s);
 void publish_slot(store *s, int slot, uint32_t state);
-uint32_t free_slot(store *s, int slot);
+uint32_t free_slot(store *s, int slot, uint32_t worker);
 void announce(store *s);
 bool bury(store *s, bool slots);
 bool list_live(store *s, uint32_t *count);

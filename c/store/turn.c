@@ -89,6 +89,7 @@ static void give(store *s) {
     uint32_t seen;
     for (;;) {
         seen = page->turn;
+        if ((seen & TURN_OWNER) != s->me) return; /* this process has closed its descriptors, and was taken for dead */
         if ((seen & TURN_DUTY) != 0 && s->is_current) {
             atomic_fetch_and(&page->turn, ~TURN_DUTY);
             announce(s);

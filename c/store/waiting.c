@@ -33,11 +33,13 @@ void publish_slot(store *s, int slot, uint32_t state) {
     atomic_fetch_or(&s->page->used[slot / 64], UINT64_C(1) << slot % 64);
 }
 
-/* Gives a slot back, one's own or a dead one's: its state before. */
-uint32_t free_slot(store *s, int slot) {
+/* Gives a slot of this worker back, if it is still that one's: its state before. */
+uint32_t free_slot(store *s, int slot, uint32_t worker) {
     struct page *page = s->page;
     uint32_t word = page->slots[slot].word;
-    while (!atomic_compare_exchange_strong(&page->slots[slot].word, &word, (word & ~(uint32_t)SLOT_STATE) | SLOT_CLAIMED)) continue;
+    do
+        if (SLOT_WORKER(word) != worker) return 0;
+    while (!atomic_compare_exchange_strong(&page->slots[slot].word, &word, SLOT_OF(worker, SLOT_CLAIMED)));
     goes_on("free");
     atomic_fetch_and(&page->used[slot / 64], ~(UINT64_C(1) << slot % 64));
     page->slots[slot].word = 0;
@@ -46,8 +48,9 @@ uint32_t free_slot(store *s, int slot) {
 
 /* In a turn: writes the finish that somebody has left to it. If that can't be written, the slot stays for another turn. */
 static void finish_owed(store *s, int slot) {
+    uint32_t worker = SLOT_WORKER(s->page->slots[slot].word);
     wanzoche_answer answer;
-    if (write_finish(s, SLOT_WORKER(s->page->slots[slot].word), s->page->slots[slot].activation, &answer)) free_slot(s, slot);
+    if (write_finish(s, worker, s->page->slots[slot].activation, &answer)) free_slot(s, slot, worker);
 }
 
 /* Calls f for each slot that says something. */
@@ -119,7 +122,7 @@ static void bury_slots(store *s) {
         uint32_t word = s->page->slots[slot].word, state = word & SLOT_STATE;
         if (word == 0 || (state != SLOT_OWED && !is_gone(s, SLOT_WORKER(word)))) continue;
         if (state == SLOT_OWED) finish_owed(s, slot);
-        else free_slot(s, slot);
+        else free_slot(s, slot, SLOT_WORKER(word));
     }
 }
 

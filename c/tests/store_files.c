@@ -154,6 +154,28 @@ static void streams(void) {
     CHECK(is_closed(mine));
 }
 
+/* One that closes everything, as a daemon does at its begin, ends its part, also where its descriptors are other files by then. */
+static void closes_all(void) {
+    wanzoche_answer a;
+    uint64_t number;
+    mine = opened(&QUICK);
+    number = entered(mine, READ);
+    for (int f = 3; f < 100; f++) close(f);
+    a = wanzoche_store_enter(mine, READ, 0);
+    CHECK(a.code == WANZOCHE_SYSTEM && a.number == EBADF);
+    for (int f = 3; f < 20; f++) CHECK(open(beside(".mine"), O_RDWR | O_CREAT, 0600) == f);
+    CHECK(wanzoche_store_leave(mine, number, 0).code == WANZOCHE_CORRUPT && wanzoche_store_enter(mine, READ, 0).code == WANZOCHE_CORRUPT);
+    CHECK(size_of(beside(".mine")) == 0);
+}
+
+static void all_closed(void) {
+    wanzoche_store *s;
+    begin_anew();
+    s = opened(&QUICK);
+    CHECK(has_ended(child(closes_all)));
+    CHECK(left(s, entered(s, WRITE)) && wanzoche_store_audit(s, LONGEST).code == WANZOCHE_SOUND && is_closed(s));
+}
+
 static wanzoche_store *parents;
 static uint64_t held;
 
@@ -265,6 +287,7 @@ int main(void) {
     other_page("resource book cell operation read, write path { read }, write end end", true, WANZOCHE_IN_USE);
     other_page("resource book cell operation read, write path read, write end end", false, WANZOCHE_OTHER_DECLARATION);
     programs();
+    all_closed();
     CHECK(has_ended(child(streams)));
     remove_all();
     printf("store_files: %d failures\n", failures);
