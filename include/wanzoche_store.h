@@ -63,6 +63,10 @@ typedef struct wanzoche_store_options {
     bool keep_lost; /* what dead processes have in progress stays, until
                        wanzoche_store_recover; else whoever finds it in the way
                        finishes it. Give all processes the same */
+    bool is_strict; /* newcomers never pass those who wait, from the first moment */
+    int64_t patience; /* so many milliseconds one waits before newcomers don't
+                       pass it any more; 5 for 0, and they always may if it is
+                       negative */
     uint32_t room;  /* how many lines a file gets before the next is begun,
                        where the journal is made: 1 to WANZOCHE_MOST_LINES, and
                        that for 0. A journal that is there keeps its own */
@@ -129,12 +133,21 @@ wanzoche_answer wanzoche_store_open(wanzoche_store **store, const char *file, co
 wanzoche_answer wanzoche_store_close(wanzoche_store *store, int64_t limit);
 
 /*
-** Begin an operation, when the paths allow it.
+** Begin an operation, when the paths allow it, and nobody who waits comes first.
+** Those who wait stand in one order, over all processes: a higher priority comes
+** first, and then who came first; wanzoche_store_enter has 0. When one of them has
+** waited for its patience, starts of those behind it are withheld if they would
+** stand in its way, as wanzoche_may_start says. Each 0.2 s its door opens for those
+** who came meanwhile. What a thread has in progress while it waits itself isn't
+** waited for. A start that is withheld has no line in the journal.
 **
 ** WANZOCHE_STARTED  it is in progress, in the journal, and on the disk unless
 **                   the store isn't synced; the number is its activation
 ** WANZOCHE_BLOCKED  the time is over; the number is the first path that forbade
 **                   it when it was asked for last
+** WANZOCHE_WITHHELD the time is over, and no path forbade it then: the number is
+**                   the operation for which it was withheld, and the message says
+**                   of whom and since when
 ** WANZOCHE_LATE     no turn was to be had in time
 ** WANZOCHE_NO_ROOM  too much is in progress: 65,535 operations of all processes
 **                   at most, or as the room says
@@ -147,6 +160,8 @@ wanzoche_answer wanzoche_store_close(wanzoche_store *store, int64_t limit);
 */
 WANZOCHE_CHECKED
 wanzoche_answer wanzoche_store_enter(wanzoche_store *store, uint32_t operation, int64_t limit);
+WANZOCHE_CHECKED
+wanzoche_answer wanzoche_store_enter_with_priority(wanzoche_store *store, uint32_t operation, uint32_t priority, int64_t limit);
 
 /*
 ** End an operation of this opening, begun in any of its threads.

@@ -3,9 +3,10 @@
 
 /* One that is to begin. */
 struct wait {
-    uint32_t operation;
-    int slot;   /* where it waits; -1 if it doesn't */
-    bool looks; /* for the dead: it is a try, or has slept for a slice */
+    struct asker asker;
+    int slot;       /* where it waits; -1 if it doesn't */
+    bool looks;     /* for the dead: it is a try, or has slept for a slice */
+    uint64_t opens; /* when it asks again by itself, since its start was withheld; NEVER if it wasn't */
 };
 
 #define WITHOUT_SLOT (5 * MILLISECOND) /* so long it sleeps if all slots are taken */
@@ -16,7 +17,7 @@ static void hear(store *s, struct wait *wait) {
     uint32_t called = SLOT_OF(s->worker, SLOT_CALLED);
     if (wait->slot < 0) return;
     atomic_compare_exchange_strong(&page->slots[wait->slot].word, &called, SLOT_OF(s->worker, SLOT_WAITING));
-    if (page->called[wait->operation] == wait->slot + 1) page->called[wait->operation] = 0;
+    if (page->called[wait->asker.operation] == wait->slot + 1) page->called[wait->asker.operation] = 0;
 }
 
 /* In a turn: waits from now on, in the order of the tickets. */
@@ -24,30 +25,55 @@ static void begin_to_wait(store *s, struct wait *wait) {
     if (wait->slot >= 0) return;
     wait->slot = claim_slot(s);
     if (wait->slot < 0) return;
-    s->page->slots[wait->slot].operation = wait->operation;
-    s->page->slots[wait->slot].ticket = s->page->tickets++;
+    stand(s, wait->slot, &wait->asker);
+    wait->asker.ticket = s->page->slots[wait->slot].ticket;
     publish_slot(s, wait->slot, SLOT_WAITING);
 }
 
+/* In a turn: whether its start is withheld, and for whom. Of one that is too late the message tells it. */
+static bool is_withheld(store *s, struct wait *wait, uint64_t time, wanzoche_answer *answer) {
+    int whom = withheld_for(s, &wait->asker, time);
+    const struct slot *slot = &s->page->slots[whom < 0 ? 0 : whom];
+    wait->opens = NEVER;
+    if (whom < 0) return false;
+    wait->opens = opens_at(s, whom, time);
+    *answer = (wanzoche_answer){WANZOCHE_WITHHELD, slot->operation};
+    refuse(s, WANZOCHE_WITHHELD, slot->operation, "behind %s of process %u, which has waited %.1f s", s->names[slot->operation],
+           (unsigned)SLOT_WORKER(slot->word), (double)(time - slot->arrived) * 1e-9);
+    return true;
+}
+
 /* In a turn: the answer to a start. */
-static wanzoche_answer ask(store *s, const struct wait *wait) {
+static wanzoche_answer ask(store *s, struct wait *wait, uint64_t time) {
     wanzoche_answer answer;
-    if (!write_start(s, wait->operation, &answer)) return s->trouble;
+    if (is_withheld(s, wait, time, &answer)) return answer;
+    if (!write_start(s, wait->asker.operation, &answer)) return s->trouble;
     if (answer.code != WANZOCHE_BLOCKED || !wait->looks || !bury(s, wait->slot >= 0)) return answer;
-    return write_start(s, wait->operation, &answer) ? answer : s->trouble;
+    if (is_withheld(s, wait, time, &answer)) return answer;
+    return write_start(s, wait->asker.operation, &answer) ? answer : s->trouble;
+}
+
+static bool has_to_wait(wanzoche_answer answer) {
+    return answer.code == WANZOCHE_BLOCKED || answer.code == WANZOCHE_WITHHELD;
 }
 
 /* Its whole turn: whether it goes on waiting behind it. */
 static bool try_in_turn(store *s, struct wait *wait, uint64_t until, wanzoche_answer *answer, struct written *written) {
-    bool waited = wait->slot >= 0, waits;
+    uint64_t time = now();
+    bool waited = wait->slot >= 0, withheld = withholds(s, time), waits;
     hear(s, wait);
-    *answer = ask(s, wait);
-    waits = answer->code == WANZOCHE_BLOCKED && now() < until;
+    *answer = ask(s, wait, time);
+    waits = has_to_wait(*answer) && now() < until;
     if (waits) begin_to_wait(s, wait);
     else if (waited) free_slot(s, wait->slot, s->worker);
-    if (answer->code == WANZOCHE_STARTED) *written = note_written(s);
-    /* Behind a start that was waited for, others may start beside it; and a call that comes to nothing is passed on. */
-    if (s->is_current && (wait->looks || (waited && answer->code != WANZOCHE_BLOCKED))) announce(s);
+    if (waits && wait->slot >= 0) s->page->slots[wait->slot].is_shut = wait->opens != NEVER;
+    if (answer->code == WANZOCHE_STARTED) {
+        *written = note_written(s);
+        note_held(s, answer->number);
+    }
+    /* Behind a start that was waited for, others may start beside it; and a call that comes to nothing is passed on. Where starts are withheld,
+    ** others may go on behind any start, and behind one that begins to wait. */
+    if (s->is_current && (wait->looks || withheld || (waited && answer->code != WANZOCHE_BLOCKED))) announce(s);
     end_turn(s);
     return waits;
 }
@@ -58,7 +84,8 @@ static bool may_look(store *s, uint64_t time) {
     return (looked > time || time - looked >= SLICE) && atomic_compare_exchange_strong(&s->page->looked, &looked, time);
 }
 
-/* Sleeps until it is called, or is to look for the dead. False if it is late. The slice begins here, so that signals don't move its end. */
+/* Sleeps until it is called, a door opens, or it is to look for the dead. False if it is late. The slice begins here, so that signals don't move
+** its end. */
 static bool sleep_in_slot(store *s, struct wait *wait, uint64_t until) {
     uint32_t waiting = SLOT_OF(s->worker, SLOT_WAITING);
     _Atomic uint32_t *word = wait->slot < 0 ? NULL : &s->page->slots[wait->slot].word;
@@ -68,24 +95,26 @@ static bool sleep_in_slot(store *s, struct wait *wait, uint64_t until) {
         wait->looks = false;
         if (word != NULL && *word != waiting) return true;
         if (time >= until || s->is_closing) return false;
+        if (time >= wait->opens) return true;
         if (time >= slice) {
             wait->looks = may_look(s, time);
             if (wait->looks || word == NULL) return true;
             slice = time + SLICE;
         }
-        if (word != NULL) futex_wait(word, waiting, sooner(slice, until), 0);
-        else pause_for(sooner(slice, until) - time);
+        if (word != NULL) futex_wait(word, waiting, sooner(sooner(slice, until), wait->opens), 0);
+        else pause_for(sooner(sooner(slice, until), wait->opens) - time);
     }
 }
 
-/* Waits no more, without a turn. A call that had come is passed on. */
+/* Waits no more, without a turn. A call that had come is passed on, and others may go on from whom starts were withheld for it. */
 static void give_up(store *s, struct wait *wait) {
-    if (wait->slot >= 0 && free_slot(s, wait->slot, s->worker) == SLOT_CALLED) leave_duty(s);
+    bool withheld = wait->slot >= 0 && withholds(s, now());
+    if (wait->slot >= 0 && (free_slot(s, wait->slot, s->worker) == SLOT_CALLED || withheld)) leave_duty(s);
 }
 
-static wanzoche_answer enter(store *s, uint32_t operation, int64_t limit) {
+static wanzoche_answer enter(store *s, uint32_t operation, uint32_t priority, int64_t limit) {
     static const wanzoche_answer closed = {WANZOCHE_CLOSED, 0};
-    struct wait wait = {operation, -1, limit == 0};
+    struct wait wait = {{operation, priority, now(), NEVER, true}, -1, limit == 0, NEVER};
     wanzoche_answer answer = {WANZOCHE_LATE, 0};
     uint64_t until = deadline(limit), turn_until = turn_limit(limit);
     for (;;) {
@@ -120,6 +149,7 @@ static wanzoche_answer leave(store *s, uint64_t activation, int64_t limit) {
     if (answer.code == WANZOCHE_LATE) return owe(s, activation);
     if (answer.code != DONE) return answer;
     if (!write_finish(s, s->worker, activation, &answer)) answer = s->trouble;
+    else forget_held(s, activation);
     if (answer.code == WANZOCHE_FINISHED) {
         written = note_written(s);
         announce(s);
@@ -138,13 +168,17 @@ static wanzoche_answer use(store *s, uint64_t activation, uint32_t verb, uint64_
     return wait_for_sync(s, written, answer);
 }
 
-wanzoche_answer wanzoche_store_enter(wanzoche_store *store, uint32_t operation, int64_t limit) {
+wanzoche_answer wanzoche_store_enter_with_priority(wanzoche_store *store, uint32_t operation, uint32_t priority, int64_t limit) {
     int cancel;
     wanzoche_answer answer = come_in(store, &cancel);
     if (answer.code != DONE) return answer;
-    answer = enter(store, operation, limit);
+    answer = enter(store, operation, priority, limit);
     go_out(store, cancel);
     return answer;
+}
+
+wanzoche_answer wanzoche_store_enter(wanzoche_store *store, uint32_t operation, int64_t limit) {
+    return wanzoche_store_enter_with_priority(store, operation, 0, limit);
 }
 
 wanzoche_answer wanzoche_store_leave(wanzoche_store *store, uint64_t activation, int64_t limit) {

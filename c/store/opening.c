@@ -158,10 +158,22 @@ static bool join(store *s, uint64_t until) {
     return true;
 }
 
+#define USUAL_PATIENCE (5 * MILLISECOND)
+
+/* How long one waits before starts are withheld for it. */
+static uint64_t patience_of(const wanzoche_store_options *options) {
+    if (options->is_strict) return 0;
+    if (options->patience == 0) return USUAL_PATIENCE;
+    if (options->patience < 0 || (uint64_t)options->patience > NEVER / MILLISECOND / 2) return NEVER;
+    return (uint64_t)options->patience * MILLISECOND;
+}
+
 static bool open_all(store *s, const char *file, const char *text, size_t length, const wanzoche_store_options *options, uint64_t until) {
+    s->patience = USUAL_PATIENCE;
     if (options != NULL) {
         s->no_sync = options->no_sync;
         s->keep_lost = options->keep_lost;
+        s->patience = patience_of(options);
     }
     s->replica.room = options == NULL || options->room == 0 ? WANZOCHE_MOST_LINES : options->room;
     if (!read_declaration(s, text, length)) return false;
@@ -185,6 +197,7 @@ static void take_apart(store *s) {
     free(s->declaration);
     free(s->buffer);
     free(s->list);
+    free(s->held);
     free(s);
 }
 

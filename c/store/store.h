@@ -15,6 +15,7 @@
 #ifndef WANZOCHE_STORE_PARTS_H
 #define WANZOCHE_STORE_PARTS_H
 
+#include <pthread.h>
 #include <stddef.h>
 #include <stdlib.h>
 #include <string.h>
@@ -62,12 +63,20 @@ enum { SLOT_CLAIMED = 1, SLOT_WAITING = 2, SLOT_CALLED = 3, SLOT_OWED = 4, SLOT_
 #define PAGE_VERSION 2
 #define PAGE_VERSION_OF_PYTHON 1
 
+#define HELD 2
+#define HELD_ALL UINT16_MAX
+
 struct slot {
     _Atomic uint32_t word; /* a futex: its owner sleeps here */
     uint32_t operation;
     uint64_t ticket;     /* who waits longest has the lowest */
     uint64_t activation; /* what is to be finished, of SLOT_OWED */
-    char rest[40];
+    uint64_t arrived;
+    uint64_t shuts;      /* when starts are withheld for it; NEVER: none is */
+    uint32_t priority;
+    uint16_t helds;      /* how much of what its thread has in progress stands here; HELD_ALL: all that its process has is meant */
+    uint16_t is_shut;    /* whether its start was withheld when it asked last: then it asks again by itself */
+    uint64_t held[HELD];
 };
 
 /* What a rotation is about to say when the file has its name. */
@@ -132,6 +141,26 @@ struct replica {
     uint32_t highest; /* the highest number of a worker */
 };
 
+/* An operation that is in progress here, and by which thread. */
+struct holding {
+    uint64_t activation;
+    pthread_t thread;
+    bool is_used;
+};
+
+/* One that asks: it comes now, or stands in a slot. */
+struct asker {
+    uint32_t operation, priority;
+    uint64_t arrived, ticket; /* NEVER: it comes now */
+    bool is_here;             /* whether it is this thread */
+};
+
+/* Who is first for an operation and priority, in order. */
+struct firsts {
+    unsigned count;
+    uint16_t slot[SLOTS];
+};
+
 struct wanzoche_store {
     struct page *page;
     struct replica replica;
@@ -140,6 +169,9 @@ struct wanzoche_store {
     uint32_t me;          /* who has the turn when this opening has it */
     uint32_t worker;
     bool no_sync, keep_lost;
+    uint64_t patience;
+    struct holding *held; /* a table by activations, of a power of two places */
+    size_t held_mask, held_count;
     bool is_current;      /* in a turn: whether all lines are followed, so that one can be added */
     _Atomic bool is_closing, is_forked, is_over; /* over: each call answers `fault` */
     _Atomic uint32_t lock;    /* among the threads of this opening, around a turn and what is known */
@@ -242,6 +274,16 @@ void announce(store *s);
 bool bury(store *s, bool slots);
 bool list_live(store *s, uint32_t *count);
 uint32_t count_waiting(store *s, uint32_t operation);
+
+/* order.c: who comes next. */
+void note_held(store *s, uint64_t activation);
+void forget_held(store *s, uint64_t activation);
+bool withholds(store *s, uint64_t time);
+void list_firsts(store *s, struct firsts *firsts);
+int withheld_for(store *s, const struct asker *asker, uint64_t time);
+uint64_t opens_at(const store *s, int slot, uint64_t time);
+bool is_to_be_called(store *s, const struct firsts *firsts, unsigned at, uint64_t time);
+void stand(store *s, int slot, const struct asker *asker);
 
 /* sync.c: what is on the disk. */
 struct written {

@@ -67,40 +67,34 @@ static void note_owed(store *s, int slot, uint32_t word, void *with) {
     if ((word & SLOT_STATE) == SLOT_OWED && s->is_current) finish_owed(s, slot);
 }
 
-/* Who waits longest for each operation: its slot + 1. */
-static void note_longest(store *s, int slot, uint32_t word, void *with) {
-    uint16_t *longest = with;
-    struct slot *one = &s->page->slots[slot];
-    if ((word & SLOT_STATE) != SLOT_WAITING || one->operation >= s->operations) return;
-    if (longest[one->operation] == 0 || one->ticket < s->page->slots[longest[one->operation] - 1].ticket) longest[one->operation] = (uint16_t)(slot + 1);
-}
-
 /* Whether one was called for the operation that hasn't asked yet. It goes on with this when it has. */
 static bool has_called(store *s, uint32_t operation) {
     uint16_t called = s->page->called[operation];
     return called != 0 && (s->page->slots[called - 1].word & SLOT_STATE) == SLOT_CALLED && s->page->slots[called - 1].operation == operation;
 }
 
+/* In a turn: calls one that waits. */
+static void call(store *s, uint16_t slot) {
+    struct slot *one = &s->page->slots[slot];
+    uint32_t word = one->word;
+    if ((word & SLOT_STATE) != SLOT_WAITING || s->dues == OPERATIONS || !goes_on("call")) return;
+    if (!atomic_compare_exchange_strong(&one->word, &word, (word & ~(uint32_t)SLOT_STATE) | SLOT_CALLED)) return;
+    s->page->called[one->operation] = (uint16_t)(slot + 1);
+    s->due[s->dues++] = slot;
+}
+
 /*
-** In a turn: writes the finishes that were left to it, and calls the longest
-** waiter of each operation that may start, but for those of which one is called.
-** They are woken when the turn is over.
+** In a turn: writes the finishes that were left to it, and calls the first waiter
+** for each operation and priority that may start, but for operations of which one
+** is called. They are woken when the turn is over.
 */
 void announce(store *s) {
-    uint16_t longest[OPERATIONS];
+    struct firsts firsts;
+    uint64_t time = now();
     for_used(s, note_owed, NULL);
-    memset(longest, 0, sizeof longest);
-    for_used(s, note_longest, longest);
-    for (uint32_t operation = 0; operation < s->operations; operation++) {
-        int slot = longest[operation] - 1;
-        uint32_t word;
-        if (slot < 0 || has_called(s, operation) || wanzoche_can_start(&s->replica.system, operation).code != WANZOCHE_CAN_START) continue;
-        word = s->page->slots[slot].word;
-        if ((word & SLOT_STATE) != SLOT_WAITING || s->dues == OPERATIONS || !goes_on("call")) continue;
-        if (!atomic_compare_exchange_strong(&s->page->slots[slot].word, &word, (word & ~(uint32_t)SLOT_STATE) | SLOT_CALLED)) continue;
-        s->page->called[operation] = (uint16_t)(slot + 1);
-        s->due[s->dues++] = (uint16_t)slot;
-    }
+    list_firsts(s, &firsts);
+    for (unsigned k = 0; k < firsts.count; k++)
+        if (!has_called(s, s->page->slots[firsts.slot[k]].operation) && is_to_be_called(s, &firsts, k, time)) call(s, firsts.slot[k]);
 }
 
 /* In a turn: what is in progress stands in `list`. */
