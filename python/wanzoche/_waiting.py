@@ -309,7 +309,7 @@ class Queues:
             self.due.discard(queue)
             if queue.waiters:  # one that came meanwhile
                 self.due.add(queue)
-        elif not self._is_held_back(queue):
+        elif not self._is_blocked(queue.op) and not self._is_withheld(queue):
             self.due.discard(queue)
             try:
                 for first in queue.waiters:
@@ -320,11 +320,14 @@ class Queues:
                 if first_now is not None:
                     self._wake(queue, first_now)
 
-    def _is_held_back(self, queue: Queue) -> bool:
-        """Whether the first of a queue has to wait on, and needs no wake for that."""
+    def _is_withheld(self, queue: Queue) -> bool:
+        """Whether the start of the first of a queue is withheld, and it needs no wake to ask again."""
+        line = self._line
+        if line is None or not line.withholds():
+            return False
         first = queue.first()
         place = None if first is None else first.place
-        return self._is_blocked(queue.op) if place is None else place.is_held_back()
+        return place is not None and place.is_held_back()
 
     def _wake(self, queue: Queue, waiter: Waiter) -> None:
         try:
