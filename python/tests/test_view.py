@@ -1,17 +1,15 @@
-"""What the command `view` shows of a store over a file, which it only reads."""
+"""A store over a file for who only reads its files."""
 
 import fcntl
-import json
 import os
 import signal
 import shutil
 import unittest
 
-import wanzoche._viewing as viewing
-from wanzoche import CorruptStore, OtherDeclaration, Paths, StoreError
+from wanzoche import CorruptStore, OtherDeclaration, StoreError
 from wanzoche._beside import Beside, _asked, _is_free
-from wanzoche._reading import Reader
-from wanzoche._viewing import Picture
+from wanzoche._reading import OnlyReading, Reader
+from wanzoche._showing import Onlooker
 
 from .declarations import BOOK, SLOT
 from .stores import ANOTHER, InFolder
@@ -66,7 +64,7 @@ class Reading(OnReader, unittest.TestCase):
             self.until(lambda: paths._store._beside.waiting[0])
             reader = self.reader()
             self.looks(reader)
-            self.assertEqual(reader.state(), viewing.Onlooker(paths).state()._replace(report=reader.state().report))
+            self.assertEqual(reader.state(), Onlooker(paths).state()._replace(report=reader.state().report))
             ours, theirs = reader.state().report, paths.report()
             self.assertEqual((ours.startable, ours.blocked, ours.live, ours.text), (theirs.startable, theirs.blocked, theirs.live, theirs.text))
 
@@ -252,6 +250,23 @@ class Reading(OnReader, unittest.TestCase):
         self.assertIsNone(self.looks(reader))
         self.assertEqual(reader.lines, 0)
 
+    def test_lines_for_people(self):
+        """They have no marks, and each comes once, also where all is read anew."""
+        with self.made(BOOK, sync=False) as paths:
+            only = OnlyReading(self.reader())
+            for _ in range(2):
+                paths.enter("read").leave()
+            self.assertIn(b"\n+", self.text())
+            told = only.text_from(0)
+            self.assertEqual(told, paths.journal())
+            paths.enter("write").leave()
+            told += only.text_from(4)
+            self.assertEqual((told, only.text_from(6)), (paths.journal(), ""))
+        shutil.copy(self.file, self.file + ".new")
+        os.replace(self.file + ".new", self.file)
+        self.changed(b"+1 start read: started 3\n")
+        self.assertEqual(only.text_from(6), "1 start read: started 3\n")
+
     def test_what_is_no_store(self):
         with self.assertRaisesRegex(StoreError, "isn't there"):
             Reader(self.file)
@@ -276,87 +291,3 @@ class Reading(OnReader, unittest.TestCase):
             os.replace(self.file + ".new", self.file)
         reader.close()
         self.assertEqual(len(os.listdir("/proc/self/fd")), before)
-
-
-class Pictures(OnReader, unittest.TestCase):
-    def setUp(self):
-        super().setUp()
-        for name in ("SHOWS", "CHECKS"):
-            self.addCleanup(setattr, viewing, name, getattr(viewing, name))
-            setattr(viewing, name, 0)
-        self.paths = self.open(BOOK)
-        self.picture = Picture(self.reader(), "the <store>")
-
-    def told(self):
-        self.picture.turn()
-        return json.loads(self.picture.news.text)
-
-    def test_what_the_page_is_told(self):
-        with self.paths("read"):
-            told = self.told()
-            self.assertEqual((told["serial"], told["store"], told["fault"]), (1, "the <store>", None))
-            self.assertEqual(told["paths"], [{"resource": "book", "text": "{ read } , write", "operations": ["read", "write"]}])
-            self.assertEqual(told["verdict"], {"sound": True, "lines": 1, "told": None})
-            self.assertEqual(told["bars"], [["read", 1, 0, None, None, 1]])
-            self.assertIsNone(told["in_progress"][0]["seen"])
-            self.assertEqual(told["counts"], {"in_progress": 1, "lost": 0, "waiting": 0})
-            self.assertEqual(self.told(), told)
-            with self.paths("read"):
-                told = self.told()
-                self.assertEqual(told["serial"], 2)
-                seen = told["in_progress"][1]["seen"]
-                self.assertGreaterEqual(seen, told["began"])
-                self.assertEqual(told["bars"][1], ["read", 1, 1, seen, None, 1])
-        told = self.told()
-        self.assertEqual([bar[:3] for bar in told["bars"]], [["read", 1, 1], ["read", 1, 0]])
-        self.assertTrue(all(bar[4] is not None for bar in told["bars"]))
-
-    def test_a_wrong_line_and_its_mending(self):
-        self.told()
-        whole = len(self.text())
-        with self.paths("read"):
-            self.changed(b"1 finish 9: finished\n")
-            for _ in range(2):
-                told = self.told()
-                self.assertEqual((told["verdict"]["sound"], told["verdict"]["lines"], told["fault"]), (False, 1, None))
-                self.assertRegex(told["verdict"]["told"], "line 3: `1 finish 9: finished`, where `stale` is owed")
-                self.assertEqual([each["operation"] for each in told["in_progress"]], ["read"])
-                self.assertEqual(told["bars"], [["read", 1, 0, None, None, 1]])
-            os.truncate(self.file, len(self.text()) - len(b"1 finish 9: finished\n"))
-            self.assertEqual(self.told()["verdict"], {"sound": True, "lines": 1, "told": None})
-        self.assertGreater(len(self.text()), whole)
-
-    def test_files_that_are_gone(self):
-        """What was there last is shown, with the fault, until they are there again."""
-        with self.paths("read"):
-            self.told()
-            os.rename(self.file, self.file + ".away")
-            for _ in range(2):
-                told = self.told()
-                self.assertRegex(told["fault"], "door.log is gone")
-                self.assertEqual((told["counts"]["in_progress"], told["verdict"]["sound"]), (1, None))
-            os.rename(self.file + ".away", self.file)
-            told = self.told()
-            self.assertEqual((told["fault"], told["verdict"]["sound"]), (None, True))
-
-    def test_a_death(self):
-        """It comes without a line."""
-        child = self.child(lambda: [setattr(self, "kept", self.made(BOOK).enter("read")), signal.pause()])
-        self.until(lambda: self.told()["counts"]["in_progress"])
-        self.assertEqual(self.told()["counts"]["lost"], 0)
-        os.kill(child, signal.SIGKILL)
-        os.waitpid(child, 0)
-        self.assertEqual(self.told()["counts"]["lost"], 1)
-
-    def test_so_often(self):
-        """Lines are read at once, and shown when it is time."""
-        viewing.SHOWS = viewing.CHECKS = 1e9
-        self.assertEqual(self.told()["serial"], 1)
-        with self.paths("read"):
-            told = self.told()
-            self.assertEqual((told["serial"], self.picture._source.lines), (1, 1))
-            viewing.SHOWS = 0
-            self.assertEqual(self.told()["serial"], 2)
-            source = self.picture._source
-            source.look = source.state = None  # which isn't called again while nothing comes
-            self.assertEqual(self.told()["serial"], 2)

@@ -2,6 +2,7 @@
 
 from __future__ import annotations
 
+import errno
 import os
 import signal
 import sys
@@ -15,15 +16,17 @@ from ._log import declaration_of
 from ._options import parser
 from ._passing import make_pass
 from ._paths import Paths
-from ._reading import Reader
+from ._reading import OnlyReading, Reader
 from ._served import OPENING, SCHEMES, KeepingPaths
-from ._showing import Onlooker, json_of, lines_of
+from ._showing import Looking, Onlooker
 from ._stored import StoredPaths
 from ._streams import say, take_closed_streams, write
 from ._viewing import Served, Source, view
-from ._watching import Ended, watch_lines, watch_status
+from ._watching import Ended, told_of, watch_lines, watch_status
 
 WRONG_LINE = 5
+LOOKING = ("status", "log", "audit", "watch")
+"""The commands for which the right to read a store's files will do."""
 OWN_FAULT = 125
 """As `env` and `timeout` have it: the fault is this program's, and the command wasn't run."""
 
@@ -57,7 +60,7 @@ def _stored_declaration(given: Any) -> bytes:
     beside = os.path.realpath(given.store) + ".shared"
     if not os.path.exists(beside):
         raise StoreError("{} isn't there: `wanzoche exec` with --declaration makes a store".format(beside))
-    file_beside = Beside(beside)
+    file_beside = Beside(beside, only_reads=True)
     try:
         return file_beside.declaration().encode()
     finally:
@@ -110,11 +113,39 @@ def _pass(paths: StoredPaths, given: Any) -> int:
     return 0
 
 
-def _status(paths: StoredPaths, given: Any) -> int:
-    if given.watch is not None:
-        watch_status(paths, given.name or given.store, given.watch, given.json)
-    write(json_of(Onlooker(paths).state(), paths.operations) if given.json else lines_of(paths))
+def _told(looking: Looking, given: Any) -> int:
+    """What the commands do that only look."""
+    if given.command == "watch":
+        watch_lines(looking)
+    if given.command == "log":
+        write(looking.text_from(0))
+    elif given.command == "audit":
+        looking.report()  # which raises `CorruptStore` for a line that isn't owed
+        write("sound\n")
+    elif given.watch is not None:
+        watch_status(looking, given.name or given.store, given.watch, given.json)
+    else:
+        write(told_of(looking, given.json))
     return 0
+
+
+def _is_only_to_read(error: StoreError, given: Any) -> bool:
+    """Whether a store over a file couldn't be opened since this process may not write to it, and the command only looks."""
+    is_forbidden = isinstance(error.__cause__, OSError) and error.__cause__.errno in (errno.EACCES, errno.EPERM, errno.EROFS)
+    return is_forbidden and given.command in LOOKING and not _is_served(given)
+
+
+def _read(given: Any) -> int:
+    """The same where the files may only be read."""
+    reader = _reader(given)
+    try:
+        return _told(OnlyReading(reader), given)
+    finally:
+        reader.close()
+
+
+def _reader(given: Any) -> Reader:
+    return Reader(given.store, None if given.declaration is None else _text_in(given.declaration))
 
 
 def _view(given: Any) -> int:
@@ -122,7 +153,7 @@ def _view(given: Any) -> int:
     if _is_served(given):
         source: Source = Served(_opened(given))  # type: ignore[arg-type]  # what is served has these paths
     else:
-        source = Reader(given.store, None if given.declaration is None else _text_in(given.declaration))
+        source = _reader(given)
     try:
         view(source, given.name or given.store, given.port, given.open)
     finally:
@@ -135,19 +166,14 @@ def _do(paths: StoredPaths, given: Any) -> int:
         return execute(paths, given)
     if given.command == "pass":
         return _pass(paths, given)
-    if given.command == "status":
-        return _status(paths, given)
-    if given.command == "watch":
-        watch_lines(paths)
     if given.command == "recover":
         write("finished {}\n".format(paths.recover(given.worker, given.even_alive)))
-    elif given.command == "log":
-        write(paths.journal())
-    else:
+        return 0
+    if given.command == "audit":
         verdict = paths.audit()
         write("{}\n".format(verdict))
         return 0 if verdict else WRONG_LINE
-    return 0
+    return _told(Onlooker(paths), given)
 
 
 def _given(words: Optional[List[str]]) -> Any:
@@ -170,7 +196,13 @@ def main(words: Optional[List[str]] = None) -> int:
             return _operations(given)
         if given.command == "view":
             return _view(given)
-        with _opened(given) as paths:
+        try:
+            opened = _opened(given)
+        except StoreError as error:
+            if not _is_only_to_read(error, given):
+                raise
+            return _read(given)
+        with opened as paths:
             return _do(paths, given)
     except KeyboardInterrupt:
         return 128 + signal.SIGINT

@@ -4,7 +4,7 @@ read them will do, and nobody waits for it, nor it for anybody."""
 from __future__ import annotations
 
 import os
-from typing import Callable, Optional, Tuple
+from typing import Callable, List, Optional, Tuple
 
 from . import _native as native
 from ._beside import Beside
@@ -14,7 +14,7 @@ from ._replica import Refusal, Replica
 from ._showing import State, in_progress_of, waiting_at
 from ._store import CHUNK, HEAD, difference, wrong_of
 from ._stored import process_name
-from ._texts import Path, Worker, read_declaration, read_report
+from ._texts import Path, Report, Worker, read_declaration, read_report
 
 See = Callable[[bytes], None]
 """Is given whole lines of the journal, as they stand there."""
@@ -90,9 +90,9 @@ class Reader:
         page = () if beside is None else (beside.end.value, beside.segment.value, bytes(beside.waiting))
         return (_stamp_of(self.path), _stamp_of(self.path + ".shared")[:2], page)
 
-    def look(self, see: See) -> bool:
+    def look(self, see: See, see_again: See = lambda text: None) -> bool:
         """Takes over what was appended since the last look, and hands it on. True if all was read anew, as the first time, and where other
-        files are there than before: then nothing is handed on, and what was is forgotten.
+        files are there than before: then all is handed on to the second call, and what was is forgotten.
 
         Raises `StoreError` if a file is gone or can't be read, and `CorruptStore` for a line that isn't owed; what was before that line
         stays, and the next look reads all anew.
@@ -105,7 +105,7 @@ class Reader:
                 pass  # as where a line was read that could be written in part only, and was taken back; else it comes again below
         self._is_new = True
         self._begin_anew()
-        self._read_on(lambda text: None)
+        self._read_on(see_again)
         self._is_new = False
         return True
 
@@ -156,14 +156,16 @@ class Reader:
             size = os.fstat(self._fd).st_size
             if size < self._at:
                 raise self._broken("lines are gone that were there")
-            if not self._at and not self._read_head(size):
+            if self._at or self._read_head(size):
+                self._read_lines(size, see)
+
+    def _read_lines(self, size: int, see: See) -> None:
+        while self._at < size:
+            text = read(self._fd, self._at, min(size, self._at + CHUNK))
+            whole = text.rfind(b"\n") + 1
+            if not whole:
                 return
-            while self._at < size:
-                text = read(self._fd, self._at, min(size, self._at + CHUNK))
-                whole = text.rfind(b"\n") + 1
-                if not whole:
-                    return
-                self._take_over(text[:whole], see)
+            self._take_over(text[:whole], see)
 
     def _read_head(self, size: int) -> bool:
         """Goes behind the first line; False if that is being written. Raises `CorruptStore` if it isn't a head."""
@@ -200,13 +202,41 @@ class Reader:
         gone = {worker for worker in set(workers.values()) if beside.is_gone(worker)}
         report = report._replace(lost=tuple(each for each in report.live if workers[each.activation] in gone))
         names = dict(enumerate(self.operations))
-        return State(report, in_progress_of(report, self._process_of, self.path + ".shared"), tuple(waiting_at(beside, names)))
+        waiting = waiting_at(beside, names) if beside.has_others() else ()  # those that were killed are counted on
+        return State(report, in_progress_of(report, self.process_of, self.path + ".shared"), tuple(waiting))
 
-    def _process_of(self, worker: int) -> Optional[str]:
+    def process_of(self, worker: int) -> Optional[str]:
+        """What the store knows of a worker's process. Raises `StoreError`."""
         beside = self._beside
         with telling(self.path + ".shared", "can't be read"):
             found = None if beside is None else beside.process_of(worker)
         return None if found is None else str(found)
+
+
+class OnlyReading:
+    """Looks at a store again and again, by its files alone."""
+
+    is_quick = True
+
+    def __init__(self, reader: Reader) -> None:
+        self._reader = reader
+        self.operations = reader.operations
+        self.stamp, self.process_of = reader.stamp, reader.process_of
+
+    def state(self) -> State:
+        self._reader.look(lambda text: None)
+        return self._reader.state()
+
+    def report(self) -> Report:
+        return self.state().report
+
+    def text_from(self, place: int) -> str:
+        """As it is called from one end to the next, it is what has come since, or what is behind that when all was read anew."""
+        new: List[bytes] = []
+        again: List[bytes] = []
+        is_again = self._reader.look(new.append, again.append)
+        lines = b"".join(again if is_again else new).decode("ascii", "backslashreplace").splitlines(True)
+        return "".join(line[line.startswith("+") :] for line in lines[place if is_again else 0 :])
 
 
 def _stamp_of(path: str) -> Tuple[int, ...]:

@@ -4,7 +4,7 @@ from __future__ import annotations
 
 import json
 import time
-from typing import Any, Callable, Dict, List, Mapping, NamedTuple, Optional, Sequence, Tuple
+from typing import Any, Callable, Dict, List, Mapping, NamedTuple, Optional, Protocol, Sequence, Tuple
 
 from ._asking import Asked
 from ._beside import Beside
@@ -59,15 +59,58 @@ class State(NamedTuple):
         return sum(each.operation == operation for each in self.in_progress)
 
 
-class Onlooker:
+class Looking(Protocol):
     """Looks at a store, again and again."""
+
+    operations: Tuple[str, ...]
+    is_quick: bool
+    """Whether to look whether something has changed costs little."""
+
+    def stamp(self) -> object:
+        """What is the same as long as nothing is begun, finished or waited for."""
+
+    def report(self) -> Report:
+        """What can happen next. Raises `StoreError`."""
+
+    def process_of(self, worker: int) -> Optional[str]:
+        """What the store knows of a worker's process. Raises `StoreError`."""
+
+    def text_from(self, place: int) -> str:
+        """The lines of the journal behind so many. Raises `StoreError`."""
+
+    def state(self) -> State:
+        """How the store is now. Raises `StoreError`."""
+
+
+class Onlooker:
+    """The same, as one of its workers."""
 
     def __init__(self, paths: StoredPaths) -> None:
         self._paths = paths
         self._who_waits = Asked(b"who_waits", WAITING)
+        self.operations = paths.operations
+        self.is_quick = not isinstance(paths, ServedPaths)
+
+    def stamp(self) -> object:
+        paths = self._paths
+        if isinstance(paths, ServedPaths):
+            served = paths._served
+            return served.ask(lambda: served._replica.lines)
+        beside = paths._store._beside
+        return beside.end.value, bytes(beside.waiting)
+
+    def report(self) -> Report:
+        return self._paths.report()
+
+    def process_of(self, worker: int) -> Optional[str]:
+        return self._paths._store.process_of(worker)
+
+    def text_from(self, place: int) -> str:
+        if isinstance(self._paths, ServedPaths):
+            return "".join(self._paths._served.texts_from(place))
+        return "".join(self._paths.journal().splitlines(True)[place:])
 
     def state(self) -> State:
-        """How the store is now. Raises `StoreError`."""
         paths = self._paths
         report = paths.report()
         beside = paths._store.path + ".shared" if isinstance(paths._store, Store) else None
@@ -109,12 +152,11 @@ def waiting_at(beside: Beside, names: Mapping[int, str]) -> List[Waiting]:
     return [Waiting(name, counts[number]) for number, name in names.items() if counts[number]]
 
 
-def lines_of(paths: StoredPaths) -> str:
+def lines_of(report: Report, process_of: Callable[[int], Optional[str]]) -> str:
     """The report, with a line for each operation that a dead worker has in progress, and for each worker whose process is known."""
-    report = paths.report()
     told = ["lost {} {} {}\n".format(each.activation, each.worker.split()[-1], each.operation) for each in report.lost]
     for worker in dict.fromkeys(int(each.worker.split()[-1]) for each in report.live):
-        process = paths._store.process_of(worker)
+        process = process_of(worker)
         if process:
             told.append("process {} {}\n".format(worker, process))
     return report.text + "".join(told)

@@ -9,9 +9,7 @@ import sys
 import time
 from typing import Any, List, NoReturn, Optional, Sequence
 
-from ._served import ServedPaths
-from ._showing import Onlooker, json_of, lines_of, table_of
-from ._stored import StoredPaths
+from ._showing import Looking, json_of, lines_of, table_of
 from ._streams import write
 
 LOOKS, ASKS = 0.05, 0.2
@@ -42,21 +40,14 @@ class Output:
 class Changes:
     """Tells when a store has changed since it was `seen`."""
 
-    def __init__(self, paths: StoredPaths) -> None:
-        self._paths = paths
-        self._pause = ASKS if isinstance(paths, ServedPaths) else LOOKS
+    def __init__(self, looking: Looking) -> None:
+        self.seen = looking.stamp
+        """What is the same until then. To be taken before a report, so that a change which comes between the two is found by the next
+        wait."""
+        self._pause = LOOKS if looking.is_quick else ASKS
         self._output = Output()
 
-    def seen(self) -> Any:
-        """What is the same as long as nothing is begun, finished or waited for. To be taken before a report, so that a change which comes
-        between the two is found by the next wait."""
-        if isinstance(self._paths, ServedPaths):
-            served = self._paths._served
-            return served.ask(lambda: served._replica.lines)
-        beside = self._paths._store._beside
-        return beside.end.value, bytes(beside.waiting)
-
-    def wait(self, seen: Any, seconds: float) -> None:
+    def wait(self, seen: object, seconds: float) -> None:
         """Returns when something has changed since then, or so many seconds are over, and not at once. Raises `BrokenPipeError` if nobody
         reads standard output any more."""
         until = time.monotonic() + seconds
@@ -96,7 +87,7 @@ def _plain(line: str) -> str:
     return "".join(sign if " " <= sign <= "~" else "?" for sign in line)
 
 
-def watch_status(paths: StoredPaths, store: str, seconds: float, is_json: bool) -> NoReturn:
+def watch_status(looking: Looking, store: str, seconds: float, is_json: bool) -> NoReturn:
     """Shows how the store is, and again whenever that has changed, until a signal ends it: on a terminal as a table. So often, in seconds,
     it looks for what changes without a line of the journal, as a death. Raises `Ended`, `KeyboardInterrupt` and `BrokenPipeError`."""
     signal.signal(signal.SIGTERM, end)
@@ -104,13 +95,13 @@ def watch_status(paths: StoredPaths, store: str, seconds: float, is_json: bool) 
     if not is_json and sys.stdout.isatty() and os.environ.get("TERM", "dumb") != "dumb":
         table = Table()
         signal.signal(signal.SIGCONT, lambda *_: None if table is None else table.forget())
-    changes, onlooker, told = Changes(paths), Onlooker(paths), ""
+    changes, told = Changes(looking), ""
     while True:
         seen = changes.seen()
         if table is not None:
-            table.draw(table_of(onlooker.state(), paths.operations, store))
+            table.draw(table_of(looking.state(), looking.operations, store))
         else:
-            before, told = told, json_of(onlooker.state(), paths.operations) if is_json else lines_of(paths)
+            before, told = told, told_of(looking, is_json)
             if told != before:
                 write(told if is_json else ("\n" if before else "") + told)
         changes.wait(seen, seconds)
@@ -121,16 +112,19 @@ def end(number: int, _: Any) -> NoReturn:
     raise Ended(number)
 
 
-def watch_lines(paths: StoredPaths) -> NoReturn:
+def told_of(looking: Looking, is_json: bool) -> str:
+    """How the store is, as lines or as JSON."""
+    if is_json:
+        return json_of(looking.state(), looking.operations)
+    return lines_of(looking.report(), looking.process_of)
+
+
+def watch_lines(looking: Looking) -> NoReturn:
     """Writes the lines of the journal as they come. Raises `KeyboardInterrupt` and `BrokenPipeError`."""
-    changes, written = Changes(paths), 0
+    changes, written = Changes(looking), 0
     while True:
         seen = changes.seen()
-        if isinstance(paths, ServedPaths):
-            text = "".join(paths._served.texts_from(written))
-            written += text.count("\n")
-        else:
-            journal = paths.journal()
-            text, written = journal[written:], len(journal)
+        text = looking.text_from(written)
+        written += text.count("\n")
         write(text)
         changes.wait(seen, float("inf"))

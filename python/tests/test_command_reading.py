@@ -1,0 +1,124 @@
+"""The commands that only look at a store, where this user may read its files and no more."""
+
+import contextlib
+import json
+import os
+import signal
+import unittest
+
+from wanzoche import _command
+
+from .commands import OnCommand
+from .declarations import BOOK
+from .stores import ANOTHER
+
+
+@unittest.skipIf(os.geteuid(), "only root can become another user")
+class Reading(OnCommand, unittest.TestCase):
+    def setUp(self):
+        super().setUp()
+        os.chmod(self.folder, 0o755)
+        self.paths = self.open(BOOK)
+
+    @contextlib.contextmanager
+    def begun(self, command, *words):
+        """The command in a process of another user: its number, and the ends of pipes from both its streams. It is dead behind the block."""
+        pipes = os.pipe(), os.pipe()
+        child = os.fork()
+        if not child:
+            try:
+                for stream, (_, into) in enumerate(pipes, 1):
+                    os.dup2(into, stream)
+                os.closerange(3, 64)
+                os.setgroups([])
+                os.setgid(ANOTHER)
+                os.setuid(ANOTHER)
+                os._exit(_command.main([command, "--store", self.file, *words]))
+            finally:
+                os._exit(99)
+        for _, into in pipes:
+            os.close(into)
+        files = [open(outof, "rb", buffering=0) for outof, _ in pipes]
+        try:
+            yield (child, *files)
+        finally:
+            for file in files:
+                file.close()
+            with contextlib.suppress(ProcessLookupError, ChildProcessError):
+                os.kill(child, signal.SIGKILL)
+                os.waitpid(child, 0)
+
+    def ran(self, command, *words):
+        """What it writes to both streams, and its status."""
+        with self.begun(command, *words) as (child, told, why):
+            texts = told.readall().decode(), why.readall().decode()
+            return (*texts, os.WEXITSTATUS(os.waitpid(child, 0)[1]))
+
+    def test_what_they_say(self):
+        """The same as to who may write."""
+        self.paths.enter("read").leave()
+        self.paths.rotate()
+        before = os.stat(self.file + ".shared").st_mtime_ns
+        with self.paths("write"):
+            for words in (["status"], ["status", "--json"], ["log"], ["audit"], ["operations"]):
+                told, why, status = self.ran(*words)
+                self.assertEqual((why, status), ("", 0), words)
+                self.assertEqual(len(self.lines()), 1)  # and no line was written
+                ours = self.runs(*words)[0]
+                if words[-1] == "--json":
+                    told, ours = ({**json.loads(each), "in_progress": []} for each in (told, ours))  # another user's /proc says less
+                self.assertEqual(told, ours, words)
+        self.assertEqual(os.stat(self.file + ".shared").st_uid, 0)
+        self.assertGreaterEqual(os.stat(self.file + ".shared").st_mtime_ns, before)
+
+    def test_the_dead(self):
+        self.dies(lambda: setattr(self, "kept", self.made(BOOK, lost="keep").enter("write")))
+        self.assertIn("\nlost 0 2 write\n", self.ran("status")[0])
+
+    def test_who_was_killed_while_it_waited(self):
+        """It is counted on, so where nobody is left nobody waits."""
+        with self.paths("write"):
+            self.paths._store._beside.waiting[0] = 3
+            self.assertEqual(json.loads(self.ran("status", "--json")[0])["counts"]["waiting"], 3)
+        self.paths.close()
+        self.assertEqual(json.loads(self.ran("status", "--json")[0])["counts"]["waiting"], 0)
+
+    def test_a_line_that_is_wrong(self):
+        self.paths.close()
+        with open(self.file, "ab") as file:
+            file.write(b"1 start write: started 7\n")
+        for command, wanted in (("audit", 5), ("status", 1), ("log", 1)):
+            told, why, status = self.ran(command)
+            self.assertEqual((told, status), ("", wanted))
+            self.assertRegex(why, "door.log in line 2: `1 start write: started 7`, where `started 0` is owed\n$")
+
+    def test_as_it_changes(self):
+        with self.begun("status", "--json", "--watch", "600") as (child, told, _), open(told.fileno(), closefd=False) as lines:
+            self.assertEqual(json.loads(lines.readline())["counts"]["in_progress"], 0)
+            with self.paths("write"):
+                self.assertEqual(json.loads(lines.readline())["counts"]["in_progress"], 1)
+                self.paths.rotate()
+            while json.loads(lines.readline())["counts"]["in_progress"]:
+                pass  # as when it saw the rotation
+            os.kill(child, signal.SIGTERM)
+            self.assertEqual(os.WEXITSTATUS(os.waitpid(child, 0)[1]), 128 + signal.SIGTERM)
+
+    def test_lines_as_they_come(self):
+        with self.begun("watch") as (child, told, _), open(told.fileno(), closefd=False) as lines:
+            for number in range(3):
+                self.paths.enter("read").leave()
+                wanted = ["1 start read: started {}\n".format(number), "1 finish {}: finished\n".format(number)]
+                self.assertEqual([lines.readline() for _ in wanted], wanted)
+                self.paths.rotate()
+            os.kill(child, signal.SIGTERM)
+            os.waitpid(child, 0)
+
+    def test_all_others_want_the_right_to_write(self):
+        for words in (["exec", "read", "--", "true"], ["pass", "read"], ["recover", "1"]):
+            told, why, status = self.ran(*words)
+            self.assertEqual((told, status), ("", 125 if words[0] == "exec" else 1))
+            self.assertRegex(why, "can't be opened: Permission denied\n$")
+
+    def test_who_may_not_read(self):
+        os.chmod(self.file, 0o600)
+        self.assertEqual(self.ran("status")[1:], ("wanzoche: {} can't be opened: Permission denied\n".format(self.file), 1))
