@@ -10,6 +10,7 @@ import shutil
 import signal
 import socket
 import subprocess
+import sys
 import tempfile
 import time
 import unittest
@@ -22,6 +23,13 @@ from .stores import OverAStore
 NEEDED = os.environ.get("WANZOCHE_POSTGRESQL") == "needed"
 """Whether a server that can't be had is a failure."""
 _served.OPENING = _clerk.SPARE = _clerk.CLOSING = LONGEST
+COMMAND = [
+    sys.executable,
+    "-c",
+    "import sys; from wanzoche import _clerk, _served; _served.OPENING = _clerk.SPARE = _clerk.CLOSING = {}; "
+    "from wanzoche._command import main; sys.exit(main())".format(LONGEST),
+]
+"""The command `wanzoche`, which waits as long as it takes, too."""
 SETTINGS = {
     "fsync": "off",  # what a killed server has written is there when it is started again: only the machine may not fall
     "full_page_writes": "off",

@@ -191,19 +191,19 @@ class Sharing(both_stores.Sharing, OnServer, unittest.TestCase):
     def test_who_begins_to_wait_does_so_in_a_turn(self):
         """So whoever appends behind it knows, and what was appended before it is read."""
         a, b = self.open(BOOK), self.open(BOOK)
-        key = "wanzoche.key((select log from wanzoche.log where name = '{}'), 0)".format(self.name)
+        turn = "begin; select from wanzoche.turn join wanzoche.log using (log) where name = '{}' for update of turn".format(self.name)
         with a("write"):
             self.assertRaises(Timeout, b.enter, "read", timeout=0.01)  # the first time it begins to listen, too
             self.until(lambda: not self.waiters())
             import psycopg
 
             with psycopg.connect(self.server.url, autocommit=True, gssencmode="disable") as other:
-                other.execute("select pg_advisory_lock({})".format(key))
+                other.execute(turn)
                 waits = threading.Thread(target=lambda: b.enter("read", timeout=LONGEST).leave())
                 waits.start()
-                self.until(lambda: self.server.run("select 1 from pg_locks where locktype = 'advisory' and not granted"))
+                self.until(lambda: self.server.run("select 1 from pg_locks where locktype in ('tuple', 'transactionid') and not granted"))
                 self.assertEqual(self.waiters(), [])
-                other.execute("select pg_advisory_unlock({})".format(key))
+                other.execute("rollback")
             self.until(lambda: len(self.waiters()) == 1)
         waits.join(LONGEST)
         self.until(lambda: not self.waiters())
@@ -509,10 +509,8 @@ class AtTheDesk(OnServer, unittest.TestCase):
             self.assertTrue(a.audit())
 
     def ends_session_of(self, paths):
-        told = "select wanzoche.key(log, %s) from wanzoche.log where name = %s"
-        key = self.server.run(told, paths._served.worker, self.name)[0][0]
-        told = "select pg_terminate_backend(pid) from pg_locks where locktype = 'advisory' and objid = (%s::bigint & 4294967295) and granted"
-        self.server.run(told, key)
+        told = "select pg_terminate_backend(pid) from wanzoche.worker join wanzoche.log using (log) where worker = %s and name = %s"
+        self.server.run(told, paths._served.worker, self.name)
 
     def test_a_close_while_a_thread_waits(self):
         with mock.patch.object(_clerk, "CHECK", 1000.0):

@@ -16,7 +16,7 @@ from wanzoche._every import seconds_since
 
 from .commands import CROWDED, DELIVERY, LONGEST, running
 from .declarations import BOOK, SLOT
-from .servers import SHORT_GRACE, OnServer, folder_of_programs, needs_server
+from .servers import COMMAND, SHORT_GRACE, OnServer, folder_of_programs, needs_server
 from .test_command_every import NIGHTLY
 
 TOP = os.path.dirname(os.path.dirname(os.path.dirname(os.path.abspath(__file__))))
@@ -36,7 +36,7 @@ class Commands(OnServer, unittest.TestCase):
             file.write(BOOK)
 
     def words(self, command, *words):
-        return [sys.executable, "-m", "wanzoche", command, "--store", self.server.url, "--name", self.name] + list(words)
+        return COMMAND + [command, "--store", self.server.url, "--name", self.name] + list(words)
 
     def runs(self, command, *words):
         """What it writes, what it writes on standard error, and its status."""
@@ -243,7 +243,7 @@ class Commands(OnServer, unittest.TestCase):
 
     def test_faults(self):
         self.assertRegex(self.runs("status")[1], "^wanzoche: there is no log .*: `wanzoche exec` with --declaration makes one\n$")
-        words = [sys.executable, "-m", "wanzoche", "status", "--store", self.server.url]
+        words = COMMAND + ["status", "--store", self.server.url]
         ended = subprocess.run(words, stderr=subprocess.PIPE, timeout=LONGEST)
         self.assertEqual(ended.stderr, b"wanzoche: --name is wanted for a store in PostgreSQL, and for no other\n")
         self.assertEqual(self.runs("exec", "--declaration", self.declaration, "steal", "--", "true")[1:], (

@@ -182,8 +182,8 @@ class OwnLimits(Held, unittest.TestCase):
 
     def test_a_server_that_is_stopped(self):
         """Its process takes what is sent, and says nothing."""
-        ((pid,),) = self.server.run("select pid from wanzoche.worker join pg_locks on objid = (wanzoche.key(log, worker) & 4294967295) "
-            "join wanzoche.log using (log) where name = %s and worker = 1 and locktype = 'advisory'", self.name)
+        told = "select pid from wanzoche.worker join wanzoche.log using (log) where name = %s and worker = 1"
+        ((pid,),) = self.server.run(told, self.name)
         self.until(lambda: self.a._served.clerk._is_asleep)
         os.kill(pid, signal.SIGSTOP)
         try:

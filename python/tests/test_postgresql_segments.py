@@ -579,7 +579,7 @@ class Inserts(Rotating, unittest.TestCase):
         b.report()
         place, stamp = self.asks(a, lambda: a._served._log.place)
         # The same statement, but that it is held up on its way to its turn.
-        put, holds = _log.PUT.replace("pg_advisory_xact_lock(", "pg_advisory_xact_lock(4711), pg_advisory_xact_lock("), self.connection()
+        put, holds = _log.PUT.replace("from (select from", "from (select pg_advisory_xact_lock(4711) from"), self.connection()
         holds.execute("select pg_advisory_lock(4711)")
         connection, found = self.connection().pgconn, []
         connection.prepare(b"put", put.encode())

@@ -2,8 +2,8 @@
 
 import re
 import subprocess
-import sys
 import threading
+import time
 import unittest
 from unittest import mock
 
@@ -11,8 +11,8 @@ from wanzoche import Paths, StoreError, Timeout, _log
 
 from .declarations import BOOK, SLOT
 from .limits import LONGEST
-from .servers import SHORT_GRACE, OnServer, needs_server
-from .test_postgresql_segments import Earlier
+from .servers import COMMAND, SHORT_GRACE, OnServer, needs_server
+from .test_postgresql_segments import Earlier, OldProcess
 
 USUAL = ("finish", 5.0, 16384)
 
@@ -132,7 +132,7 @@ class Settings(OfALog, unittest.TestCase):
         self.assertEqual(self.runs("exec", "--lost", "keep", "--nonblock", "read", "--", "true")[1:], ("", 0))
 
     def runs(self, command, *words):
-        words = [sys.executable, "-m", "wanzoche", command, "--store", self.server.url, "--name", self.name, *words]
+        words = [*COMMAND, command, "--store", self.server.url, "--name", self.name, *words]
         ended = subprocess.run(words, stdin=subprocess.DEVNULL, stdout=subprocess.PIPE, stderr=subprocess.PIPE, timeout=LONGEST)
         return ended.stdout.decode(), ended.stderr.decode(), ended.returncode
 
@@ -153,6 +153,39 @@ class FromThree(OfALog, Earlier, unittest.TestCase):
         self.assertEqual((self.number(), self.settings()), (_log.SCHEMA, ("keep", 5.0, 9)))
         with self.assertRaisesRegex(StoreError, "was made with room=9, and not with room=8"):
             self.made(BOOK, room=8)
+
+    def test_an_old_process_goes_on(self):
+        """It is alive as long as its session, its appends take their turn, and it may come back."""
+        old, told = self.old_process(), []
+        mark = old.call(b"append", 1, 0, None, "1 start read: started 0", "{}", "{}", "{}", "{}", "f")[0][2]
+        a = self.open(BOOK, grace=SHORT_GRACE)
+        self.until(lambda: a.report().live)
+        time.sleep(2 * SHORT_GRACE)
+        self.assertEqual((a.report().lost, a.try_enter("write")), ((), None))
+        holds = self.connection()
+        holds.execute("begin; select from wanzoche.turn for update")
+        puts = threading.Thread(target=lambda: told.append(old.call(b"put", 1, 1, mark, "1 start read: started 1")))
+        puts.start()
+        self.until(lambda: self.server.run("select 1 from pg_locks where locktype in ('tuple', 'transactionid') and not granted") or told)
+        self.assertEqual((told, len(self.lines())), ([], 1))
+        holds.execute("commit")
+        puts.join(LONGEST)
+        self.assertEqual(len(self.lines()), 2)
+        back = OldProcess(self.server.url, self.log, 3)
+        self.addCleanup(back.connection.close)
+        self.assertEqual(back.call(b"hold", 1), [("t",)])
+        time.sleep(2 * SHORT_GRACE)
+        self.assertEqual((a.report().lost, a.try_enter("write")), ((), None))
+        back.connection.close()
+        a.enter("write", timeout=LONGEST).leave()
+        self.assertTrue(a.audit())
+
+    def connection(self):
+        import psycopg
+
+        connection = psycopg.connect(self.server.url, autocommit=True, gssencmode="disable")
+        self.addCleanup(connection.close)
+        return connection
 
     def test_it_is_brought_up(self):
         """Its grace is the usual one, which takes some seconds."""

@@ -17,7 +17,7 @@ from ._options import parser
 from ._passing import make_pass
 from ._paths import Paths
 from ._reading import OnlyReading, Reader
-from ._served import OPENING, SCHEMES, KeepingPaths
+from ._served import OPENING, SCHEMES, KeepingPaths, LookingPaths
 from ._showing import Looking, Onlooker
 from ._stored import StoredPaths
 from ._streams import say, take_closed_streams, write
@@ -89,7 +89,9 @@ def _opened(given: Any) -> StoredPaths:
         named["lost"] = given.lost
     elif not is_served:
         named["lost"] = "keep"
-    kind: Any = KeepingPaths if is_served and not is_run else Paths
+    kind: Any = Paths
+    if is_served and not is_run:
+        kind = KeepingPaths if given.command in ("pass", "recover") else LookingPaths
     return kind(text, store=given.store, sync=sync, **named)  # type: ignore[no-any-return]
 
 

@@ -24,23 +24,22 @@ ANSWER = 30.0
 """So many seconds a call waits for its answer. Then the session is given up, and another asks again."""
 MOST = 20000
 """So many lines the server gives at once."""
-ALL_LOGS = 22391 << 48
-"""The advisory lock of whoever makes the schema or a log."""
-
+BESIDE = ("23505", "42P06", "42P07", "42710", "XX000")
+"""What the server may say of a schema that another makes at once."""
 HAS_SCHEMA = (
     "select exists (select from pg_class c join pg_namespace n on n.oid = relnamespace where nspname = 'wanzoche' and relname = 'schema')"
 )
 """Asked in this way since `to_regclass` may not see yet what another session has made."""
 PUT = (
     "insert into wanzoche.line (log, place, line, by) select $1::int, $3::bigint, $5, $2::int "
-    "from (select pg_advisory_xact_lock(wanzoche.key($1::int, 0)) offset 0) turn "
+    "from (select from wanzoche.turn where log = $1::int for update) turn "
     "where (select x.place = $3::bigint - 1 and x.stamp = $4::bigint from wanzoche.line x where x.log = $1::int "
     "order by x.place desc limit 1) on conflict do nothing returning stamp"
 )
 """Appends one line, if its place is the next one: then there is a row. Not for the first line of a log."""
 WAIT = (
     "insert into wanzoche.waiting (log, operation, worker, since) select $1::int, o, $2::int, clock_timestamp() "
-    "from (select pg_advisory_xact_lock(wanzoche.key($1::int, 0)) offset 0) turn, unnest($3::int[]) o "
+    "from (select from wanzoche.turn where log = $1::int for update) turn, unnest($3::int[]) o "
     "on conflict (log, operation, worker) do update set since = excluded.since where waiting.since is null"
 )
 """Waits for operations from now on. In a turn, so that whoever appends behind it knows; what was appended before it is read then."""
@@ -90,6 +89,8 @@ STATEMENTS = {
     b"segment": SEGMENT_AT,
     b"own": OWN,
     b"dead": "select wanzoche.dead($1, $2, $3)",
+    b"seem_dead": "select wanzoche.seem_dead($1, $2, $3)",
+    b"look": "select log, declaration, lost, grace, room from wanzoche.log where name = $1",
     b"bury": "select wanzoche.bury($1, $2, $3, $4, $5, $6, $7, $8)",
     b"rotate": "select wanzoche.rotate($1, $2, $3, $4, $5, $6)",
 }
@@ -142,10 +143,14 @@ class Place(NamedTuple):
 class Log:
     """What one opening has of it."""
 
-    def __init__(self, url: str, name: str, source: bytes, handle: native.Handle, *, sync: bool, given: Given) -> None:
+    def __init__(
+        self, url: str, name: str, source: bytes, handle: native.Handle, *, sync: bool, given: Given, only_looks: bool = False
+    ) -> None:
+        """One that only looks is no worker, and writes nothing: that takes no right but to read."""
         self.name = name
+        self.only_looks = only_looks
         self.settings = Settings()
-        self.due = 0
+        self.due = 0.0
         """With so many lines in the log this process calls `rotate`."""
         self.replica = Replica(source, handle)
         self.session = Session(url)
@@ -177,18 +182,33 @@ class Log:
     def _open(self, until: float) -> None:
         declaration, self.is_removed = self.replica.declaration(), False
         self.session.connect(until)
-        make_schema(self.session, until)
+        if self.only_looks:
+            check_schema(self.session, until)
+        else:
+            make_schema(self.session, until)
         self._prepare(until)
-        wanted = [str(each).encode() for each in self._wanted()]
-        number, found, *settings = self._call(Call(b"open", (self.name.encode(), declaration.encode(), *wanted)))[0][0]
+        number, found, *settings = self._look_up() if self.only_looks else self._open_or_make(declaration)
         assert number is not None and found is not None
         told = difference(found.decode(), declaration)
         if told:
             raise OtherDeclaration("the log {} is of another declaration: {}".format(self.name, told))
         self._log = number
         self._keep_to(settings)
-        self._arrive()
+        if not self.only_looks:
+            self._arrive()
         self.follow()
+
+    def _look_up(self) -> Row:
+        """What there is of the log. Raises `StoreError` if there is no such log."""
+        rows = self._call(Call(b"look", (self.name.encode(),)))[0]
+        if not rows:
+            raise StoreError("there is no log {}".format(self.name))
+        return rows[0]
+
+    def _open_or_make(self, declaration: str) -> Row:
+        """The same of a log that is made if there is none."""
+        wanted = [str(each).encode() for each in self._wanted()]
+        return self._call(Call(b"open", (self.name.encode(), declaration.encode(), *wanted)))[0][0]
 
     def _wanted(self) -> Settings:
         """What is written if nobody has opened the log yet."""
@@ -196,19 +216,22 @@ class Log:
 
     def _keep_to(self, settings: Row) -> None:
         """Knows what the log has. Raises `StoreError` if this process was given something else."""
-        lost, grace, room = [each or b"" for each in settings]
-        self.settings = Settings(lost.decode(), float(grace), int(room))
+        lost, grace, room = settings
+        if lost is not None and grace is not None and room is not None:  # else somebody looks at a log that nobody has opened yet
+            self.settings = Settings(lost.decode(), float(grace), int(room))
         for name, given, own in zip(Given._fields, self._given, self.settings):
             if given is not None and given != own:
                 told = "the log {} was made with {}={!r}, and not with {}={!r}: give the same, or nothing"
                 raise StoreError(told.format(self.name, name, own, name, given))
-        self.due = self.settings.room + KEPT
+        self._know_moved(0)
         self._grace = b"%f seconds" % self.settings.grace
 
     def come_back(self, until: float) -> bool:
         """Begins another session, after one was cut: False if the worker was taken for dead meanwhile. Then this is a new one."""
         self.session.connect(until)
         self._prepare(until)
+        if self.only_looks:
+            return True
         ((is_held,),) = self._call(Call(b"hold", (self._log, b"%d" % self.worker)))[0]
         if is_held != b"t":
             self._arrive()
@@ -238,7 +261,8 @@ class Log:
 
     def leave(self) -> None:
         """The worker ends."""
-        self._call(Call(b"leave", (self._log, b"%d" % self.worker)))
+        if not self.only_looks:
+            self._call(Call(b"leave", (self._log, b"%d" % self.worker)))
 
     # Lines
 
@@ -274,7 +298,7 @@ class Log:
         return Call(b"segment", (self._log, b"%d" % place))
 
     def _know_moved(self, lines: int) -> None:
-        self._moved, self.due = lines, lines + self.settings.room + KEPT
+        self._moved, self.due = lines, float("inf") if self.only_looks else lines + self.settings.room + KEPT
 
     def append(self, text: Optional[bytes], wishes: Wishes, *, before: Place, is_stepped: bool) -> Tuple[bool, Set[int]]:
         """Appends lines if their place is the next one, and finishes, and takes over what has come: whether the lines are in the log, and
@@ -470,7 +494,7 @@ class Log:
         """Which of these are dead."""
         if not workers:
             return set()
-        rows = self._call(Call(b"dead", (self._log, array(workers), self._grace)))[0]
+        rows = self._call(Call(b"seem_dead" if self.only_looks else b"dead", (self._log, array(workers), self._grace)))[0]
         return {int(row[0]) for row in rows if row[0] is not None}
 
     def bury(self, whose: int, over: Sequence[int], wakes: Sequence[int], even_alive: bool) -> bool:
@@ -559,13 +583,12 @@ def make_schema(session: Session, until: float) -> None:
     found = 0
     try:
         found = _number_of_schema(session, until)
-        if found < SCHEMA:
-            with open(os.path.join(os.path.dirname(os.path.abspath(__file__)), "schema.sql")) as file:
-                script = file.read()
-            session.run("begin; set local client_min_messages = error; select pg_advisory_xact_lock({})".format(ALL_LOGS), until)
-            if _number_of_schema(session, until) < SCHEMA:
-                session.run(script, until)
-            session.run("commit", until)
+        while found < SCHEMA:
+            try:
+                _bring_up(session, found, until)
+            except Complaint as error:
+                if error.code not in BESIDE or _number_of_schema(session, until) == found:
+                    raise
             found = _number_of_schema(session, until)
     except Complaint as error:
         told = "the schema wanzoche can't be made or read: {}"
@@ -573,8 +596,37 @@ def make_schema(session: Session, until: float) -> None:
             told = "the schema wanzoche is number {}, and can't be brought to {}, so its owner has to run schema.sql: {{}}"
             told = told.format(found, SCHEMA)
         raise StoreError(told.format(error.told)) from error
-    if found != SCHEMA:
-        raise StoreError("the schema wanzoche is number {}, and this package has {}".format(found, SCHEMA))
+    _has_to_be_own(found)
+
+
+def check_schema(session: Session, until: float) -> None:
+    """Raises `StoreError` for a schema of another number, and where there is none or it can't be read."""
+    try:
+        _has_to_be_own(_number_of_schema(session, until))
+    except Complaint as error:
+        raise StoreError("the schema wanzoche can't be read: {}".format(error.told)) from error
+
+
+def _has_to_be_own(number: int) -> None:
+    """Raises `StoreError` for another number than the package's."""
+    if number != SCHEMA:
+        raise StoreError("the schema wanzoche is number {}, and this package has {}".format(number, SCHEMA))
+
+
+def _bring_up(session: Session, found: int, until: float) -> None:
+    """Makes the schema, or brings it from this number to the package's, if nobody else does so at once. Raises `Complaint`."""
+    with open(os.path.join(os.path.dirname(os.path.abspath(__file__)), "schema.sql")) as file:
+        script = file.read()
+    try:
+        session.run("begin; set local client_min_messages = error", until)
+        if found:
+            session.run("lock table wanzoche.schema in access exclusive mode", until)
+        if _number_of_schema(session, until) == found:
+            session.run(script, until)
+        session.run("commit", until)
+    except Complaint:
+        session.run("rollback", until)
+        raise
 
 
 def _number_of_schema(session: Session, until: float) -> int:

@@ -50,10 +50,11 @@ class ServedStore:
         sync: bool,
         given: Given,
         may_finish: bool,
+        only_looks: bool,
         outage: float,
     ) -> None:
-        """With `may_finish` it finishes what the dead have in progress if the log says so."""
-        self._log = Log(url, name, source, handle, sync=sync, given=given)
+        """With `may_finish` it finishes what the dead have in progress if the log says so. One that `only_looks` begins nothing."""
+        self._log = Log(url, name, source, handle, sync=sync, given=given, only_looks=only_looks)
         self._replica = self._log.replica
         self._may_finish, self._outage = may_finish, outage
         self._is_closed = False
@@ -537,6 +538,8 @@ class ServedPaths(StoredPaths):
     _served: ServedStore
     _may_finish = True
     """Whether what the dead have in progress is finished, if the log says so."""
+    _only_looks = False
+    """Whether nothing is begun, and nothing written, so that it takes no right but to read."""
 
     def _new_store(
         self,
@@ -558,8 +561,8 @@ class ServedPaths(StoredPaths):
         seconds = OUTAGE if outage is None else float(outage)
         if not (0 <= (given.grace or 0.0) < float("inf") and seconds >= 0):
             raise ValueError("`grace` and `outage` are seconds, not {} and {}".format(grace, outage))
-        may_finish = self._may_finish
-        self._served = ServedStore(str(store), source, handle, name=name, sync=sync, given=given, may_finish=may_finish, outage=seconds)
+        kind: Dict[str, Any] = {"may_finish": self._may_finish, "only_looks": self._only_looks}
+        self._served = ServedStore(str(store), source, handle, name=name, sync=sync, given=given, outage=seconds, **kind)
         return cast(Store, self._served)  # it has the calls that paths make
 
     def __call__(self, operation: str, timeout: Optional[float] = None, priority: int = 0) -> Entry:
@@ -595,3 +598,9 @@ class KeepingPaths(ServedPaths):
     """The same for commands that finish nothing by themselves, whatever the log says."""
 
     _may_finish = False
+
+
+class LookingPaths(KeepingPaths):
+    """The same for commands that only look."""
+
+    _only_looks = True

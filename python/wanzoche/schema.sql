@@ -9,7 +9,7 @@
 --     It may only be appended, and only if it is owed by all lines before it. Each reader checks that, and refuses to go on otherwise.
 --   * A line is a row of wanzoche.line, or one of the lines in the text of a row of wanzoche.segment, and never both. The first lines are
 --     in segments, in their order; the last line is a row. Only `rotate` moves lines. Who finds its next line moved (WZ003) reads segments.
---   * A worker is a number that `arrive` gives, and none is given twice. It appends by the session alone that has its lock (`arrive`,
+--   * A worker is a number that `arrive` gives, and none is given twice. It appends by the session alone that its row names (`arrive`,
 --     `hold`): so a worker whose session is gone appends nothing.
 --   * Each call is one transaction and may be repeated. Only `arrive` uses a number up each time.
 --   * A session that appends may do so with `synchronous_commit` off, so that it keeps nobody waiting while the disk writes. Who has to
@@ -20,15 +20,20 @@
 --   * One line may also be appended without `append`, which is quicker, but for the first of a log. No row is returned if it wasn't:
 --
 --     insert into wanzoche.line (log, place, line, by) select :log, :place, :line, :worker
---         from (select pg_advisory_xact_lock(wanzoche.key(:log, 0)) offset 0) turn
+--         from (select from wanzoche.turn where log = :log for update) turn
 --         where (select x.place = :place - 1 and x.stamp = :known from wanzoche.line x where x.log = :log order by x.place desc limit 1)
 --         on conflict do nothing returning stamp, wanzoche.wake(:log, :worker, :operations)
 --
 --     It looks for the last line as the log was before it waited for its turn. If others have appended meanwhile, the row at its place
 --     is in its way: `rotate` leaves that where it is.
 --
--- Advisory locks: key(log, 0) is held by whoever appends or moves lines, to the end of the transaction, and key(log, worker) by the
--- worker's session.
+-- Whoever may connect to a database may take any advisory lock there, and send any notification. So neither of them says anything here:
+--
+--   * Whoever appends or moves lines has the row of its log in wanzoche.turn, to the end of the transaction: only who has rights to that
+--     table can lock a row of it. Behind it come rows of wanzoche.waiting, and before it those of wanzoche.worker.
+--   * A worker's session is one of the process and of the role that its row names, and has the advisory lock that its row names, a number
+--     that nobody could guess before. Another who has that lock, too, is of another role or another process.
+--   * A worker is notified by a channel that only its row names, and looks by itself each second, too.
 --
 -- Nothing here is looked for in a schema in which others may make functions or operators: each function has its own search_path, or was
 -- read under this one when it was made. A session sets it, too, before it calls anything.
@@ -103,6 +108,16 @@ alter table wanzoche.worker add column if not exists knows int not null default 
 alter table wanzoche.worker add column if not exists may_be_gone interval;
 create index if not exists worker_older on wanzoche.worker (log) where knows < 2 and not is_over;
 
+-- Its session; all null for a package of a number below 4.
+alter table wanzoche.worker add column if not exists pid int;  -- the number of the server's process
+alter table wanzoche.worker add column if not exists role oid;  -- who has begun it
+alter table wanzoche.worker add column if not exists lock bigint;  -- an advisory lock that it holds
+alter table wanzoche.worker add column if not exists channel text;  -- by which it is notified
+
+-- A row for each log: who has locked it appends, or moves lines.
+create table if not exists wanzoche.turn (log int primary key);
+insert into wanzoche.turn select log from wanzoche.log on conflict do nothing;
+
 -- Which worker waits for which operation, and since when; null if it doesn't any more. After a crash nobody waits: each says so again.
 create unlogged table if not exists wanzoche.waiting (
     log int not null,
@@ -112,12 +127,12 @@ create unlogged table if not exists wanzoche.waiting (
     primary key (log, operation, worker)
 ) with (fillfactor = 50);
 
--- Whoever may use the lines may use the segments.
+-- Whoever may use the lines may use the segments, and take a turn.
 do $$ declare x record; begin
     for x in select y.grantee, y.privilege_type from pg_class c, aclexplode(c.relacl) y
         where c.oid = 'wanzoche.line'::regclass and y.grantee <> c.relowner
     loop
-        execute format('grant %s on wanzoche.segment to %s', x.privilege_type,
+        execute format('grant %s on wanzoche.segment, wanzoche.turn to %s', x.privilege_type,
             case x.grantee when 0 then 'public' else x.grantee::regrole::text end);
     end loop;
 end $$;
@@ -128,8 +143,48 @@ drop function if exists wanzoche.arrive(int, text);
 drop function if exists wanzoche.arrive(int, text, int);
 drop function if exists wanzoche.bury(int, int, int, bigint[], int[], interval, boolean);
 
-create or replace function wanzoche.key(l int, w int) returns bigint language sql immutable
+-- The advisory lock of a worker whose package is of a number below 4.
+create or replace function wanzoche.old_key(l int, w int) returns bigint language sql immutable
 return (22391::bigint << 48) | (l::bigint << 28) | w;
+
+-- What such packages call where they take a lock before they append: they get their turn, too.
+create or replace function wanzoche.key(l int, w int) returns bigint
+language plpgsql set search_path = pg_catalog, pg_temp as $$
+begin
+    if w = 0 then
+        perform from wanzoche.turn x where x.log = l for update;
+    end if;
+    return wanzoche.old_key(l, w);
+end $$;
+
+-- Those of these workers that have a session; of all workers, for null.
+create or replace function wanzoche.with_session(l int, workers int[]) returns int[]
+language plpgsql set search_path = pg_catalog, pg_temp as $$
+begin
+    perform pg_stat_clear_snapshot();  -- or what this transaction has seen before would still be there
+    return array(select distinct x.worker from wanzoche.worker x
+        join pg_locks y on (y.classid::bigint << 32) | y.objid::bigint = coalesce(x.lock, wanzoche.old_key(x.log, x.worker))
+        where x.log = l and (workers is null or x.worker = any (workers))
+            and y.locktype = 'advisory' and y.objsubid = 1 and y.granted
+            and y.database = (select d.oid from pg_database d where d.datname = current_database())
+            and (x.lock is null
+                or y.pid = x.pid and exists (select from pg_stat_get_activity(x.pid) z where z.usesysid = x.role)));
+end $$;
+
+-- From now on this session is the worker's, whose row the caller has locked.
+create or replace function wanzoche.begin_session(l int, w int) returns void
+language plpgsql set search_path = pg_catalog, pg_temp as $$
+declare own bigint;
+begin
+    loop
+        own := (22391::bigint << 48) | floor(random() * 281474976710656)::bigint;
+        exit when pg_try_advisory_lock(own);
+    end loop;
+    update wanzoche.worker x set gone = null, pid = pg_backend_pid(), lock = own,
+        role = (select y.usesysid from pg_stat_get_activity(pg_backend_pid()) y),
+        channel = 'wanzoche_' || replace(gen_random_uuid()::text, '-', '')
+        where x.log = l and x.worker = w;
+end $$;
 
 -- The log of this name, which is made if there is none. What it has is returned: what was given is written if it has nothing yet.
 create or replace function wanzoche.open(called text, declared text, wanted_lost text, wanted_grace float8, wanted_room int,
@@ -144,11 +199,15 @@ begin
         end if;
         insert into wanzoche.log as x (name, declaration, lost, grace, room)
             values (called, declared, wanted_lost, wanted_grace, wanted_room)
-            on conflict (name) do update set lost = excluded.lost, grace = excluded.grace, room = excluded.room where x.lost is null;
+            on conflict (name) do update set lost = excluded.lost, grace = excluded.grace, room = excluded.room where x.lost is null
+            returning log into l;
+        if found then
+            insert into wanzoche.turn values (l) on conflict do nothing;
+        end if;
     end loop;
 end $$;
 
--- A new worker, whose lock the session has, and whose package knows the schema of this number. Null if the log was removed.
+-- A new worker, whose session this is, and whose package knows the schema of this number. Null if the log was removed.
 create or replace function wanzoche.arrive(l int, process text, knows int default 1, grace interval default null) returns int
 language plpgsql set search_path = pg_catalog, pg_temp as $$
 declare w int;
@@ -158,13 +217,13 @@ begin
         return null;
     end if;
     if knows < 2 then
-        perform pg_advisory_xact_lock(wanzoche.key(l, 0));  -- no segment is made before this worker can be seen
+        perform from wanzoche.turn x where x.log = l for update;  -- no segment is made before this worker can be seen
         if wanzoche.moved(l) > 0 then
             raise exception 'the log has segments, which this package doesn''t read: take a later one';
         end if;
     end if;
     insert into wanzoche.worker (log, worker, process, knows, may_be_gone) values (l, w, process, knows, grace);
-    perform pg_advisory_lock(wanzoche.key(l, w));
+    perform wanzoche.begin_session(l, w);
     if current_setting('synchronous_commit') = 'off' then
         perform set_config('synchronous_commit', 'on', true);  -- or the number might be given again after a crash
     end if;
@@ -175,21 +234,22 @@ end $$;
 -- before is gone, that one is ended.
 create or replace function wanzoche.hold(l int, w int) returns boolean
 language plpgsql set search_path = pg_catalog, pg_temp as $$
-declare is_held boolean;
+declare old int; own bigint;
 begin
-    while not pg_try_advisory_lock(wanzoche.key(l, w)) loop
-        perform pg_terminate_backend(x.pid, 1000) from pg_locks x
-            where x.locktype = 'advisory' and x.database = (select d.oid from pg_database d where d.datname = current_database())
-            and x.classid::bigint = wanzoche.key(l, w) >> 32 and x.objid::bigint = wanzoche.key(l, w) & 4294967295 and x.objsubid = 1
-            and x.mode = 'ExclusiveLock' and x.granted and x.pid <> pg_backend_pid();
-        perform pg_sleep(0.01);
-    end loop;
-    update wanzoche.worker set gone = null where log = l and worker = w and not is_over;
-    is_held := found;
-    if not is_held then
-        perform pg_advisory_unlock(wanzoche.key(l, w));
+    select x.pid, x.lock into old, own from wanzoche.worker x where x.log = l and x.worker = w and not x.is_over for update;
+    if not found then
+        return false;
+    elsif old is distinct from pg_backend_pid() then
+        while wanzoche.with_session(l, array[w]) <> '{}' loop
+            perform pg_terminate_backend(x.pid, 1000) from (select distinct y.pid from pg_locks y
+                where y.locktype = 'advisory' and y.database = (select d.oid from pg_database d where d.datname = current_database())
+                and (y.classid::bigint << 32) | y.objid::bigint = coalesce(own, wanzoche.old_key(l, w)) and y.objsubid = 1 and y.granted
+                and y.pid = coalesce(old, y.pid) and y.pid <> pg_backend_pid()) x;
+            perform pg_sleep(0.01);
+        end loop;
     end if;
-    return is_held;
+    perform wanzoche.begin_session(l, w);
+    return true;
 end $$;
 
 -- The worker ends. It has finished what it had in progress.
@@ -239,11 +299,15 @@ begin
     mark := coalesce(mark, known);
 end $$;
 
+-- The channel by which a worker is notified.
+create or replace function wanzoche.channel(l int, w int) returns text language sql stable
+return (select coalesce(x.channel, 'wanzoche_' || l || '_' || w) from wanzoche.worker x where x.log = l and x.worker = w);
+
 -- Wakes who has waited longest for each of these operations: a notification with the operation's number on the worker's channel. The caller
--- needs none. One whose session is gone doesn't wait any more. Anybody in the database may notify: who gets one looks, and trusts no text.
+-- needs none. One whose session is gone doesn't wait any more. Who gets a notification looks, and trusts no text.
 create or replace function wanzoche.wake(l int, w int, operations int[]) returns void
 language plpgsql set search_path = pg_catalog, pg_temp as $$
-declare x record; woken int[] := '{}';
+declare x record; woken int[] := '{}'; alive int[];
 begin
     for x in select y.operation, y.worker from wanzoche.waiting y
         where y.log = l and y.operation = any (operations) and y.since is not null order by y.since
@@ -252,11 +316,17 @@ begin
             continue;
         elsif x.worker = w then
             woken := woken || x.operation;
-        elsif pg_try_advisory_xact_lock_shared(wanzoche.key(l, x.worker)) then
-            update wanzoche.waiting y set since = null where y.log = l and y.operation = x.operation and y.worker = x.worker;
-        else
-            perform pg_notify('wanzoche_' || l || '_' || x.worker, x.operation::text);
+            continue;
+        end if;
+        if alive is null then
+            alive := wanzoche.with_session(l, array(select y.worker from wanzoche.waiting y
+                where y.log = l and y.operation = any (operations) and y.since is not null));
+        end if;
+        if x.worker = any (alive) then
+            perform pg_notify(wanzoche.channel(l, x.worker), x.operation::text);
             woken := woken || x.operation;
+        else
+            update wanzoche.waiting y set since = null where y.log = l and y.operation = x.operation and y.worker = x.worker;
         end if;
     end loop;
 end $$;
@@ -289,7 +359,7 @@ create or replace function wanzoche.append(l int, w int, n bigint, known bigint,
 language plpgsql set search_path = pg_catalog, pg_temp as $$
 declare is_next boolean; wanted bigint := n - 1; fresh bigint := (random() * 9007199254740991)::bigint;
 begin
-    perform pg_advisory_xact_lock(wanzoche.key(l, 0));
+    perform from wanzoche.turn x where x.log = l for update;
     select x.place, x.stamp into final, mark from wanzoche.line x where x.log = l order by x.place desc limit 1;
     final := coalesce(final, -1);
     is_next := final = n - 1;
@@ -321,7 +391,7 @@ begin
             on conflict (log, operation, worker) do update set since = excluded.since where waiting.since is null;
     end if;
     if listens then
-        execute 'listen wanzoche_' || l || '_' || w;
+        execute format('listen %I', wanzoche.channel(l, w));
     end if;
     if wakes <> '{}' then
         perform wanzoche.wake(l, w, wakes);
@@ -336,25 +406,42 @@ end $$;
 create or replace function wanzoche.turn(l int, n bigint, known bigint, out news text, out final bigint, out mark bigint)
 language plpgsql set search_path = pg_catalog, pg_temp as $$
 begin
-    perform pg_advisory_xact_lock(wanzoche.key(l, 0));
+    perform from wanzoche.turn x where x.log = l for update;
     select x.news, x.final, x.mark into news, final, mark from wanzoche.lines(l, n, known) x;
 end $$;
 
 -- Which of these workers are over, or have been without a session for so long. One that comes back within that time has lost nothing.
 create or replace function wanzoche.dead(l int, workers int[], grace interval) returns setof int
 language plpgsql set search_path = pg_catalog, pg_temp as $$
-declare w int; x wanzoche.worker;
+declare w int; alive int[] := wanzoche.with_session(l, workers); is_dead boolean; since timestamptz;
 begin
-    for w in select distinct y from unnest(workers) y order by y loop
-        if pg_try_advisory_xact_lock_shared(wanzoche.key(l, w)) then
-            select y.* into x from wanzoche.worker y where y.log = l and y.worker = w;
-            if x.worker is null or x.is_over or x.gone + grace <= clock_timestamp() then
+    for w in select distinct y from unnest(workers) y where y <> all (alive) order by y loop
+        select y.is_over or coalesce(y.gone + grace <= clock_timestamp(), false), y.gone into is_dead, since
+            from wanzoche.worker y where y.log = l and y.worker = w for update;  -- from now on it doesn't come back
+        if not found then
+            return next w;
+        elsif wanzoche.with_session(l, array[w]) = '{}' then
+            if is_dead then
                 return next w;
-            elsif x.gone is null then
+            elsif since is null then
                 update wanzoche.worker y set gone = clock_timestamp() where y.log = l and y.worker = w;
             end if;
         end if;
     end loop;
+end $$;
+
+-- The same for who may only look. Nothing is written: one whose session nobody else has missed yet is taken for dead at once.
+create or replace function wanzoche.seem_dead(l int, workers int[], grace interval) returns setof int
+language plpgsql set search_path = pg_catalog, pg_temp as $$
+declare alive int[];
+begin
+    if has_table_privilege('wanzoche.worker', 'update') then
+        return query select wanzoche.dead(l, workers, grace);
+        return;
+    end if;
+    alive := wanzoche.with_session(l, workers);
+    return query select distinct y from unnest(workers) y where y <> all (alive) and not exists
+        (select from wanzoche.worker x where x.log = l and x.worker = y and not x.is_over and x.gone + grace > clock_timestamp());
 end $$;
 
 -- Worker w finishes activations of another, if that one is dead or `even_alive`, and wakes who waits for these operations. It knows all
@@ -368,9 +455,11 @@ begin
             return false;
         end if;
         update wanzoche.worker x set is_over = true where x.log = l and x.worker = whose;
+    end if;
+    perform from wanzoche.turn x where x.log = l for update;
+    if not even_alive then
         delete from wanzoche.waiting x where x.log = l and x.worker = whose;
     end if;
-    perform pg_advisory_xact_lock(wanzoche.key(l, 0));
     if n < wanzoche.moved(l) then
         raise exception 'line % was moved into a segment', n using errcode = 'WZ003';
     end if;
@@ -404,9 +493,7 @@ end $$;
 -- The workers that have a session.
 create or replace function wanzoche.alive(l int) returns int[]
 language sql set search_path = pg_catalog, pg_temp as $$
-    select array(select (x.objid::bigint & 268435455)::int from pg_locks x where x.locktype = 'advisory'
-        and x.database = (select d.oid from pg_database d where d.datname = current_database()) and x.objsubid = 1 and x.granted
-        and ((x.classid::bigint << 4) | (x.objid::bigint >> 28)) = wanzoche.key(l, 0) >> 28 and x.objid::bigint & 268435455 > 0)
+    select wanzoche.with_session(l, null)
 $$;
 
 -- The first worker of a package that reads no segments, and that may still be alive; null if there is none. Those without a session for
@@ -431,7 +518,7 @@ begin
     if not wanzoche.inserts_ended() then
         return null;
     end if;
-    perform pg_advisory_xact_lock(wanzoche.key(l, 0));
+    perform from wanzoche.turn x where x.log = l for update;
     if wanzoche.moved(l) <> first or many < 1 or first + many >= n then
         return wanzoche.moved(l);
     elsif not exists (select from wanzoche.line x where x.log = l and x.place = n - 1 and x.stamp = known) then
@@ -473,7 +560,6 @@ create or replace function wanzoche.remove(called text) returns boolean
 language plpgsql set search_path = pg_catalog, pg_temp as $$
 declare l int; alive int[]; longest interval;
 begin
-    perform pg_advisory_xact_lock(wanzoche.key(0, 0));
     select x.log into l from wanzoche.log x where x.name = called for update;  -- from now on nobody arrives
     perform from wanzoche.worker x where x.log = l and not x.is_over for update;  -- and nobody comes back
     alive := wanzoche.alive(l);
@@ -489,6 +575,7 @@ begin
     delete from wanzoche.segment where log = l;
     delete from wanzoche.worker where log = l;
     delete from wanzoche.waiting where log = l;
+    delete from wanzoche.turn where log = l;
     delete from wanzoche.log where log = l;
     return true;
 end $$;
