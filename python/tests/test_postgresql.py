@@ -688,7 +688,7 @@ class Deaths(both_stores.Deaths, OnServer, unittest.TestCase):
         self.assertFalse(thread.is_alive())
         self.assertEqual(
             self.server.run("select is_over from wanzoche.worker join wanzoche.log using (log) where name = %s order by worker", self.name),
-            [(True,), (False,)],
+            [(False,)],
         )
         self.assertTrue(other.audit())
 

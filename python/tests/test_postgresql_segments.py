@@ -869,7 +869,7 @@ class Earlier(Rotating):
         a = self.open(BOOK)
         self.assertEqual((self.number(), a.worker), (_log.SCHEMA, "process 2"))
         self.enters(a, 2, "write")  # what the dead one had is finished
-        self.until(lambda: self.server.run("select is_over from wanzoche.worker where worker = 1") == [(True,)])
+        self.until(lambda: self.server.run("select worker from wanzoche.worker") == [(2,)])
         a.rotate()
         self.assertEqual((self.segments(), len(self.standing())), ([(0, 5)], 6))
         self.assertTrue(a.audit() and self.open(BOOK).audit())

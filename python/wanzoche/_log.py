@@ -91,6 +91,7 @@ STATEMENTS = {
     b"dead": "select wanzoche.dead($1, $2, $3)",
     b"seem_dead": "select wanzoche.seem_dead($1, $2, $3)",
     b"look": "select log, declaration, lost, grace, room from wanzoche.log where name = $1",
+    b"sweep": "select wanzoche.sweep($1, $2, $3, $4)",
     b"bury": "select wanzoche.bury($1, $2, $3, $4, $5, $6, $7, $8)",
     b"rotate": "select wanzoche.rotate($1, $2, $3, $4, $5, $6)",
 }
@@ -197,6 +198,8 @@ class Log:
         if not self.only_looks:
             self._arrive()
         self.follow()
+        if not self.only_looks:
+            self._sweep()
 
     def _look_up(self) -> Row:
         """What there is of the log. Raises `StoreError` if there is no such log."""
@@ -507,6 +510,11 @@ class Log:
             self.follow()
         left = [each for each in over if self.replica.has_live(whose, each)]
         return not left or self.bury(whose, left, wakes, even_alive)
+
+    def _sweep(self) -> None:
+        """Forgets the dead that have nothing in progress. Whoever opens the log does so, since each opening adds a worker."""
+        named = sorted({each.worker for each in self.replica.live()})
+        self._call(Call(b"sweep", (self._log, b"%d" % self.place.lines, array(named), self._grace)))
 
     # Moving lines
 

@@ -99,7 +99,7 @@ create table if not exists wanzoche.worker (
     worker int not null,
     process text,  -- for whoever asks who that is: the number of its process, and its machine
     gone timestamptz,  -- when somebody first saw its lock free
-    is_over boolean not null default false,  -- it never comes back, and others may finish what it has in progress
+    is_over boolean not null default false,  -- it never comes back, and others may finish what it has in progress, as if it had no row
     knows int not null default 1,  -- the number of the schema that its package knows: with 1 it reads no segments
     may_be_gone interval,  -- for so long it may be without a session: its grace; null if its package knows a number below 3
     primary key (log, worker)
@@ -113,6 +113,7 @@ alter table wanzoche.worker add column if not exists pid int;  -- the number of 
 alter table wanzoche.worker add column if not exists role oid;  -- who has begun it
 alter table wanzoche.worker add column if not exists lock bigint;  -- an advisory lock that it holds
 alter table wanzoche.worker add column if not exists channel text;  -- by which it is notified
+delete from wanzoche.worker where is_over;
 
 -- A row for each log: who has locked it appends, or moves lines.
 create table if not exists wanzoche.turn (log int primary key);
@@ -255,7 +256,7 @@ end $$;
 -- The worker ends. It has finished what it had in progress.
 create or replace function wanzoche.leave(l int, w int) returns void
 language sql set search_path = pg_catalog, pg_temp as $$
-    update wanzoche.worker set is_over = true where log = l and worker = w;
+    delete from wanzoche.worker where log = l and worker = w;
     delete from wanzoche.waiting where log = l and worker = w
 $$;
 
@@ -454,7 +455,7 @@ begin
         if not exists (select from wanzoche.dead(l, array[whose], grace)) then
             return false;
         end if;
-        update wanzoche.worker x set is_over = true where x.log = l and x.worker = whose;
+        delete from wanzoche.worker x where x.log = l and x.worker = whose;
     end if;
     perform from wanzoche.turn x where x.log = l for update;
     if not even_alive then
@@ -467,6 +468,20 @@ begin
         (random() * 9007199254740991)::bigint);
     perform wanzoche.wake(l, w, wakes);
     return true;
+end $$;
+
+-- The rows of workers that are dead go, if they aren't among those that are named, which have something in progress as far as a caller says
+-- who knows all lines before n. A thousand at most at once, and none of one that has appended a line since.
+create or replace function wanzoche.sweep(l int, n bigint, named int[], grace interval) returns void
+language plpgsql set search_path = pg_catalog, pg_temp as $$
+declare silent int[]; dead int[]; alive int[] := wanzoche.with_session(l, null);
+begin
+    silent := array(select x.worker from wanzoche.worker x
+        where x.log = l and x.worker <> all (named) and x.worker <> all (alive) order by x.worker limit 1000);
+    dead := array(select wanzoche.dead(l, silent, grace));
+    delete from wanzoche.worker x where x.log = l and x.worker = any (dead) and n >= wanzoche.moved(l)
+        and not exists (select from wanzoche.line y where y.log = l and y.place >= n and y.by = x.worker);
+    delete from wanzoche.waiting x where x.log = l and not exists (select from wanzoche.worker y where y.log = l and y.worker = x.worker);
 end $$;
 
 -- Waits until all transactions have ended in which lines are being inserted now: false if that takes more than two seconds. A quick insert
