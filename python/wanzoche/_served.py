@@ -506,7 +506,7 @@ async def _replied(store: ServedStore, request: Request) -> None:
         seconds = clerk.ends_at(request) - time.monotonic()
         if seconds <= 0 and clerk.give_up(request):
             return
-        alarm = loop.call_later(max(seconds, 0.001), event.set)
+        alarm = loop.call_later(min(max(seconds, 0.001), 3600.0), event.set)
         try:
             await event.wait()
         finally:
