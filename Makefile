@@ -171,6 +171,7 @@ test_program: $(program) library
 test_library: library
 	c/tests/run $(OUT)
 	c/tests/run_cpp $(OUT)
+	c/model/run
 
 test_install: all
 	packaging/test $(OUT)
