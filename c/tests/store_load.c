@@ -67,7 +67,7 @@ static void *works(void *given) {
         uint32_t operation = next(&seed) % 3 == 0 ? WRITE : READ;
         bool waits = !kills && next(&seed) % 2 != 0;
         wanzoche_answer a = wanzoche_store_enter(mine, operation, waits ? -1 : (int64_t)(next(&seed) % (kills ? 30 : 3)));
-        if (a.code == WANZOCHE_BLOCKED || a.code == WANZOCHE_LATE) {
+        if (a.code == WANZOCHE_BLOCKED || a.code == WANZOCHE_WITHHELD || a.code == WANZOCHE_LATE) {
             witness->lates++;
             continue;
         }

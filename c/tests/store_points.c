@@ -180,7 +180,7 @@ static void check_others(wanzoche_store *s) {
 /* While it is stopped: each call of another is back, whatever its answer, and what it began is over. */
 static void check_beside_stopped(wanzoche_store *s) {
     wanzoche_answer a = wanzoche_store_enter(s, WRITE, 1), b;
-    CHECK(a.code == WANZOCHE_STARTED || a.code == WANZOCHE_BLOCKED || a.code == WANZOCHE_LATE);
+    CHECK(a.code == WANZOCHE_STARTED || a.code == WANZOCHE_BLOCKED || a.code == WANZOCHE_WITHHELD || a.code == WANZOCHE_LATE);
     if (a.code != WANZOCHE_STARTED) return;
     b = wanzoche_store_leave(s, a.number, 0);
     CHECK(b.code == WANZOCHE_FINISHED || b.code == WANZOCHE_OWED);

@@ -43,7 +43,7 @@ static int fail(wanzoche_store *pool, const char *what, wanzoche_answer answer) 
 static int query(wanzoche_store *pool) {
     while (!ends) {
         wanzoche_answer a = wanzoche_store_enter(pool, QUERY, 500);
-        if (a.code == WANZOCHE_BLOCKED || a.code == WANZOCHE_LATE) continue;
+        if (a.code == WANZOCHE_BLOCKED || a.code == WANZOCHE_WITHHELD || a.code == WANZOCHE_LATE) continue;
         if (a.code != WANZOCHE_STARTED) return fail(pool, "query", a);
         work(5);
         a = wanzoche_store_leave(pool, a.number, -1);
