@@ -216,6 +216,7 @@ class Commands(OnServer, unittest.TestCase):
                 self.assertTrue(told["began"] <= found["seen"] == bar[3])
                 waiting.terminate()
             self.until(lambda: news()["bars"][0][4] is not None)
+            self.assertEqual([each[:4] for each in news()["bars"]], [bar[:4]])  # each line was seen once
             process.terminate()
             self.assertEqual((process.stdout.read(), process.wait(LONGEST)), (b"", 128 + signal.SIGTERM))
 
