@@ -155,7 +155,7 @@ class Strangers(AtOwnServer, unittest.TestCase):
         self.assertTrue(a.audit())
 
     def test_a_dead_one_that_waited_is_passed_over(self):
-        """Though somebody keeps its lock: the next leave wakes another."""
+        """Though somebody keeps its lock: who waits beside it sees that it is dead, and the next leave wakes that one."""
         a, b = self.open(BOOK), self.open(BOOK)
         entry = a.enter("write")
         child = self.child(lambda: self.made(BOOK).enter("write"))
@@ -166,12 +166,13 @@ class Strangers(AtOwnServer, unittest.TestCase):
         os.kill(child, 9)
         os.waitpid(child, 0)
         self.until(lambda: self.stranger.has(key))
-        with mock.patch.object(_clerk, "CHECK", 1000.0):
-            waits = threading.Thread(target=lambda: b.enter("write", timeout=LONGEST).leave())
-            waits.start()
-            self.until(lambda: b._served.clerk._waits_here is not None)
-            entry.leave()
-            waits.join(LONGEST)
+        waits = threading.Thread(target=lambda: b.enter("write", timeout=LONGEST).leave())
+        waits.start()
+        told = "select worker from wanzoche.waiting where since is not null"
+        self.until(lambda: self.server.run(told) == [(2,)])
+        self.assertTrue(self.stranger.has(key))
+        entry.leave()
+        waits.join(LONGEST)
         self.assertTrue(b.audit())
 
     def test_a_flood_costs_nothing(self):

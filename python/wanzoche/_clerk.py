@@ -805,6 +805,8 @@ class Clerk:
         """Of those who wait: looks for the dead, and whether a wake has got lost."""
         self._check_at = time.monotonic() + CHECK if self._has_waiters() else float("inf")
         self._follow()
+        if self._has_waiters():
+            self.log.stop_dead()
         if self._finishes_lost:
             self._bury_dead()
         self._reply_blocked()

@@ -91,6 +91,7 @@ STATEMENTS = {
     b"dead": "select wanzoche.dead($1, $2, $3)",
     b"seem_dead": "select wanzoche.seem_dead($1, $2, $3)",
     b"look": "select log, declaration, lost, grace, room from wanzoche.log where name = $1",
+    b"stop_dead": "select wanzoche.stop_dead($1)",
     b"sweep": "select wanzoche.sweep($1, $2, $3, $4)",
     b"bury": "select wanzoche.bury($1, $2, $3, $4, $5, $6, $7, $8)",
     b"rotate": "select wanzoche.rotate($1, $2, $3, $4, $5, $6)",
@@ -515,6 +516,10 @@ class Log:
         """Forgets the dead that have nothing in progress. Whoever opens the log does so, since each opening adds a worker."""
         named = sorted({each.worker for each in self.replica.live()})
         self._call(Call(b"sweep", (self._log, b"%d" % self.place.lines, array(named), self._grace)))
+
+    def stop_dead(self) -> None:
+        """From now on nobody wakes one that is dead and waited."""
+        self._call(Call(b"stop_dead", (self._log,)))
 
     # Moving lines
 

@@ -300,36 +300,37 @@ begin
     mark := coalesce(mark, known);
 end $$;
 
--- The channel by which a worker is notified.
-create or replace function wanzoche.channel(l int, w int) returns text language sql stable
-return (select coalesce(x.channel, 'wanzoche_' || l || '_' || w) from wanzoche.worker x where x.log = l and x.worker = w);
-
 -- Wakes who has waited longest for each of these operations: a notification with the operation's number on the worker's channel. The caller
--- needs none. One whose session is gone doesn't wait any more. Who gets a notification looks, and trusts no text.
+-- needs none. Who gets a notification looks, and trusts no text. One whose lock nobody has is dead, and doesn't wait any more. To find out
+-- whose lock it is would take longer, while all others wait for their turn: `stop_dead` does so.
 create or replace function wanzoche.wake(l int, w int, operations int[]) returns void
 language plpgsql set search_path = pg_catalog, pg_temp as $$
-declare x record; woken int[] := '{}'; alive int[];
+declare x record; woken int[] := '{}';
 begin
-    for x in select y.operation, y.worker from wanzoche.waiting y
+    for x in select y.operation, y.worker, z.channel, z.lock
+        from wanzoche.waiting y left join wanzoche.worker z on z.log = y.log and z.worker = y.worker
         where y.log = l and y.operation = any (operations) and y.since is not null order by y.since
     loop
         if x.operation = any (woken) then
             continue;
         elsif x.worker = w then
             woken := woken || x.operation;
-            continue;
-        end if;
-        if alive is null then
-            alive := wanzoche.with_session(l, array(select y.worker from wanzoche.waiting y
-                where y.log = l and y.operation = any (operations) and y.since is not null));
-        end if;
-        if x.worker = any (alive) then
-            perform pg_notify(wanzoche.channel(l, x.worker), x.operation::text);
-            woken := woken || x.operation;
-        else
+        elsif pg_try_advisory_xact_lock_shared(coalesce(x.lock, wanzoche.old_key(l, x.worker))) then
             update wanzoche.waiting y set since = null where y.log = l and y.operation = x.operation and y.worker = x.worker;
+        else
+            perform pg_notify(coalesce(x.channel, 'wanzoche_' || l || '_' || x.worker), x.operation::text);
+            woken := woken || x.operation;
         end if;
     end loop;
+end $$;
+
+-- Who has no session doesn't wait any more.
+create or replace function wanzoche.stop_dead(l int) returns void
+language plpgsql set search_path = pg_catalog, pg_temp as $$
+declare waiting int[] := array(select distinct x.worker from wanzoche.waiting x where x.log = l and x.since is not null);
+begin
+    update wanzoche.waiting x set since = null where x.log = l and x.since is not null and x.worker = any (waiting)
+        and x.worker <> all (wanzoche.with_session(l, waiting));
 end $$;
 
 -- Appends the finishes of these activations of worker `whose` behind line `final`, but for those that are over: they are owed whatever came
@@ -392,7 +393,8 @@ begin
             on conflict (log, operation, worker) do update set since = excluded.since where waiting.since is null;
     end if;
     if listens then
-        execute format('listen %I', wanzoche.channel(l, w));
+        execute (select format('listen %I', coalesce(x.channel, 'wanzoche_' || l || '_' || w)) from wanzoche.worker x
+            where x.log = l and x.worker = w);
     end if;
     if wakes <> '{}' then
         perform wanzoche.wake(l, w, wakes);
