@@ -222,10 +222,11 @@ class Beside:
 def declared_by_library(path: str, is_alone: bool) -> Optional[str]:
     """The declaration of a store that the C library's processes had open, and nobody has now; None if there is no page of theirs. `is_alone`
     is whether the journal is locked for this process alone. Raises `StoreInUse` if somebody may have it open."""
-    try:
-        fd = open_file(path, os.O_RDWR)
-    except FileNotFoundError:
-        return None
+    with telling(path, "can't be opened"):
+        try:
+            fd = open_file(path, os.O_RDWR)
+        except FileNotFoundError:
+            return None
     try:
         magic, version, length = _HEAD.unpack(os.pread(fd, _HEAD.size, 0).ljust(_HEAD.size, b"\0"))
         if magic != _MAGIC or version != OF_LIBRARY:
