@@ -685,8 +685,8 @@ class Refusals(InFolder, unittest.TestCase):
             pass
         with open(self.file + ".shared", "r+b") as file:
             file.seek(8)
-            file.write(b"\2")
-        self.refused(StoreError, "is of version 2, and this package has 1$")
+            file.write(b"\3")
+        self.refused(StoreError, "is of version 3, and this package has 1$")
 
     def test_a_program_that_has_the_file_to_itself(self):
         with Paths(BOOK, store=self.file):
