@@ -9,7 +9,6 @@
 
 #include <errno.h>
 #include <fcntl.h>
-#include <linux/futex.h>
 #include <stdatomic.h>
 #include <stdbool.h>
 #include <stdint.h>
@@ -40,6 +39,11 @@ static inline bool goes_on(const char *call) {
     return error <= 0;
 }
 
+/* As linux/futex.h has them, which isn't beside each C library. */
+#define FUTEX_WAKE 1
+#define FUTEX_WAIT_BITSET 9
+#define FUTEX_PRIVATE 128
+
 #define MILLISECOND UINT64_C(1000000)
 #define NEVER UINT64_MAX
 
@@ -62,16 +66,17 @@ static inline void pause_for(uint64_t nanoseconds) {
 }
 
 /* So long as the word is what was seen, sleeps until it is woken, that time has
-** come, or a signal has. `shared` is 0 for words that other processes share. */
-static inline void futex_wait(_Atomic uint32_t *word, uint32_t seen, uint64_t until, int is_private) {
+** come, or a signal has. The last is FUTEX_PRIVATE for a word of this process
+** alone, and else 0. */
+static inline void futex_wait(_Atomic uint32_t *word, uint32_t seen, uint64_t until, int private) {
     struct timespec t = time_of(until);
     if (!goes_on("futex_wait")) return;
-    syscall(SYS_futex, word, FUTEX_WAIT_BITSET | is_private, seen, until == NEVER ? NULL : &t, NULL, FUTEX_BITSET_MATCH_ANY);
+    syscall(SYS_futex, word, FUTEX_WAIT_BITSET | private, seen, until == NEVER ? NULL : &t, NULL, UINT32_MAX);
 }
 
-static inline void futex_wake(_Atomic uint32_t *word, int most, int is_private) {
+static inline void futex_wake(_Atomic uint32_t *word, int most, int private) {
     if (!goes_on("futex_wake")) return;
-    syscall(SYS_futex, word, FUTEX_WAKE | is_private, most, NULL, NULL, 0);
+    syscall(SYS_futex, word, FUTEX_WAKE | private, most, NULL, NULL, 0);
 }
 
 /* A lock of the open file on bytes of it: F_OFD_SETLK or F_OFD_GETLK. */

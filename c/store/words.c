@@ -13,13 +13,13 @@ bool lock_until(_Atomic uint32_t *lock, uint64_t until) {
     if (atomic_compare_exchange_strong(lock, &free, 1)) return true;
     while (atomic_exchange(lock, 2) != 0) {
         if (now() >= until) return false;
-        futex_wait(lock, 2, until, FUTEX_PRIVATE_FLAG);
+        futex_wait(lock, 2, until, FUTEX_PRIVATE);
     }
     return true;
 }
 
 void unlock(_Atomic uint32_t *lock) {
-    if (atomic_exchange(lock, 0) == 2) futex_wake(lock, 1, FUTEX_PRIVATE_FLAG);
+    if (atomic_exchange(lock, 0) == 2) futex_wake(lock, 1, FUTEX_PRIVATE);
 }
 
 uint64_t deadline(int64_t milliseconds) {
