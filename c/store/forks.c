@@ -9,9 +9,8 @@
 #include "store.h"
 
 static pthread_mutex_t all = PTHREAD_MUTEX_INITIALIZER;
-static pthread_once_t once = PTHREAD_ONCE_INIT;
 static store *first;
-static int registered;
+static bool is_registered;
 
 static void before(void) {
     pthread_mutex_lock(&all);
@@ -35,20 +34,16 @@ static void in_child(void) {
     pthread_mutex_unlock(&all);
 }
 
-static void begin(void) {
-    registered = pthread_atfork(before, in_parent, in_child);
-}
-
 bool add_to_forks(store *s) {
-    pthread_once(&once, begin);
-    if (registered != 0) return refuse_for_memory(s);
     pthread_mutex_lock(&all);
-    s->next = first;
-    s->previous = NULL;
-    if (first != NULL) first->previous = s;
-    first = s;
+    if (!is_registered) is_registered = pthread_atfork(before, in_parent, in_child) == 0;
+    if (is_registered) {
+        s->next = first;
+        if (first != NULL) first->previous = s;
+        first = s;
+    }
     pthread_mutex_unlock(&all);
-    return true;
+    return is_registered || refuse_for_memory(s);
 }
 
 void take_from_forks(store *s) {

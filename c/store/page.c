@@ -148,7 +148,7 @@ static bool map_page(store *s) {
     struct stat one, other;
     void *page = MAP_FAILED;
     int file = open_beside_others(s->folder, s->beside_name, O_RDWR, 0);
-    bool is_same = file >= 0 && fstat(file, &one) == 0 && fstat(s->beside, &other) == 0 && one.st_ino == other.st_ino && one.st_dev == other.st_dev;
+    bool is_same = file >= 0 && file_state(file, &one) == 0 && file_state(s->beside, &other) == 0 && one.st_ino == other.st_ino && one.st_dev == other.st_dev;
     if (is_same && goes_on("mmap")) page = mmap(NULL, sizeof(struct page), PROT_READ | PROT_WRITE, MAP_SHARED, file, 0);
     if (page == MAP_FAILED) refuse_by_system(s, "has a file beside it that can't be mapped");
     else s->page = page;

@@ -90,12 +90,15 @@ static inline int lock_file(int file, int kind) {
     return goes_on("flock") ? flock(file, kind | LOCK_NB) : -1;
 }
 
+/* The kernel's own calls, since glibc has these under new names from 2.33 on, and
+** a wheel is for older ones, too. On the processors that this is built for a C
+** library's struct stat is the kernel's. */
 static inline int file_state(int file, struct stat *state) {
-    return goes_on("fstat") ? fstat(file, state) : -1;
+    return goes_on("fstat") ? (int)syscall(SYS_fstat, file, state) : -1;
 }
 
 static inline int state_at(int folder, const char *name, struct stat *state) {
-    return goes_on("fstatat") ? fstatat(folder, name, state, AT_SYMLINK_NOFOLLOW) : -1;
+    return goes_on("fstatat") ? (int)syscall(SYS_newfstatat, folder, name, state, AT_SYMLINK_NOFOLLOW) : -1;
 }
 
 static inline int link_at(int folder, const char *from, const char *to) {
