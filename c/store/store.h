@@ -45,7 +45,7 @@ enum { SLOT_CLAIMED = 1, SLOT_WAITING = 2, SLOT_CALLED = 3, SLOT_OWED = 4, SLOT_
 #ifndef SLICE
 #define SLICE (40 * MILLISECOND) /* after so long who sleeps looks for the dead */
 #endif
-#define PATIENCE (50 * MILLISECOND)       /* so long a call waits for its turn, whatever its limit */
+#define PATIENCE (45 * MILLISECOND)       /* so long a call waits for its turn, whatever its limit */
 #define CHUNK ((size_t)1 << 20)
 #define HEAD "journal 3 room 1048576\n"   /* what lines are offered to the core behind */
 #define HEAD_LENGTH (sizeof HEAD - 1)

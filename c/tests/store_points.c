@@ -177,9 +177,19 @@ static void check_others(wanzoche_store *s) {
     CHECK(is_closed(fresh));
 }
 
+static uint64_t longest; /* of the calls beside one that is stopped, in nanoseconds, with a limit of 1 millisecond or none */
+
+static uint64_t time_now(void) {
+    struct timespec t;
+    clock_gettime(CLOCK_MONOTONIC, &t);
+    return (uint64_t)t.tv_sec * 1000000000u + (uint64_t)t.tv_nsec;
+}
+
 /* While it is stopped: each call of another is back, whatever its answer, and what it began is over. */
 static void check_beside_stopped(wanzoche_store *s) {
+    uint64_t begun = time_now();
     wanzoche_answer a = wanzoche_store_enter(s, WRITE, 1), b;
+    if (time_now() - begun > longest) longest = time_now() - begun;
     CHECK(a.code == WANZOCHE_STARTED || a.code == WANZOCHE_BLOCKED || a.code == WANZOCHE_WITHHELD || a.code == WANZOCHE_LATE);
     if (a.code != WANZOCHE_STARTED) return;
     b = wanzoche_store_leave(s, a.number, 0);
@@ -272,6 +282,7 @@ int main(int arguments, char **argument) {
         }
     CHECK(how != OWE || owed > 0);
     remove_all();
+    if (how == STOP) printf("store_points: beside one that is stopped a call with a limit of 1 ms took %.1f ms at most\n", (double)longest / 1e6);
     printf("store_points: %s at %u points, %d failures\n", names[how], cut, failures);
     return failures != 0;
 }
