@@ -24,8 +24,8 @@
 **
 ** LIMITS. Each call that may wait has a time limit in milliseconds: -1 for
 ** none, and 0 for a try. It returns within the limit and 60 ms, whoever is
-** stopped or dies, but for what the disk and a busy machine take. A limit below 45 still leaves a
-** call 45 ms for its turn at the file.
+** stopped or dies, but for what the disk and a busy machine take. A limit
+** below 45 still leaves a call 45 ms for its turn at the file.
 **
 ** ANSWERS. As in wanzoche.h: a code and a number. wanzoche_store_message has
 ** words for what went wrong last. Whatever a call answers, each operation in
