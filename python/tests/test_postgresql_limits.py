@@ -202,18 +202,9 @@ class Outages(Held, unittest.TestCase):
 
     def test_each_call(self):
         entry = self.a.enter("write")
-        for call in (
-            lambda: self.a.try_enter("read"),
-            lambda: self.a.enter("read"),
-            lambda: self.a.enter("read", timeout=0),
-            lambda: self.a.enter("read", timeout=LONGEST),
-            lambda: asyncio.run(self.reads()),
-            self.a.report,
-            self.a.journal,
-            lambda: self.a.why("read"),
-            entry.look,
-            entry.leave,
-        ):
+        starts = [lambda: self.a.try_enter("read"), lambda: self.a.enter("read"), lambda: asyncio.run(self.reads())]
+        starts += [lambda: self.a.enter("read", timeout=0), lambda: self.a.enter("read", timeout=LONGEST)]
+        for call in (*starts, self.a.report, self.a.journal, lambda: self.a.why("read"), entry.look, entry.leave):
             self.is_silent(call)
             self.proxy.release()
             self.until(lambda: self.a._served.clerk.away is None and self.a._served._log.session.asked_at is None)

@@ -26,6 +26,8 @@ from ._texts import Path
 
 CHECK = 1.0
 """After so many seconds who waits looks for dead workers, and for a wake that somebody owed who died."""
+SELDOM = 5.0
+"""After so many seconds it also looks whether somebody is dead who waits, and would be woken in vain."""
 TOGETHER = 64
 """At most so many lines go in one append."""
 BEATEN = 8
@@ -109,6 +111,7 @@ class Clerk:
         self._refused: List[Request] = []  # who is told so then
         self._outage: Optional[Outage] = None  # of refusals, since an append or all that was to be done has succeeded
         self._check_at = float("inf")
+        self._stop_dead_at = time.monotonic() + SELDOM * random.random()  # of many processes one after another
         self.thread = threading.Thread(target=self._run, name="wanzoche clerk", daemon=True)
 
     # For others
@@ -805,7 +808,8 @@ class Clerk:
         """Of those who wait: looks for the dead, and whether a wake has got lost."""
         self._check_at = time.monotonic() + CHECK if self._has_waiters() else float("inf")
         self._follow()
-        if self._has_waiters():
+        if self._has_waiters() and time.monotonic() >= self._stop_dead_at:
+            self._stop_dead_at = time.monotonic() + SELDOM
             self.log.stop_dead()
         if self._finishes_lost:
             self._bury_dead()
