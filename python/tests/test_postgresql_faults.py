@@ -571,8 +571,8 @@ class Removals(Faulty, unittest.TestCase):
         self.assertFalse(self.removes())
 
     def test_one_that_dies_has_it(self):
-        self.dies(lambda: self.made(BOOK))
         begun = time.monotonic()
+        self.dies(lambda: self.made(BOOK))
         self.until(self.removes)
         self.assertGreater(time.monotonic() - begun, self.grace - 0.1)
 
