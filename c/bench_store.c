@@ -69,15 +69,28 @@ static bool works(const char *how, uint64_t *count) {
     return at_the_store(count, strcmp(how, "writes") == 0);
 }
 
+/* The journal with this end of its name goes: whether there was one. */
+static bool remove_with(const char *end) {
+    char name[600];
+    snprintf(name, sizeof name, "%s%s", file, end);
+    return unlink(name) == 0;
+}
+
+static void begin_anew(void) {
+    char end[16] = ".shared";
+    int moved = 0;
+    remove_with("");
+    remove_with(end);
+    do snprintf(end, sizeof end, ".%d", ++moved);
+    while (remove_with(end));
+}
+
 /* Entries a second of so many processes together; negative if something failed. */
 static double rate_of(const char *how, int processes, double seconds) {
     uint64_t sum = 0;
     bool failed = false;
     int status;
-    unlink(file);
-    snprintf(file + strlen(file), 16, ".shared");
-    unlink(file);
-    file[strlen(file) - strlen(".shared")] = 0;
+    begin_anew();
     shared[0] = (uint64_t)((now() + seconds) * 1e6);
     for (int k = 1; k <= processes; k++) {
         shared[k] = 0;
@@ -104,6 +117,6 @@ int main(int count, char **given) {
         printf("%2d processes: by hand %.0f a second, reads %.0f, reads and writes %.0f\n", processes[k], hand, reads,
                rate_of("writes", processes[k], seconds));
     }
-    unlink(file);
+    begin_anew();
     return 0;
 }
