@@ -399,6 +399,10 @@ const char *wanzoche_words(uint32_t code) {
     case WANZOCHE_ALIVE: return "alive";
     case WANZOCHE_RECOVERED: return "recovered";
     case WANZOCHE_COUNTED: return "counted";
+    case WANZOCHE_CALLED: return "called";
+    case WANZOCHE_INTERRUPTED: return "interrupted";
+    case WANZOCHE_SYNCED: return "synced";
+    case WANZOCHE_LOST: return "lost";
     default: return "no such code";
     }
 }

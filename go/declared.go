@@ -1,6 +1,10 @@
 package wanzoche
 
-import "regexp"
+import (
+	"regexp"
+	"strconv"
+	"strings"
+)
 
 // declaredPath is one path of a declaration.
 type declaredPath struct {
@@ -62,4 +66,14 @@ func (d *declared) readPath(words []string, at int, resource string) int {
 	}
 	d.paths = append(d.paths, path)
 	return at
+}
+
+// number is that of an operation; the error lists those that are declared.
+func (d *declared) number(name string) (uint32, error) {
+	number, ok := d.numbers[name]
+	if !ok {
+		all := strings.Join(d.operations, ", ")
+		return 0, &unknownOperation{"wanzoche: no operation " + strconv.Quote(name) + " is declared; there are " + all}
+	}
+	return number, nil
 }

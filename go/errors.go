@@ -71,14 +71,14 @@ func errorOf(code uint32) error {
 // Activity is an operation in progress.
 type Activity struct {
 	Operation string
-	Worker    string // the name that WithName gave, or `worker 3`
+	Worker    string // the name that WithName gave, or `worker 3`; at a store the opening, as `process 3`
 	Token     uint64
 }
 
 // Waiter is somebody who waits.
 type Waiter struct {
 	Operation string
-	Worker    string // the name that WithName gave, or `worker 3`
+	Worker    string // the name that WithName gave, or `worker 3`; at a store this and the next two are empty
 	Priority  uint32
 	Waited    time.Duration
 }
@@ -94,6 +94,7 @@ type Blocked struct {
 	InProgress []Activity // what of the path is in progress, in the order of the starts
 	MayBegin   []string   // the operations of the path that no path forbids now
 	cause      error
+	unseen     bool // whether nobody knows what is in progress, or since when Behind waits: at a store
 }
 
 // Error says it in words: `remove is blocked: path 0 of slot: deposit ; remove; in progress: deposit by worker 3`, or
@@ -107,6 +108,12 @@ func (b *Blocked) Error() string {
 }
 
 func (b *Blocked) words() string {
+	if w := b.Behind; w != nil && b.unseen {
+		return fmt.Sprintf("%s is withheld: behind %s, which waits", b.Operation, w.Operation)
+	}
+	if b.unseen {
+		return fmt.Sprintf("%s is blocked: path %d of %s: %s", b.Operation, b.Path, b.Resource, b.Text)
+	}
 	if w := b.Behind; w != nil {
 		waited := w.Waited.Round(time.Millisecond)
 		return fmt.Sprintf("%s is withheld: behind %s by %s, which has waited %s", b.Operation, w.Operation, w.Worker, waited)

@@ -60,6 +60,7 @@ const MostLines = C.WANZOCHE_MOST_LINES
 type answer struct {
 	code   uint32
 	number uint64
+	words  string // of a store: the library's for a failure
 }
 
 // activation is an operation in progress, by the numbers of the library.
@@ -89,7 +90,7 @@ type handle struct {
 }
 
 func answerOf(given C.wanzoche_answer) answer {
-	return answer{uint32(given.code), uint64(given.number)}
+	return answer{code: uint32(given.code), number: uint64(given.number)}
 }
 
 // bytesOf is where a text of Go lies, for a call that doesn't keep it; nil if it is empty.

@@ -93,7 +93,7 @@ func (p *Paths) next(now time.Duration) answer {
 	}
 	for place, w := range places {
 		if p.handle.canStart(w.operation).code == codeCanStart {
-			return answer{codeNext, uint64(place)}
+			return answer{code: codeNext, number: uint64(place)}
 		}
 	}
 	return answer{code: codeNobody}

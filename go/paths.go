@@ -4,7 +4,6 @@ import (
 	"context"
 	"runtime"
 	"strconv"
-	"strings"
 	"sync"
 	"time"
 )
@@ -42,9 +41,10 @@ type Paths struct {
 	closed   bool
 }
 
-// Op is an operation of some paths, looked up once.
+// Op is an operation of some paths or a store, looked up once.
 type Op struct {
 	paths  *Paths
+	store  *Store
 	number uint32
 }
 
@@ -89,12 +89,11 @@ func (p *Paths) Close() {
 
 // Op looks an operation up. Keep it. The error is ErrUnknownOperation, and its words list those that are declared.
 func (p *Paths) Op(name string) (Op, error) {
-	number, ok := p.declared.numbers[name]
-	if !ok {
-		return Op{}, &unknownOperation{"wanzoche: no operation " + strconv.Quote(name) + " is declared; there are " +
-			strings.Join(p.declared.operations, ", ")}
+	number, err := p.declared.number(name)
+	if err != nil {
+		return Op{}, err
 	}
-	return Op{p, number}, nil
+	return Op{paths: p, number: number}, nil
 }
 
 // Enter begins an operation when the paths admit it and it isn't withheld for one who waits, and waits until then, but no longer than the

@@ -35,8 +35,13 @@
 **
 ** THREADS. All calls of an opened store may come from any thread at any time.
 ** While wanzoche_store_close runs, others that wait are answered by
-** WANZOCHE_CLOSED; no call may come when it has begun. No call is a cancellation
-** point, and none is made in a signal handler. A signal doesn't end a call.
+** WANZOCHE_CLOSED; no call may come when it has begun, but for those that come
+** behind wanzoche_store_stop. No call is a cancellation point, and none is made in
+** a signal handler. A signal ends only wanzoche_store_wait and
+** wanzoche_store_listen.
+**
+** OTHER LANGUAGES, whose signals raise exceptions, whose tasks aren't threads, and
+** whose loops may not sleep, have what they need from wanzoche_store_begin on.
 **
 ** FORKS. The child of a fork has no part in the store: each call answers
 ** WANZOCHE_FORKED, and only wanzoche_store_close does something, which is to
@@ -86,7 +91,11 @@ enum {
     WANZOCHE_FORKED = 72,            /* it is the parent's */
     WANZOCHE_ALIVE = 73,             /* the worker isn't dead */
     WANZOCHE_RECOVERED = 74,         /* number: how many were finished */
-    WANZOCHE_COUNTED = 75            /* number: how many there are */
+    WANZOCHE_COUNTED = 75,           /* number: how many there are */
+    WANZOCHE_CALLED = 76,            /* it may ask again */
+    WANZOCHE_INTERRUPTED = 77,       /* a signal came, or wanzoche_store_ring */
+    WANZOCHE_SYNCED = 78,            /* it is on the disk, if the store is synced */
+    WANZOCHE_LOST = 79               /* others have finished it */
 };
 
 /* A size that is enough for each message of a store. */
@@ -99,8 +108,8 @@ enum {
 ** Beside it lies FILE.shared, at which the processes meet.
 **
 ** WANZOCHE_OPENED      *store is the opening, which wanzoche_store_close ends
-** WANZOCHE_IN_USE      processes of the Python package have it open, or one that
-**                      has it to itself, as `pathsys follow`; or it is open
+** WANZOCHE_IN_USE      one process has it to itself, as `pathsys follow`, or those
+**                      of an older Python package have it open; or it is open
 **                      where it has another file beside it
 ** WANZOCHE_OTHER_DECLARATION
 **                      the message says where the two differ first
@@ -261,10 +270,203 @@ int64_t wanzoche_store_operation(wanzoche_store *store, const char *name, size_t
 uint32_t wanzoche_store_worker(const wanzoche_store *store);
 
 /*
-** Write in words why the last call failed that failed, of all threads, cut to
-** the size of the buffer; nothing if none did.
+** Write in words why the last call of this thread failed that failed, of any
+** store, cut to the size of the buffer; nothing if none did.
 */
 void wanzoche_store_message(wanzoche_store *store, char *buffer, size_t size);
+
+/* One who waits. */
+typedef struct wanzoche_store_waiter {
+    uint32_t operation, priority;
+    uint32_t worker;  /* of which opening */
+    uint32_t caller;  /* who it is there, as its record says; 0 if it has none */
+    uint64_t waited;  /* for how many milliseconds */
+    uint64_t process; /* the number that its process gave itself; 0 if it isn't known */
+} wanzoche_store_waiter;
+
+/*
+** Who begins an operation by steps, waits for it, has it in progress, or has ended
+** it. All bytes are zero before it is begun first, and only these calls write it. It
+** stays where it is while it waits or is live.
+*/
+typedef struct wanzoche_store_record {
+    uint64_t number;   /* its activation while it is live, and after that */
+    uint64_t answered; /* the number of the last answer */
+    uint32_t caller; /* who has begun it last, or tried to */
+    bool is_live;    /* whether it is in progress */
+    bool is_waiting; /* whether it stands among those that wait */
+    bool looks, rings;
+    uint32_t operation, priority, place, is_busy;
+    uint64_t ticket, arrived, opens, looks_at, end;
+    wanzoche_store_waiter behind; /* after WANZOCHE_WITHHELD: for whom */
+} wanzoche_store_record;
+
+/* The caller of a record where a program doesn't know it, as of work that moves
+** between threads. */
+#define WANZOCHE_NO_CALLER UINT32_MAX
+
+/* Whether one that isn't admitted is to wait. */
+enum {
+    WANZOCHE_TRY = 0,    /* it doesn't wait, or not any more */
+    WANZOCHE_WAIT = 1,   /* it stands among those that wait, and sleeps by wanzoche_store_wait */
+    WANZOCHE_LISTEN = 2  /* the same, and another thread listens for it by wanzoche_store_listen */
+};
+
+/*
+** Try once to begin an operation, in one turn, without a wait for another's
+** finish or for the disk. What is begun stands in the record before the call
+** returns: nothing is lost if the caller's own flow is cut off there, as where a
+** signal raises an exception. The limit is that of the wait for the turn alone: 0
+** if it may not sleep for that at all.
+**
+** The caller is a task or a thread, by a number of the program's choice; 0 is this
+** thread of the system. What a caller has in progress isn't waited for while it
+** waits. What WANZOCHE_NO_CALLER begins is known of nobody, so it counts as running
+** also while whoever has it waits, who may wait for who waits for it, until a door
+** opens.
+**
+** WANZOCHE_STARTED  it is live. Tell nobody of it before wanzoche_store_sync
+** WANZOCHE_BLOCKED, WANZOCHE_WITHHELD
+**                   if it is to wait, it stands among those that wait: sleep, and
+**                   begin it again. Else it doesn't wait any more
+** WANZOCHE_LATE     no turn was to be had in time; the record is as it was
+** WANZOCHE_NOT_YOURS
+**                   it is live already, or another thread has the record in a
+**                   call; nothing changed
+** WANZOCHE_STALE    the record is null
+** others            as of wanzoche_store_enter; it isn't live, and doesn't wait
+*/
+WANZOCHE_CHECKED
+wanzoche_answer wanzoche_store_begin(wanzoche_store *store, uint32_t operation, uint32_t priority, uint32_t caller, uint32_t waits,
+                                     wanzoche_store_record *record, int64_t limit);
+
+/*
+** Sleep until one that waits may ask again.
+**
+** WANZOCHE_CALLED      begin it again. It isn't always admitted then
+** WANZOCHE_INTERRUPTED a signal has come; it keeps its place
+** WANZOCHE_LATE        so many milliseconds are over; likewise
+** WANZOCHE_STALE       it doesn't wait
+** WANZOCHE_NOT_YOURS, WANZOCHE_CLOSED, WANZOCHE_FORKED
+*/
+WANZOCHE_CHECKED
+wanzoche_answer wanzoche_store_wait(wanzoche_store *store, wanzoche_store_record *record, int64_t limit);
+
+/*
+** Call a record that waits: wanzoche_store_wait answers WANZOCHE_CALLED in the thread
+** that sleeps by it, or is about to. So any thread can end what another does by steps:
+** it says so where that one looks after each step, and then wakes its record. This
+** ends no wait for a turn, so such steps have limits.
+**
+** A record that doesn't wait stays as it is. It has to be there until the call has
+** returned; a null one is none.
+*/
+void wanzoche_store_wake(wanzoche_store *store, wanzoche_store_record *record);
+
+/*
+** Sleep until one of these may ask again, of those that were begun with
+** WANZOCHE_LISTEN. One thread does so for all tasks of a program; while it does,
+** others may begin and end these records, but not give their memory back.
+**
+** WANZOCHE_CALLED      the number is the place of the record in the array, from 0
+** WANZOCHE_INTERRUPTED wanzoche_store_ring was called since `heard` was written
+**                      last, which is done now; or a signal has come
+** WANZOCHE_LATE        so many milliseconds are over
+** WANZOCHE_CLOSED, WANZOCHE_FORKED
+**
+** Whoever has begun another record, or again one that still waits, rings. So the
+** loop of a program is: listen for what there is; if it was rung, gather again what
+** there is.
+*/
+WANZOCHE_CHECKED
+wanzoche_answer wanzoche_store_listen(wanzoche_store *store, wanzoche_store_record *const *records, size_t count, uint32_t *heard,
+                                      int64_t limit);
+void wanzoche_store_ring(wanzoche_store *store);
+
+/*
+** End what stands in a record: the operation, if it is live, without a wait for the
+** disk; and else its waiting. The limit is as of wanzoche_store_begin.
+**
+** WANZOCHE_FINISHED, WANZOCHE_OWED
+**                   as of wanzoche_store_leave. With a limit of 0 it answers
+**                   WANZOCHE_LATE in place of WANZOCHE_OWED
+** WANZOCHE_STALE    it wasn't live; it doesn't wait any more
+** WANZOCHE_LOST     others have finished it before, by wanzoche_store_recover
+** WANZOCHE_SYSTEM, WANZOCHE_LATE, WANZOCHE_OUT_OF_MEMORY
+**                   it is live: end it again
+** others            it is over for this process
+**
+** WANZOCHE_NOT_YOURS, and the record is as it was, if another thread has it in a
+** call.
+*/
+wanzoche_answer wanzoche_store_end(wanzoche_store *store, wanzoche_store_record *record, int64_t limit);
+
+/*
+** Wait until what was last begun or ended by a record is on the disk: as those calls
+** wait that have no record. WANZOCHE_SYNCED, or WANZOCHE_UNSYNCED and others as of
+** wanzoche_store_enter.
+*/
+WANZOCHE_CHECKED
+wanzoche_answer wanzoche_store_sync(wanzoche_store *store, const wanzoche_store_record *record);
+
+/*
+** End what is live in a record, unless that is null, and then begin and end an
+** operation if it is admitted, all in one turn: no line of another comes between.
+** Behind a record it is withheld for nobody who waits.
+**
+** WANZOCHE_STARTED  the number is that of its activation, which is over
+** WANZOCHE_BLOCKED, WANZOCHE_WITHHELD
+**                   it wasn't begun
+** others            as of wanzoche_store_end for the record; then it wasn't begun
+*/
+WANZOCHE_CHECKED
+wanzoche_answer wanzoche_store_pass(wanzoche_store *store, uint32_t operation, wanzoche_store_record *record, int64_t limit);
+
+/*
+** Whether a start of one who comes now would be admitted: as
+** wanzoche_store_can_start, but also WANZOCHE_WITHHELD, with for whom. The caller is
+** as of a record.
+*/
+WANZOCHE_CHECKED
+wanzoche_answer wanzoche_store_may_start(wanzoche_store *store, uint32_t operation, uint32_t priority, uint32_t caller,
+                                         wanzoche_store_waiter *behind, int64_t limit);
+
+/*
+** Tell who waits, in all processes, in their order. WANZOCHE_COUNTED, and the first
+** of them, as many as there is room for, are in the array; others as of
+** wanzoche_store_enter.
+*/
+WANZOCHE_CHECKED
+wanzoche_answer wanzoche_store_list_waiting(wanzoche_store *store, wanzoche_store_waiter *waiting, size_t room, int64_t limit);
+
+/* What an opening has done by itself: it has finished an operation of a dead worker,
+** or moved the journal's file away. */
+enum { WANZOCHE_FINISHED_LOST = 1, WANZOCHE_MOVED = 2 };
+typedef struct wanzoche_store_news {
+    uint32_t kind, worker, operation;
+    uint64_t number; /* the activation; or what the file's new name ends with */
+} wanzoche_store_news;
+
+/* The next of these that wasn't told yet: false if there is none, or another thread
+** is in its turn. It sleeps for nothing, and keeps the last 64. */
+WANZOCHE_CHECKED
+bool wanzoche_store_next_news(wanzoche_store *store, wanzoche_store_news *news);
+
+/* A number that is another one when a line was written since, or somebody has begun
+** or ceased to wait. It needs no turn. 0 if the opening is over. */
+uint64_t wanzoche_store_stamp(wanzoche_store *store);
+
+/* The descriptor by which others see that this opening is alive: it counts so as
+** long as a process has it, as one that a program has begun with it. -1 if the
+** opening is over. */
+int wanzoche_store_presence(const wanzoche_store *store);
+
+/*
+** End an opening as wanzoche_store_close does, with the same answers, but keep its
+** memory: calls of other threads may come still, and get WANZOCHE_CLOSED.
+** wanzoche_store_close gives the memory back then.
+*/
+wanzoche_answer wanzoche_store_stop(wanzoche_store *store, int64_t limit);
 
 #ifdef __cplusplus
 }

@@ -33,8 +33,8 @@ CORE = "_core.abi3.so"
 # What `make library core` reads, in the repository and in a package of sources.
 SOURCES = ["Makefile", "VERSION", "c/wanzoche.c", "dist/system.c", "dist/NOTICE"]
 SOURCES += ["include/" + name for name in ("wanzoche.h", "wanzoche_monitor.h", "wanzoche_store.h")]
-_STORE = "append ask enter files forks journal opening order page presence rotate settle sync trouble turn waiting whole words"
-SOURCES += ["c/store/{}.c".format(name) for name in _STORE.split()] + ["c/store/store.h", "c/store/system.h"]
+_STORE = "append ask closing enter files forks journal opening order page presence record rotate settle sleeping sync trouble turn waiting who whole words"
+SOURCES += ["c/store/{}.c".format(name) for name in _STORE.split()] + ["c/store/{}.h".format(name) for name in ("page", "store", "system")]
 SOURCES += ["python/wanzoche/" + name for name in ("_core.c", "_order.c", "_order.h")]
 SOURCES += ["dist/{}/path_c.s".format(processor) for processor in ("x86_64", "aarch64")]
 # The command's man page and completions, by where pip puts them below the prefix.

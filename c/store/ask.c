@@ -46,7 +46,7 @@ static wanzoche_answer hand_out(struct text *text, char *buffer, size_t size) {
 }
 
 /* In a turn, before a question is answered: what the dead had is over, unless it is to stay. */
-static void look(store *s, struct written *written) {
+void look(store *s, struct written *written) {
     if (!bury(s, false)) return;
     *written = note_written(s);
     announce(s);
@@ -62,8 +62,8 @@ static wanzoche_answer can_start(store *s, uint32_t operation, int64_t limit) {
     return wait_for_sync(s, written, answer);
 }
 
-/* In a turn: the number that a worker's process gave itself; 0 if it isn't known. */
-static uint64_t process_of(store *s, uint32_t worker) {
+/* The number that a worker's process gave itself; 0 if it isn't known. */
+uint64_t process_of(store *s, uint32_t worker) {
     uint64_t process = 0;
     if (worker >= FIRST_OPENER || read_at(s->beside, &process, sizeof process, place_of_process(s, worker)) != sizeof process) return 0;
     return process;

@@ -51,5 +51,6 @@ void take_from_forks(store *s) {
     if (s->next != NULL) s->next->previous = s->previous;
     if (s->previous != NULL) s->previous->next = s->next;
     else if (first == s) first = s->next;
+    s->next = s->previous = NULL;
     pthread_mutex_unlock(&all);
 }

@@ -1,4 +1,4 @@
-/* Opening a store, and ending that. */
+/* Opening a store. */
 #include <pthread.h>
 #include <stdio.h>
 #include <sys/mman.h>
@@ -182,25 +182,6 @@ static bool open_all(store *s, const char *file, const char *text, size_t length
            read_ahead(s, until) && join(s, until);
 }
 
-/* Gives back whatever there is. */
-static void take_apart(store *s) {
-    take_from_forks(s);
-    if (!s->is_forked) {
-        if (s->page != NULL) munmap(s->page, sizeof *s->page);
-        if (s->beside >= 0) close(s->beside);
-        if (s->folder >= 0) close(s->folder);
-        wanzoche_close(&s->replica.system); /* a thread that isn't there may have been in a call of it, in a child */
-    }
-    if (!s->is_forked) let_go(s->door);
-    if (!s->is_forked) let_go(s->replica.file);
-    free(s->names);
-    free(s->declaration);
-    free(s->buffer);
-    free(s->list);
-    free(s->held);
-    free(s);
-}
-
 wanzoche_answer wanzoche_store_open(wanzoche_store **store, const char *file, const char *text, size_t length,
                                     const wanzoche_store_options *options, int64_t limit, char *message, size_t size) {
     wanzoche_answer answer = {WANZOCHE_OPENED, 0};
@@ -221,71 +202,6 @@ wanzoche_answer wanzoche_store_open(wanzoche_store **store, const char *file, co
         if (message != NULL && size > 0) snprintf(message, size, "%s", s->message);
         take_apart(s);
     }
-    pthread_setcancelstate(cancel, &cancel);
-    return answer;
-}
-
-/* Ending */
-
-/* Of what can't be finished in time, leaves the finishes to others. */
-static void owe_all(store *s) {
-    uint32_t count;
-    while (!lock_until(&s->lock, NEVER)) continue;
-    if (s->is_over || !list_live(s, &count)) count = 0;
-    unlock(&s->lock);
-    for (uint32_t k = 0; k < count; k++) {
-        int slot = s->list[k].worker == s->worker ? claim_slot(s) : -1;
-        if (slot < 0) continue;
-        s->page->slots[slot].activation = s->list[k].number;
-        publish_slot(s, slot, SLOT_OWED);
-    }
-    if (count > 0) leave_duty(s);
-}
-
-/* Finishes what this opening has in progress. */
-static wanzoche_answer finish_all(store *s, int64_t limit) {
-    uint32_t count;
-    struct written written;
-    wanzoche_answer answer = begin_turn(s, turn_limit(limit)), one;
-    if (answer.code == WANZOCHE_LATE) owe_all(s);
-    if (answer.code != DONE) return answer;
-    answer = (wanzoche_answer){WANZOCHE_CLOSED, 0};
-    if (!list_live(s, &count)) {
-        answer = s->trouble;
-        count = 0;
-    }
-    for (uint32_t k = 0; k < count && answer.code == WANZOCHE_CLOSED; k++)
-        if (s->list[k].worker == s->worker && !write_finish(s, s->worker, s->list[k].number, &one)) answer = s->trouble;
-    if (s->is_current) announce(s);
-    written = note_written(s);
-    end_turn(s);
-    return wait_for_sync(s, written, answer);
-}
-
-/*
-** Waits until all calls have returned. Who sleeps in a slot is woken, again and
-** again, since it may have looked just before; who sleeps for the turn sees it at
-** the end of its slice.
-*/
-static void wait_for_visitors(store *s) {
-    while (s->visitors > 0) {
-        for (int slot = 0; slot < SLOTS; slot++)
-            if (SLOT_WORKER(s->page->slots[slot].word) == s->worker) futex_wake(&s->page->slots[slot].word, 1, 0);
-        pause_for(MILLISECOND / 5);
-    }
-}
-
-wanzoche_answer wanzoche_store_close(wanzoche_store *store, int64_t limit) {
-    wanzoche_answer answer = {WANZOCHE_CLOSED, 0};
-    int cancel;
-    if (store == NULL) return answer;
-    pthread_setcancelstate(PTHREAD_CANCEL_DISABLE, &cancel);
-    if (!store->is_forked) {
-        store->is_closing = true;
-        wait_for_visitors(store);
-        answer = finish_all(store, limit);
-    }
-    take_apart(store);
     pthread_setcancelstate(cancel, &cancel);
     return answer;
 }

@@ -5,8 +5,8 @@
 ** begin before it.
 **
 ** What runs is what is in progress of those who don't wait. A slot says what the
-** thread holds that waits in it, so that others know. Each opening knows by which
-** of its threads its own operations were begun.
+** caller holds that waits in it, so that others know: a thread, or whoever a record
+** says. Each opening knows by which of its callers its own operations were begun.
 **
 ** Whose start is withheld has a slot that says so, and asks again by itself when
 ** the door opens. Who is dead shuts no door: who finds a start withheld for it
@@ -45,10 +45,21 @@ static bool widen(store *s) {
     return true;
 }
 
-/* This thread has it. Without memory that isn't known, and it counts as running: a start may be withheld for as long as a door is shut. */
-void note_held(store *s, uint64_t activation) {
-    if ((s->held == NULL || 2 * s->held_count > s->held_mask) && !widen(s)) return;
-    s->held[place_of(s, activation)] = (struct holding){activation, pthread_self(), true};
+/* Who calls: as it says, or this thread of the process, by a number above those that can be said; 0 if nobody is to be known by it. */
+uint64_t caller_of(uint32_t said) {
+    static _Atomic uint64_t last = UINT32_MAX;
+    static _Thread_local uint64_t me;
+    if (said == WANZOCHE_NO_CALLER) return 0;
+    if (said != 0) return said;
+    if (me == 0) me = ++last;
+    return me;
+}
+
+/* This caller has it. Of nobody that isn't known, nor without memory, and it counts as running: a start may be withheld for as long as a door is
+** shut. */
+void note_held(store *s, uint64_t activation, uint64_t caller) {
+    if (caller == 0 || ((s->held == NULL || 2 * s->held_count > s->held_mask) && !widen(s))) return;
+    s->held[place_of(s, activation)] = (struct holding){activation, caller, true};
     s->held_count++;
 }
 
@@ -66,16 +77,16 @@ void forget_held(store *s, uint64_t activation) {
     s->held[at].is_used = false;
 }
 
-static bool is_mine(const store *s, uint64_t activation) {
+static bool is_of(const store *s, uint64_t activation, uint64_t caller) {
     const struct holding *one = s->held == NULL ? NULL : &s->held[place_of(s, activation)];
-    return one != NULL && one->is_used && pthread_equal(one->thread, pthread_self());
+    return one != NULL && one->is_used && one->caller == caller;
 }
 
-/* What this thread holds stands in its slot; if it is more than a slot has room for, all of its process counts as waiting. */
-static void say_held(store *s, struct slot *slot) {
+/* What the caller holds stands in its slot; if it is more than a slot has room for, all of its process counts as waiting. */
+static void say_held(store *s, struct slot *slot, uint64_t caller) {
     slot->helds = 0;
     for (size_t k = 0; s->held != NULL && k <= s->held_mask && slot->helds != HELD_ALL; k++) {
-        if (!s->held[k].is_used || !pthread_equal(s->held[k].thread, pthread_self())) continue;
+        if (!s->held[k].is_used || s->held[k].caller != caller) continue;
         if (slot->helds < HELD) slot->held[slot->helds++] = s->held[k].activation;
         else slot->helds = HELD_ALL;
     }
@@ -94,7 +105,7 @@ static uint64_t shut_at(const struct slot *slot, uint64_t time) {
     return times == 0 ? NEVER : times == 1 ? 0 : slot->shuts + (times - 1) * SHUT;
 }
 
-static bool waits(uint32_t word) {
+bool waits(uint32_t word) {
     return (word & SLOT_STATE) == SLOT_WAITING || (word & SLOT_STATE) == SLOT_CALLED;
 }
 
@@ -111,7 +122,7 @@ bool withholds(store *s, uint64_t time) {
 /* What the core is told */
 
 /* Whether one stands before another, by their priorities and tickets. */
-static bool is_before(const struct slot *one, uint32_t priority, uint64_t ticket) {
+bool is_before(const struct slot *one, uint32_t priority, uint64_t ticket) {
     return one->priority != priority ? one->priority > priority : one->ticket < ticket;
 }
 
@@ -158,8 +169,8 @@ static bool rests(store *s, const wanzoche_activation *one) {
     return false;
 }
 
-/* In `list`, from its begin: the operations that run, but for those of this thread if it is the one that asks. False without memory. */
-static bool list_running(store *s, bool is_asker, uint32_t *count) {
+/* In `list`, from its begin: the operations that run, but for those of the caller who asks, if it is of this process. False without memory. */
+static bool list_running(store *s, uint64_t caller, uint32_t *count) {
     uint32_t live;
     uint32_t *running;
     *count = 0;
@@ -167,7 +178,7 @@ static bool list_running(store *s, bool is_asker, uint32_t *count) {
     running = (uint32_t *)(void *)s->list; /* each number is written behind where it is read */
     for (uint32_t k = 0; k < live; k++) {
         wanzoche_activation one = s->list[k];
-        if ((is_asker && one.worker == s->worker && is_mine(s, one.number)) || rests(s, &one)) continue;
+        if ((caller != 0 && one.worker == s->worker && is_of(s, one.number, caller)) || rests(s, &one)) continue;
         running[(*count)++] = one.operation;
     }
     return true;
@@ -185,7 +196,7 @@ static uint32_t ruling(store *s, const struct asker *asker, const struct firsts 
         waiting[k] = (wanzoche_waiter){slot->operation, slot->priority, slot->arrived, shut_at(slot, time)};
         shuts = shuts || waiting[k].shut_at < asker->arrived;
     }
-    if (shuts && list_running(s, asker->is_here, &running))
+    if (shuts && list_running(s, asker->caller, &running))
         answer = wanzoche_may_start(&s->replica.system, asker->operation, asker->priority, asker->arrived, waiting, ahead->count,
                                     (const uint32_t *)(const void *)s->list, running);
     if (answer.code == WANZOCHE_OUT_OF_MEMORY) return wanzoche_can_start(&s->replica.system, asker->operation).code;
@@ -227,7 +238,7 @@ uint64_t opens_at(const store *s, int slot, uint64_t time) {
 /* Whether one of the firsts is to be called: it may start, or it is withheld and has to set itself a time. */
 bool is_to_be_called(store *s, const struct firsts *firsts, unsigned at, uint64_t time) {
     const struct slot *slot = &s->page->slots[firsts->slot[at]];
-    struct asker asker = {slot->operation, slot->priority, slot->arrived, slot->ticket, false};
+    struct asker asker = {slot->operation, slot->priority, slot->arrived, slot->ticket, 0};
     struct firsts ahead = *firsts;
     uint32_t code;
     int whom;
@@ -244,6 +255,16 @@ void stand(store *s, int slot, const struct asker *asker) {
     one->ticket = s->page->tickets++;
     one->arrived = asker->arrived;
     one->shuts = s->patience == NEVER ? NEVER : asker->arrived + s->patience;
+    one->caller = asker->caller;
     one->is_shut = false;
-    say_held(s, one);
+    say_held(s, one, asker->caller);
+}
+
+/* What is told of one who waits. */
+void tell_waiter(store *s, const struct slot *slot, uint64_t time, wanzoche_store_waiter *waiter) {
+    uint32_t worker = SLOT_WORKER(slot->word);
+    *waiter = (wanzoche_store_waiter){.operation = slot->operation, .priority = slot->priority, .worker = worker,
+                                      .caller = slot->caller > UINT32_MAX ? 0 : (uint32_t)slot->caller,
+                                      .waited = time > slot->arrived ? (time - slot->arrived) / MILLISECOND : 0,
+                                      .process = process_of(s, worker)};
 }

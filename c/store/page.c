@@ -2,7 +2,7 @@
 ** The file beside the journal, FILE.shared: the page, and the declaration behind
 ** it, and behind that the numbers of the workers' processes.
 **
-** The Python package keeps another page there, of version 1. Which of the two
+** Older Python packages keep another page there, of version 1. Which of the two
 ** lies there is changed only by who has the journal to itself (LOCK_EX), while
 ** each opening has its LOCK_SH on it to its end, and only if no lock at all is on
 ** the file beside it. So whoever has the store open is never left with a page
@@ -118,10 +118,10 @@ static bool read_page_head(store *s, int file, struct head *head) {
 }
 
 static bool refuse_python(store *s) {
-    return refuse(s, WANZOCHE_IN_USE, 0, "%.400s is open by processes of the Python package", s->path);
+    return refuse(s, WANZOCHE_IN_USE, 0, "%.400s is open by processes of an older Python package", s->path);
 }
 
-/* Puts a page of this library in the place of one of the Python package that nobody has open. */
+/* Puts a page of this library in the place of one of an older Python package that nobody has open. */
 static bool take_over_page(store *s, int file, const struct head *head) {
     struct flock asked;
     uint64_t workers = 0;

@@ -84,6 +84,7 @@ bool rotate_file(store *s) {
     say_rotation(page);
     let_go(r->file);
     r->file = lines;
+    add_news(s, WANZOCHE_MOVED, s->worker, 0, page->segment);
     r->segment = page->segment;
     r->base = page->base;
     r->at = length;

@@ -1,17 +1,4 @@
-/*
-** What the parts of the store share: the page that all processes map, and what
-** one opening knows.
-**
-** THE PAGE lies in FILE.shared. All numbers in it that others look at outside of
-** a turn are atomic, and all accesses are sequentially consistent: the few that
-** could be weaker aren't what a turn costs. What is written in a turn alone is
-** plain: the exchange of the turn's word orders it.
-**
-** WORKERS. Each opening has a number, which is never given again, and a lock on
-** the byte of this number, which the kernel takes off when it dies. So a number
-** whose byte is free is dead for ever, and a word that has it can be exchanged
-** for another without fear that it has come back meanwhile.
-*/
+/* What the parts of the store share: what one opening knows, and what they have for each other. */
 #ifndef WANZOCHE_STORE_PARTS_H
 #define WANZOCHE_STORE_PARTS_H
 
@@ -20,106 +7,13 @@
 #include <stdlib.h>
 #include <string.h>
 
+#include "page.h"
 #include "system.h"
 #include "wanzoche.h"
 #include "wanzoche_store.h"
 
-/* The turn's word: who has it, whether somebody sleeps for it, and whether
-** whoever has it has a duty before it gives it. 0 if nobody has it. */
-#define TURN_DUTY (UINT32_C(1) << 31)
-#define TURN_WAIT (UINT32_C(1) << 30)
-#define TURN_OWNER (TURN_WAIT - 1)
-
-/* Numbers of workers are below the first of these; an opening that has none yet
-** has one above, for its first turn. */
-#define FIRST_OPENER (UINT32_C(1) << 29)
-
-/* A slot's word: its state, and whose it is. 0 if it is free. */
-enum { SLOT_CLAIMED = 1, SLOT_WAITING = 2, SLOT_CALLED = 3, SLOT_OWED = 4, SLOT_STATE = 7 };
-#define SLOT_OF(worker, state) ((worker) << 3 | (state))
-#define SLOT_WORKER(word) ((word) >> 3)
-
-#define SLOTS 1024
-#define OPERATIONS WANZOCHE_MOST_OPERATIONS
-#define ROOM UINT32_C(65536)              /* of what is in progress, of all processes together */
-#ifndef SLICE
-#define SLICE (40 * MILLISECOND) /* after so long who sleeps looks for the dead */
-#endif
-#define PATIENCE (45 * MILLISECOND)       /* so long a call waits for its turn, whatever its limit */
-#define CHUNK ((size_t)1 << 20)
-#define HEAD "journal 3 room 1048576\n"   /* what lines are offered to the core behind */
-#define HEAD_LENGTH (sizeof HEAD - 1)
-#define NAME_SIZE 300
-
-/* The bytes that are locked, far behind the end of the file beside the journal:
-** one for openings, and those of the workers; and in the journal itself, which
-** file lies beside it. The Python package has its own there, so that each sees
-** whether the other has the store open. */
-#define OPENING_BYTE (INT64_C(1) << 40)
-#define WORKER_BYTES (INT64_C(1) << 41)
-#define BESIDE_BYTES (INT64_C(1) << 41)
-#define MOST_BESIDE (INT64_C(1) << 40)
-
-#define PAGE_VERSION 2
-#define PAGE_VERSION_OF_PYTHON 1
-
-#define HELD 2
-#define HELD_ALL UINT16_MAX
-
-struct slot {
-    _Atomic uint32_t word; /* a futex: its owner sleeps here */
-    uint32_t operation;
-    uint64_t ticket;     /* who waits longest has the lowest */
-    uint64_t activation; /* what is to be finished, of SLOT_OWED */
-    uint64_t arrived;
-    uint64_t shuts;      /* when starts are withheld for it; NEVER: none is */
-    uint32_t priority;
-    uint16_t helds;      /* how much of what its thread has in progress stands here; HELD_ALL: all that its process has is meant */
-    uint16_t is_shut;    /* whether its start was withheld when it asked last: then it asks again by itself */
-    uint64_t held[HELD];
-};
-
-/* What a rotation is about to say when the file has its name. */
-struct rotation {
-    uint64_t segment, base, end, inode;
-};
-
-struct page {
-    char magic[8];
-    uint32_t version, declaration; /* and how long the declaration behind the slots is */
-    char boot[48];                 /* of which start of the machine `end` is */
-    /* 64 */
-    _Alignas(64) _Atomic uint32_t turn; /* a futex */
-    /* 128: written in a turn */
-    _Alignas(64) _Atomic uint64_t end; /* so many bytes of the journal are lines that count, of all its files together */
-    _Atomic uint64_t segment;          /* how many of its files were moved away */
-    _Atomic uint64_t inode;            /* which file it is now */
-    uint64_t base;                     /* how many bytes those have that were moved away */
-    uint64_t tickets;
-    uint64_t workers;                  /* the last number that was given */
-    _Atomic uint32_t is_ready;         /* 0 until the first turn since nobody had it open */
-    _Atomic uint32_t is_rotating;      /* 1 while `next` counts */
-    /* 192: outside of turns */
-    _Alignas(64) _Atomic uint64_t synced; /* so many bytes of it are on the disk */
-    _Atomic uint64_t named;               /* the names of so many of its files are, and all of these but the last */
-    _Atomic uint32_t syncer;              /* who syncs, as the turn's word: a futex */
-    _Atomic uint32_t openers;
-    _Atomic uint64_t looked;              /* when somebody looked for the dead last */
-    struct rotation next;
-    /* 256: who waits */
-    _Alignas(64) _Atomic uint64_t used[SLOTS / 64]; /* a bit for each slot that has something to say */
-    uint16_t called[OPERATIONS];                    /* of each operation the slot, + 1, of who was called and hasn't asked */
-    _Alignas(4096) struct slot slots[SLOTS];
-};
-
-_Static_assert(sizeof(struct slot) == 64, "a line of the cache");
-_Static_assert(offsetof(struct page, turn) == 64 && offsetof(struct page, end) == 128, "as other builds have it");
-_Static_assert(offsetof(struct page, synced) == 192 && offsetof(struct page, used) == 256, "as other builds have it");
-_Static_assert(offsetof(struct page, called) == 384 && offsetof(struct page, slots) == 4096, "as other builds have it");
-_Static_assert(sizeof(struct page) == 69632, "as other builds have it");
-_Static_assert(ATOMIC_INT_LOCK_FREE == 2 && ATOMIC_LONG_LOCK_FREE == 2, "other processes don't see a lock");
-
 #define MOST_FILES 8
+#define NEWS 64
 
 /* A file of the journal, for all threads that need it still. */
 struct lines {
@@ -141,10 +35,15 @@ struct replica {
     uint32_t highest; /* the highest number of a worker */
 };
 
-/* An operation that is in progress here, and by which thread. */
+typedef wanzoche_store_record record;
+
+/* What a record has that one may read who listens for it, while another thread begins or ends it. */
+#define GET(field) __atomic_load_n(&(field), __ATOMIC_RELAXED)
+#define SET(field, to) __atomic_store_n(&(field), to, __ATOMIC_RELAXED)
+
+/* An operation that is in progress here, and whose. */
 struct holding {
-    uint64_t activation;
-    pthread_t thread;
+    uint64_t activation, caller;
     bool is_used;
 };
 
@@ -152,7 +51,7 @@ struct holding {
 struct asker {
     uint32_t operation, priority;
     uint64_t arrived, ticket; /* NEVER: it comes now */
-    bool is_here;             /* whether it is this thread */
+    uint64_t caller;          /* who it is of this process; 0 if it is another's, or nobody is known */
 };
 
 /* Who is first for an operation and priority, in order. */
@@ -173,12 +72,15 @@ struct wanzoche_store {
     struct holding *held; /* a table by activations, of a power of two places */
     size_t held_mask, held_count;
     bool is_current;      /* in a turn: whether all lines are followed, so that one can be added */
-    _Atomic bool is_closing, is_forked, is_over; /* over: each call answers `fault` */
-    _Atomic uint32_t lock;    /* among the threads of this opening, around a turn and what is known */
+    _Atomic bool is_closing, is_ending;  /* ending: no call is under way any more but the one that ends it */
+    _Atomic bool is_forked, is_over;     /* over: each call answers `fault` */
+    _Atomic uint32_t lock;     /* among the threads of this opening, around a turn and what is known */
     _Atomic uint32_t visitors; /* how many calls are under way */
+    _Atomic uint32_t rung;     /* how often who listens was told to come back */
     wanzoche_answer fault;
+    char words_of_fault[WANZOCHE_STORE_MESSAGE];
     wanzoche_answer trouble;  /* why a part failed */
-    uint16_t due[OPERATIONS]; /* the slots that are woken when the turn is over */
+    _Atomic uint32_t *due[OPERATIONS]; /* the words that are woken when the turn is over */
     unsigned dues;
     uint32_t operations;
     char (*names)[33];
@@ -188,6 +90,9 @@ struct wanzoche_store {
     wanzoche_activation *list;
     uint32_t list_capacity;
     _Atomic int files[MOST_FILES]; /* descriptors of the journal's files; 0 for none */
+    wanzoche_store_news news[NEWS]; /* what wasn't told yet, from its place on */
+    unsigned news_at;
+    _Atomic unsigned news_count;
     uint64_t device;
     char path[4096];
     char name[256], beside_name[NAME_SIZE];
@@ -206,6 +111,7 @@ bool refuse(store *s, uint32_t code, uint64_t number, const char *format, ...) _
 bool refuse_by_system(store *s, const char *what);        /* by errno; `what` is as "can't be read" */
 bool refuse_for_memory(store *s);
 bool give_up_store(store *s, uint32_t code, uint64_t number, const char *format, ...) __attribute__((format(printf, 4, 5)));
+wanzoche_answer fault_of(const store *s); /* of one that is over, with its words */
 
 /* words.c: locks and words to sleep at. */
 bool lock_until(_Atomic uint32_t *lock, uint64_t until);
@@ -276,24 +182,46 @@ bool list_live(store *s, uint32_t *count);
 uint32_t count_waiting(store *s, uint32_t operation);
 
 /* order.c: who comes next. */
-void note_held(store *s, uint64_t activation);
+uint64_t caller_of(uint32_t said);
+void note_held(store *s, uint64_t activation, uint64_t caller);
 void forget_held(store *s, uint64_t activation);
 bool withholds(store *s, uint64_t time);
 void list_firsts(store *s, struct firsts *firsts);
 int withheld_for(store *s, const struct asker *asker, uint64_t time);
 uint64_t opens_at(const store *s, int slot, uint64_t time);
 bool is_to_be_called(store *s, const struct firsts *firsts, unsigned at, uint64_t time);
+bool is_before(const struct slot *one, uint32_t priority, uint64_t ticket);
+bool waits(uint32_t word);
 void stand(store *s, int slot, const struct asker *asker);
+void tell_waiter(store *s, const struct slot *slot, uint64_t time, wanzoche_store_waiter *waiter);
 
 /* sync.c: what is on the disk. */
 struct written {
     struct lines *file; /* null if nothing was written */
     uint64_t end;
 };
+
+/* who.c: what is told. */
+void add_news(store *s, uint32_t kind, uint32_t worker, uint32_t operation, uint64_t number);
+
+/* enter.c: attempts. */
+void begin_record(record *r, uint32_t operation, uint32_t priority, bool looks);
+bool try_in_turn(store *s, record *r, uint64_t until, wanzoche_answer *answer, struct written *written);
+void give_up(store *s, record *r);
+wanzoche_answer leave(store *s, uint64_t activation, uint64_t until, bool may_owe, struct written *written);
+
+/* sleeping.c: until one may ask again. */
+uint32_t sleep_in_slot(store *s, record *r, uint64_t until, bool ends_by_signal);
+void ring_bell(store *s);
+
+/* ask.c: what is asked. */
+void look(store *s, struct written *written);
+uint64_t process_of(store *s, uint32_t worker);
 struct written note_written(store *s);
 wanzoche_answer wait_for_sync(store *s, struct written written, wanzoche_answer answer);
 
-/* opening.c, forks.c: an opening. */
+/* opening.c, closing.c, forks.c: an opening. */
+void take_apart(store *s);
 wanzoche_answer come_in(store *s, int *cancel);
 void go_out(store *s, int cancel);
 bool add_to_forks(store *s);

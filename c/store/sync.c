@@ -71,7 +71,7 @@ static wanzoche_answer fail(store *s, int error) {
     if (!s->is_over)
         give_up_store(s, WANZOCHE_UNSYNCED, (uint64_t)error, "%.300s can't be synced, so what was answered last may be lost at a crash: %m", s->path);
     unlock(&s->lock);
-    return s->fault;
+    return fault_of(s);
 }
 
 /* In a turn: up to where has to be synced what was written in it. */

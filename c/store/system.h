@@ -60,18 +60,19 @@ static inline struct timespec time_of(uint64_t at) {
     return t;
 }
 
-static inline void pause_for(uint64_t nanoseconds) {
+/* Whether a signal has ended the pause. */
+static inline bool pause_for(uint64_t nanoseconds) {
     struct timespec t = time_of(nanoseconds);
-    nanosleep(&t, NULL);
+    return nanosleep(&t, NULL) != 0;
 }
 
 /* So long as the word is what was seen, sleeps until it is woken, that time has
-** come, or a signal has. The last is FUTEX_PRIVATE for a word of this process
-** alone, and else 0. */
-static inline void futex_wait(_Atomic uint32_t *word, uint32_t seen, uint64_t until, int private) {
+** come, or a signal has: whether that is so. The last is FUTEX_PRIVATE for a word
+** of this process alone, and else 0. */
+static inline bool futex_wait(_Atomic uint32_t *word, uint32_t seen, uint64_t until, int private) {
     struct timespec t = time_of(until);
-    if (!goes_on("futex_wait")) return;
-    syscall(SYS_futex, word, FUTEX_WAIT_BITSET | private, seen, until == NEVER ? NULL : &t, NULL, UINT32_MAX);
+    if (!goes_on("futex_wait")) return false;
+    return syscall(SYS_futex, word, FUTEX_WAIT_BITSET | private, seen, until == NEVER ? NULL : &t, NULL, UINT32_MAX) != 0 && errno == EINTR;
 }
 
 static inline void futex_wake(_Atomic uint32_t *word, int most, int private) {

@@ -4,9 +4,13 @@
 
 #include "store.h"
 
+/* Why the last call of this thread failed that failed, whatever others are told meanwhile. */
+static _Thread_local char told[WANZOCHE_STORE_MESSAGE];
+
 static void note(store *s, uint32_t code, uint64_t number, const char *format, va_list given) {
     s->trouble = (wanzoche_answer){code, number};
     vsnprintf(s->message, sizeof s->message, format, given);
+    memcpy(told, s->message, sizeof told);
 }
 
 bool refuse(store *s, uint32_t code, uint64_t number, const char *format, ...) {
@@ -32,16 +36,18 @@ bool give_up_store(store *s, uint32_t code, uint64_t number, const char *format,
     note(s, code, number, format, given);
     va_end(given);
     s->fault = s->trouble;
+    memcpy(s->words_of_fault, told, sizeof told);
     s->is_over = true;
     return false;
 }
 
+wanzoche_answer fault_of(const store *s) {
+    memcpy(told, s->words_of_fault, sizeof told);
+    return s->fault;
+}
+
 void wanzoche_store_message(wanzoche_store *store, char *buffer, size_t size) {
-    bool is_locked;
     if (buffer == NULL || size == 0) return;
     buffer[0] = 0;
-    if (store == NULL || store->is_forked) return;
-    is_locked = lock_until(&store->lock, now() + PATIENCE);
-    if (is_locked) snprintf(buffer, size, "%s", store->message);
-    if (is_locked) unlock(&store->lock);
+    if (store != NULL && !store->is_forked) snprintf(buffer, size, "%s", told);
 }

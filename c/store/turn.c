@@ -38,7 +38,7 @@ static bool take_free(store *s, uint32_t mark) {
 
 /* Whether the call ends: it is late, or the opening is being closed. */
 static bool is_late(store *s, uint64_t time, uint64_t until) {
-    return time >= until || (s->is_closing && s->visitors > 0);
+    return time >= until || (s->is_closing && !s->is_ending);
 }
 
 /* False if the turn isn't to be had until then. */
@@ -98,7 +98,7 @@ static void give(store *s) {
         if (goes_on("give") && atomic_compare_exchange_strong(&page->turn, &seen, s->is_current ? 0 : TURN_DUTY)) break;
     }
     if ((seen & TURN_WAIT) != 0) futex_wake(&page->turn, 1, 0);
-    for (unsigned k = 0; k < s->dues; k++) futex_wake(&page->slots[s->due[k]].word, 1, 0);
+    for (unsigned k = 0; k < s->dues; k++) futex_wake(s->due[k], INT32_MAX, 0);
     s->dues = 0;
 }
 
@@ -126,10 +126,10 @@ void leave_duty(store *s) {
 static wanzoche_answer begin_locked(store *s, uint64_t until) {
     static const wanzoche_answer late = {WANZOCHE_LATE, 0}, closed = {WANZOCHE_CLOSED, 0};
     bool is_stolen;
-    if (s->is_over) return s->fault;
-    if (s->is_closing && s->visitors > 0) return closed;
+    if (s->is_over) return fault_of(s);
+    if (s->is_closing && !s->is_ending) return closed;
     if (s->worker != 0 && !follow_ahead(s)) return s->trouble;
-    if (!take(s, until, &is_stolen)) return s->is_closing ? closed : late;
+    if (!take(s, until, &is_stolen)) return s->is_closing && !s->is_ending ? closed : late;
     if (!enter_turn(s, is_stolen)) {
         wanzoche_answer trouble = s->trouble;
         give(s);

@@ -80,7 +80,12 @@ static void call(store *s, uint16_t slot) {
     if ((word & SLOT_STATE) != SLOT_WAITING || s->dues == OPERATIONS || !goes_on("call")) return;
     if (!atomic_compare_exchange_strong(&one->word, &word, (word & ~(uint32_t)SLOT_STATE) | SLOT_CALLED)) return;
     s->page->called[one->operation] = (uint16_t)(slot + 1);
-    s->due[s->dues++] = slot;
+    s->due[s->dues] = &one->word;
+    if (one->rings) {
+        s->due[s->dues] = &s->page->bells[SLOT_WORKER(word) % BELLS];
+        ++*s->due[s->dues];
+    }
+    s->dues++;
 }
 
 /*
@@ -137,6 +142,7 @@ bool bury(store *s, bool slots) {
         if (s->list[k].worker == alive) continue;
         if (!is_gone(s, s->list[k].worker)) alive = s->list[k].worker;
         else if (!write_finish(s, s->list[k].worker, s->list[k].number, &answer)) break;
+        else add_news(s, WANZOCHE_FINISHED_LOST, s->list[k].worker, s->list[k].operation, s->list[k].number);
     }
     return journal_end(s) != before;
 }

@@ -155,6 +155,124 @@ static void closed_while_one_waits(void) {
     CHECK(left(other, number) && is_closed(other));
 }
 
+/* Steps of one thread that another ends */
+
+struct steps {
+    wanzoche_store_record record;
+    wanzoche_answer answer;
+    uint32_t operation;
+    _Atomic bool is_stopped;
+    pthread_t thread;
+};
+
+static void *goes_by_steps(void *given) {
+    struct steps *one = given;
+    do {
+        one->answer = wanzoche_store_begin(mine, one->operation, 0, WANZOCHE_NO_CALLER, WANZOCHE_WAIT, &one->record, 20);
+        if (one->is_stopped) break;
+        if (one->record.is_waiting) CHECK(wanzoche_store_wait(mine, &one->record, LONGEST).code == WANZOCHE_CALLED);
+    } while (!one->is_stopped && (one->record.is_waiting || one->answer.code == WANZOCHE_LATE));
+    if (one->record.is_waiting) CHECK(wanzoche_store_end(mine, &one->record, 0).code == WANZOCHE_STALE);
+    return NULL;
+}
+
+static void begin_steps(struct steps *one, uint32_t operation) {
+    memset(one, 0, sizeof *one);
+    one->operation = operation;
+    if (pthread_create(&one->thread, NULL, goes_by_steps, one) != 0) exit(7);
+}
+
+static void stop(struct steps *one) {
+    one->is_stopped = true;
+    wanzoche_store_wake(mine, &one->record);
+}
+
+static wanzoche_answer ended(struct steps *one) {
+    pthread_join(one->thread, NULL);
+    return one->answer;
+}
+
+static void stopped_as_it_waits(void) {
+    struct steps one;
+    uint64_t number;
+    begin_anew();
+    mine = opened(&QUICK);
+    number = entered(mine, READ);
+    begin_steps(&one, WRITE);
+    until_waiting(mine, WRITE, 1);
+    wanzoche_store_wake(mine, NULL);
+    wanzoche_store_wake(NULL, &one.record);
+    wanzoche_store_wake(mine, &one.record); /* it asks, and waits on */
+    until_waiting(mine, WRITE, 1);
+    stop(&one);
+    CHECK(ended(&one).code == WANZOCHE_BLOCKED && wanzoche_store_waiting(mine, WRITE).number == 0);
+    wanzoche_store_wake(mine, &one.record);
+    CHECK(one.record.place == 0 && left(mine, number) && is_closed(mine));
+}
+
+/* Who is stopped passes its call on, also where that comes at the same time. */
+static void stopped_when_called(void) {
+    begin_anew();
+    mine = opened(&QUICK);
+    for (int k = 0; k < 300; k++) {
+        struct steps first, second;
+        uint64_t number = entered(mine, READ);
+        begin_steps(&first, WRITE);
+        until_waiting(mine, WRITE, 1);
+        begin_steps(&second, WRITE);
+        until_waiting(mine, WRITE, 2);
+        CHECK(left(mine, number));
+        stop(&first);
+        if (ended(&first).code == WANZOCHE_STARTED) CHECK(left(mine, first.answer.number));
+        CHECK(ended(&second).code == WANZOCHE_STARTED && left(mine, second.answer.number));
+    }
+    CHECK(is_closed(mine));
+}
+
+/* The word of the turn, in the file beside the journal: as if one had the turn who doesn't give it. */
+static void hand_turn(uint32_t worker) {
+    int f = open(beside(".shared"), O_WRONLY);
+    CHECK(pwrite(f, &worker, sizeof worker, 64) == sizeof worker);
+    close(f);
+}
+
+static bool sleeps_for_turn(void) {
+    uint32_t word = 0;
+    int f = open(beside(".shared"), O_RDONLY);
+    CHECK(pread(f, &word, sizeof word, 64) == sizeof word);
+    close(f);
+    return word >> 30 != 0;
+}
+
+static void stopped_without_a_turn(void) {
+    wanzoche_store *other;
+    struct steps one;
+    begin_anew();
+    mine = opened(&QUICK);
+    other = opened(&QUICK);
+    hand_turn(wanzoche_store_worker(other));
+    begin_steps(&one, READ);
+    for (int k = 0; k < LONGEST && !sleeps_for_turn(); k++) usleep(1000);
+    stop(&one);
+    CHECK(ended(&one).code == WANZOCHE_LATE);
+    hand_turn(0);
+    CHECK(is_closed(other) && is_closed(mine));
+}
+
+/* Who is closed without a turn says so, and leaves what it had in progress to whoever has the next one, also if the dead keep theirs. */
+static void closed_without_a_turn(void) {
+    wanzoche_store *other;
+    begin_anew();
+    other = opened(&KEEP);
+    mine = opened(&KEEP);
+    entered(mine, WRITE);
+    hand_turn(wanzoche_store_worker(other));
+    CHECK(wanzoche_store_close(mine, 0).code == WANZOCHE_LATE);
+    hand_turn(UINT32_C(1) << 31); /* what was left to it stays */
+    CHECK(left(other, entered(other, READ)));
+    CHECK(is_closed(other));
+}
+
 enum { THREADS = 8, EACH = 1500 };
 static _Atomic uint32_t writers, readers, overlaps;
 
@@ -208,6 +326,10 @@ int main(void) {
     small_room();
     one_leave_for_all();
     closed_while_one_waits();
+    stopped_as_it_waits();
+    stopped_when_called();
+    stopped_without_a_turn();
+    closed_without_a_turn();
     many_threads();
     declarations();
     remove_all();

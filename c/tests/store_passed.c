@@ -1,12 +1,14 @@
 /*
 ** Who was called, and gives up since its time is over before it has its turn,
-** passes the call on. It is built with WANZOCHE_STORE_POINTS, and with a SLICE that
+** passes the call on. Who listens and is called just before it sleeps, goes on. It
+** is built with WANZOCHE_STORE_POINTS, and with a SLICE that
 ** never ends: nobody goes on but who is woken.
 */
 #include "store.h"
 
 static bool stops; /* at the end of its turn */
-static wanzoche_store *mine;
+static wanzoche_store *mine, *leaver;
+static uint64_t leaves; /* with the next sleep: what the other opening leaves just before */
 
 int wanzoche_store_point(const char *call);
 void wanzoche_store_torn(void);
@@ -15,6 +17,11 @@ int wanzoche_store_point(const char *call) {
     if (stops && strcmp(call, "give") == 0) {
         stops = false;
         kill(getpid(), SIGSTOP);
+    }
+    if (leaver != NULL && strcmp(call, "futex_wait") == 0) {
+        wanzoche_store *s = leaver;
+        leaver = NULL;
+        CHECK(left(s, leaves));
     }
     return 0;
 }
@@ -35,6 +42,22 @@ static void stops_in_turn(void) {
     mine = opened(&QUICK);
     stops = true;
     CHECK(wanzoche_store_can_start(mine, WRITE, LONGEST).code == WANZOCHE_CAN_START); /* no close, in which others are called, too */
+}
+
+/* Who listens has looked, and is called before it sleeps. */
+static void called_before_it_sleeps(void) {
+    wanzoche_store_record r = {0}, *one[] = {&r};
+    uint32_t heard = 0;
+    wanzoche_store *s;
+    begin_anew();
+    mine = opened(&QUICK);
+    s = opened(&QUICK);
+    leaves = entered(s, WRITE);
+    CHECK(wanzoche_store_begin(mine, READ, 0, 1, WANZOCHE_LISTEN, &r, LONGEST).code == WANZOCHE_BLOCKED);
+    leaver = s;
+    CHECK(wanzoche_store_listen(mine, (wanzoche_store_record *const *)one, 1, &heard, LONGEST).code == WANZOCHE_CALLED);
+    CHECK(leaver == NULL && wanzoche_store_begin(mine, READ, 0, 1, WANZOCHE_LISTEN, &r, LONGEST).code == WANZOCHE_STARTED);
+    CHECK(wanzoche_store_end(mine, &r, LONGEST).code == WANZOCHE_FINISHED && is_closed(mine) && is_closed(s));
 }
 
 int main(void) {
@@ -59,6 +82,7 @@ int main(void) {
     CHECK(has_ended(holder));
     CHECK(has_ended(other));
     CHECK(is_closed(s));
+    called_before_it_sleeps();
     remove_all();
     printf("store_passed: %d failures\n", failures);
     return failures != 0;

@@ -55,20 +55,6 @@ class Sharing:
             paths.enter(next_one).leave()
         self.assertIsNone(a.why("deposit"))
 
-    def test_nobody_stands_in_order(self):
-        paths = self.open(BOOK)
-        for enters in (paths, paths.aio, paths.enter, paths.try_enter):
-            with self.assertRaisesRegex(ValueError, "^over a store nobody stands in order: a priority is for those who wait in one process$"):
-                enters("read", priority=1)
-        with self.assertRaisesRegex(ValueError, "^a priority is a number from 0 to 4,294,967,295, not -1$"):
-            paths("read", priority=-1)
-        with paths("read", priority=0):
-            with self.assertRaisesRegex(TypeError, "^over a store nobody knows who waits in other processes: "):
-                paths.waiters()
-        for patience in (0, 0.005, 30):
-            with self.assertRaisesRegex(TypeError, "^over a store nobody stands in order, so there is no patience; "):
-                self.open(BOOK, patience=patience)
-
     def test_devices_are_shared(self):
         a, b = self.open(LINE), self.open(LINE)
         for number in (7, 8):

@@ -18,12 +18,6 @@ ANOTHER = 54321
 """The number of a user and of a group that aren't those of the tests."""
 
 
-def only_in_python(store):
-    """From now on this store makes its turns in Python, also where the package has its core."""
-    store._be_ready = lambda *given: None
-    store._is_ready = False
-
-
 class OverAStore:
     """For a TestCase: processes that open a store, and die."""
 

@@ -7,7 +7,8 @@ import sys
 import time
 import unittest
 
-from wanzoche import Paths
+from wanzoche import Paths, _native
+from wanzoche._beside import Beside
 from wanzoche._executing import TELLS
 
 from .commands import OnCommand, running
@@ -66,7 +67,7 @@ class Commands(OnCommand, unittest.TestCase):
         except OSError:
             self.skipTest("this system makes no pseudo-terminals, as a chroot without /dev/pts")
         self.addCleanup(os.close, ours)
-        with paths("write"):
+        with paths("write") as entry:
             with subprocess.Popen(words, stdin=subprocess.DEVNULL, stdout=subprocess.PIPE, stderr=theirs) as process:
                 os.close(theirs)
                 told = b""
@@ -74,11 +75,11 @@ class Commands(OnCommand, unittest.TestCase):
                     told += os.read(ours, 1000)
                 why = "^wanzoche: waiting: read is blocked: path 0 of book: .*; in progress: write by process 1 [(]process 1 is {}[)]\r\n$"
                 self.assertRegex(told.decode(), why.format(os.getpid()))
-                paths._store.finish(paths._store.held[0])
+                entry.leave()
                 self.assertEqual((process.stdout.read(), process.wait(LONGEST)), (b"hello\n", 0))
             with subprocess.Popen(words, stdin=subprocess.DEVNULL, stdout=subprocess.PIPE, stderr=subprocess.PIPE) as process:
                 with paths("write"):
-                    self.until(lambda: paths._store._beside.waiting[0])
+                    self.until(paths.waiting)
                     time.sleep(1.5 * TELLS)
                 self.assertEqual((process.stdout.read(), process.stderr.read()), (b"hello\n", b""))
 
@@ -114,9 +115,15 @@ class Commands(OnCommand, unittest.TestCase):
                 self.assertEqual(self.runs_without(streams, "exec", *words), (*texts, 4))
                 with open(told) as file:
                     self.assertEqual(file.read(), str([stream for stream in range(3) if stream not in streams]))
-                self.assertEqual(paths._store._beside.declaration(), paths._store._replica.declaration())
+                self.assertEqual(self.declared(), paths._text_of(_native.declaration))
                 paths.enter("write", timeout=0).leave()
                 self.assertTrue(paths.audit())
+
+    def declared(self):
+        """The declaration that stands beside the journal."""
+        beside = Beside(self.file + ".shared")
+        self.addCleanup(beside.close)
+        return beside.declaration()
 
     def test_what_cannot_be_told(self):
         """Where standard error is closed nothing is said, and the status is the same. What goes to a closed standard output fails."""

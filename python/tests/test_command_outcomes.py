@@ -165,7 +165,7 @@ class Waits(OnCommand, unittest.TestCase):
 
     def waits(self):
         """Whether somebody waits for the operation that is to be passed."""
-        return self.paths._store._beside.waiting[1] > 0
+        return "built" in self.paths.waiting()
 
     def builds(self, *options):
         words = self.words("exec", "--passed", "built", *options, "build", "--", "true")

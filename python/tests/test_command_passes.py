@@ -1,9 +1,9 @@
 """A pass: an operation that begins and ends at once, by the command `pass` or behind another in one hold of the turn."""
 
-import itertools
 import os
 import resource
 import signal
+import threading
 import unittest
 
 from wanzoche import Lost, Paths, StoreError
@@ -12,7 +12,8 @@ from wanzoche._passing import make_pass, pass_at_once
 
 from .commands import CROWDED, DELIVERY, OnCommand, in_file
 from .interrupts import at_instruction
-from .stores import THOROUGH, InFolder, only_in_python
+from .limits import LONGEST
+from .stores import THOROUGH, InFolder
 
 BESIDE = """resource delivery cell
 operation build, built, thief
@@ -69,27 +70,22 @@ class AtOnce(InFolder, unittest.TestCase):
     """The end of an operation and a pass in one hold of the turn."""
 
     def test_nobody_comes_between(self):
-        """Whoever has the turn next finds both."""
-        for is_quick, is_exec in itertools.product((True, False), repeat=2):
-            ours, others = self.open(BESIDE), self.open(BESIDE)
-            if not is_quick:
-                only_in_python(ours._store)
+        """One who waits for what comes next is called behind the pass, and not by the end before it; nor is the pass withheld for it."""
+        for is_exec in (True, False):
+            ours, others = self.open(BESIDE, patience=0), self.open(BESIDE, patience=0)
             entry = ours.enter("build")
-            gives, came = ours._store._beside.give_turn, []
-
-            def give_turn():
-                gives()
-                came.append(others.try_enter("thief"))
-
-            ours._store._beside.give_turn = give_turn
+            thief = threading.Thread(target=lambda: others.enter("thief", timeout=LONGEST).leave())
+            thief.start()
+            self.until(others.waiting)
             if is_exec:
                 _end_with(ours, entry, "built", 0.0, False, None)
             else:
                 pass_at_once(ours, "built", entry)
-            del ours._store._beside.give_turn
-            self.assertEqual(came, [None])
-            self.assertRegex(ours.journal(), r"(\d+) start built: started (\d+)\n\1 finish \2: finished\n$")
+            lines = r"(\d+) finish \d+: finished\n\1 start built: started (\d+)\n\1 finish \2: finished\n$"
+            self.assertRegex(ours.journal(), lines)
             self.assertTrue(ours.can_start("build"))
+            ours.enter("build").leave()
+            thief.join(LONGEST)
 
     def test_who_was_taken_for_dead_passes_nothing(self):
         ours, others = self.open(BESIDE), self.open(BESIDE)

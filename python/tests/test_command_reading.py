@@ -3,6 +3,7 @@
 import contextlib
 import json
 import os
+import re
 import signal
 import unittest
 
@@ -19,6 +20,7 @@ class Reading(OnCommand, unittest.TestCase):
         super().setUp()
         os.chmod(self.folder, 0o755)
         self.paths = self.open(BOOK)
+        self.declared = ["--declaration", self.declaration]
 
     @contextlib.contextmanager
     def begun(self, command, *words):
@@ -33,7 +35,7 @@ class Reading(OnCommand, unittest.TestCase):
                 os.setgroups([])
                 os.setgid(ANOTHER)
                 os.setuid(ANOTHER)
-                os._exit(_command.main([command, "--store", self.file, *words]))
+                os._exit(_command.main([command, "--store", self.file, *self.declared, *words]))
             finally:
                 os._exit(99)
         for _, into in pipes:
@@ -55,33 +57,33 @@ class Reading(OnCommand, unittest.TestCase):
             return (*texts, os.WEXITSTATUS(os.waitpid(child, 0)[1]))
 
     def test_what_they_say(self):
-        """The same as to who may write."""
+        """The same as to who may write, but for what stands beside the journal: who is dead, who waits, and which processes those are."""
         self.paths.enter("read").leave()
         self.paths.rotate()
-        before = os.stat(self.file + ".shared").st_mtime_ns
         with self.paths("write"):
             for words in (["status"], ["status", "--json"], ["log"], ["audit"], ["operations"]):
                 told, why, status = self.ran(*words)
                 self.assertEqual((why, status), ("", 0), words)
                 self.assertEqual(len(self.lines()), 1)  # and no line was written
-                ours = self.runs(*words)[0]
+                ours = re.sub("process .*\n", "", self.runs(*words)[0])
                 if words[-1] == "--json":
                     told, ours = ({**json.loads(each), "in_progress": []} for each in (told, ours))  # another user's /proc says less
                 self.assertEqual(told, ours, words)
-        self.assertEqual(os.stat(self.file + ".shared").st_uid, 0)
-        self.assertGreaterEqual(os.stat(self.file + ".shared").st_mtime_ns, before)
+        self.assertEqual(os.stat(self.file + ".shared").st_mode & 0o777, 0o600)
 
     def test_the_dead(self):
+        """They are in progress, and it isn't known that they are dead."""
         self.dies(lambda: setattr(self, "kept", self.made(BOOK, lost="keep").enter("write")))
-        self.assertIn("\nlost 0 2 write\n", self.ran("status")[0])
+        self.assertEqual(self.ran("status")[0], "startable\nblocked read 0\nblocked write 0\nlive 0 2 write\nfrozen no\n")
 
-    def test_who_was_killed_while_it_waited(self):
-        """It is counted on, so where nobody is left nobody waits."""
-        with self.paths("write"):
-            self.paths._store._beside.waiting[0] = 3
-            self.assertEqual(json.loads(self.ran("status", "--json")[0])["counts"]["waiting"], 3)
-        self.paths.close()
-        self.assertEqual(json.loads(self.ran("status", "--json")[0])["counts"]["waiting"], 0)
+    def test_the_declaration_is_wanted(self):
+        """It stands in a file that who may only read doesn't get."""
+        told = "can't be opened: Permission denied: who may read the journal alone names its declaration by --declaration\n$"
+        for name, wanted in ((None, told), ("none.path", "^wanzoche: none.path: No such file")):
+            self.declared = [] if name is None else ["--declaration", name]
+            said, why, status = self.ran("status")
+            self.assertEqual((said, status), ("", 1))
+            self.assertRegex(why, wanted)
 
     def test_a_line_that_is_wrong(self):
         self.paths.close()

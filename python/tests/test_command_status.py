@@ -65,7 +65,7 @@ class Status(OnCommand, unittest.TestCase):
         with paths("read"), paths("read"):
             words = self.words("exec", "write", "--", "true")
             with running(words) as process:
-                self.until(lambda: paths._store._beside.waiting[1])
+                self.until(paths.waiting)
                 told = self.told()
                 process.send_signal(signal.SIGTERM)
         whole["counts"] = {"in_progress": 2, "lost": 0, "waiting": 1}

@@ -58,15 +58,23 @@ class Threads(unittest.TestCase):
             self.assertLess(time.monotonic(), end, "it never comes")
             time.sleep(0.0005)
 
+    def paths_of(self, paths):
+        """By which paths the next thread enters."""
+        return paths
+
+    def stand(self, paths):
+        """How many stand in line."""
+        return len(paths._line)
+
     def comes(self, paths, operation, name, waits=True, **options):
         """A thread of this name enters, and stays. If it has to wait, it does so when this returns."""
         self.may_leave[name] = threading.Event()
-        number = len(paths.waiters())
+        number, own = len(paths.waiters()), self.paths_of(paths)
 
         def stays():
-            with paths(operation, **options):
+            with own(operation, **options):
                 self.came.append(name)
-                self.may_leave[name].wait(LONGEST)
+                self.may_leave[name].wait(4 * LONGEST)  # longer than anybody waits for what comes by itself
 
         thread = threading.Thread(target=stays, name=name)
         thread.start()
@@ -84,7 +92,7 @@ class Threads(unittest.TestCase):
         for thread in self.threads:
             thread.join(LONGEST)
             self.assertFalse(thread.is_alive(), "it waits for ever: {}".format(thread.name))
-        self.assertEqual((paths.report().live, paths.waiting(), paths.waiters(), len(paths._line)), ((), {}, [], 0))
+        self.assertEqual((paths.report().live, paths.waiting(), paths.waiters(), self.stand(paths)), ((), {}, [], 0))
         self.assertTrue(paths.audit())
 
 

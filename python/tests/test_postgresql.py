@@ -141,6 +141,10 @@ class Cutting:
 
 @needs_server
 class Sharing(both_stores.Sharing, OnServer, unittest.TestCase):
+    def test_a_priority_is_a_small_number(self):
+        with self.assertRaisesRegex(ValueError, "^a priority is a number from 0 to 4,294,967,295, not -1$"):
+            self.open(BOOK)("read", priority=-1)
+
     def test_who_waits_is_woken(self):
         """By a notification: nobody looks by itself so soon."""
         with mock.patch.object(_clerk, "CHECK", 1000.0):
@@ -185,7 +189,7 @@ class Sharing(both_stores.Sharing, OnServer, unittest.TestCase):
             self.assertEqual(woken[1:], [1] * 8)
 
     def waiters(self):
-        told = "select worker from wanzoche.waiting join wanzoche.log using (log) where name = %s and since is not null"
+        told = "select worker from wanzoche.waiter join wanzoche.log using (log) where name = %s and since is not null"
         return self.server.run(told, self.name)
 
     def test_who_begins_to_wait_does_so_in_a_turn(self):
@@ -209,13 +213,14 @@ class Sharing(both_stores.Sharing, OnServer, unittest.TestCase):
         self.until(lambda: not self.waiters())
         self.assertEqual(a.journal().count("started"), 2)
 
-    def test_a_process_waits_once(self):
+    def test_threads_that_wait_begin_in_one_append(self):
+        """Each of them stands in order, and several lines go in one append."""
         a, b = self.open(BOOK), self.open(BOOK)
         entry = a.enter("write")
         threads = [threading.Thread(target=lambda: b.enter("read", timeout=LONGEST).leave()) for _ in range(10)]
         for thread in threads:
             thread.start()
-        self.until(lambda: b.waiting() == {"read": 10} and len(self.waiters()) == 1)
+        self.until(lambda: b.waiting() == {"read": 10} and len(self.waiters()) == 10)
         calls = []
         call = b._served._log.session.call
         b._served._log.session.call = lambda *given: (calls.append(given[0][0]), call(*given))[1]
@@ -224,7 +229,7 @@ class Sharing(both_stores.Sharing, OnServer, unittest.TestCase):
             thread.join(LONGEST)
         self.assertEqual(a.journal().count("started"), 11)
         started = [(each.given[4] or b"").count(b"start read") for each in calls if each.name == b"append"]
-        self.assertGreater(max(started), 1)  # several lines go in one append
+        self.assertGreater(max(started), 1)
         self.assertEqual((b.waiting(), self.waiters()), ({}, []))
 
     def test_who_has_nothing_to_do_sleeps(self):
@@ -697,7 +702,7 @@ class Deaths(both_stores.Deaths, OnServer, unittest.TestCase):
         a, b = self.open(BOOK), self.open(BOOK)
         entry = a.enter("write")
         child = self.child(lambda: self.made(BOOK).enter("write"))
-        told = "select count(*) from wanzoche.waiting join wanzoche.log using (log) where name = %s and since is not null"
+        told = "select count(*) from wanzoche.waiter join wanzoche.log using (log) where name = %s and since is not null"
         self.until(lambda: self.server.run(told, self.name) == [(1,)])
         os.kill(child, signal.SIGKILL)
         os.waitpid(child, 0)

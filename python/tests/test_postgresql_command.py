@@ -8,6 +8,7 @@ import socket
 import subprocess
 import sys
 import tempfile
+import threading
 import time
 import unittest
 import urllib.request
@@ -67,6 +68,31 @@ class Commands(OnServer, unittest.TestCase):
         told, why, status = self.runs("exec", "--declaration", self.declaration, "--nonblock", "remove", "--", "echo", "hello")
         self.assertEqual((told, status), ("", 1))
         self.assertRegex(why, "^wanzoche: remove is blocked: .* in progress: nothing of it; may begin next: deposit\n$")
+
+    def test_who_is_withheld_is_told_so_on_a_terminal(self):
+        """For whom, and which processes are in the way. No door opens there."""
+        a, b = self.open(BOOK), self.open(BOOK)
+        try:
+            ours, theirs = os.openpty()
+        except OSError:
+            self.skipTest("this system makes no pseudo-terminals, as a chroot without /dev/pts")
+        self.addCleanup(os.close, ours)
+        entry, writer = a.enter("read"), threading.Thread(target=lambda: b.enter("write", timeout=LONGEST).leave())
+        writer.start()
+        self.until(a.waiters)
+        words = self.words("exec", "read", "--", "echo", "hello")
+        words[2] = "from wanzoche import _order; _order.SHUT = 10**15; " + words[2]
+        with running(words, stdin=subprocess.DEVNULL, stdout=subprocess.PIPE, stderr=theirs) as process:
+            os.close(theirs)
+            told = b""
+            while not told.endswith(b"\n"):
+                told += os.read(ours, 1000)
+            why = "^wanzoche: waiting: read is withheld: behind write by process 2, which has waited [0-9.]+ s, path 0 of book: .*; "
+            why += "in progress: read by process 1 [(]process 2 is {0} .*, process 1 is {0} .*[)]\r\n$"
+            self.assertRegex(told.decode(), why.format(os.getpid()))
+            entry.leave()
+            self.assertEqual((process.stdout.read(), process.wait(LONGEST)), (b"hello\n", 0))
+        writer.join(LONGEST)
 
     def test_a_command_outlives_who_runs_it(self):
         """Then its operation is in progress until it ends, too."""

@@ -242,7 +242,7 @@ class Refusals(Faulty, unittest.TestCase):
 
     def waiting(self):
         """The workers that wait, as far as the server knows."""
-        told = "select worker from wanzoche.waiting join wanzoche.log using (log) where name = %s and since is not null"
+        told = "select worker from wanzoche.waiter join wanzoche.log using (log) where name = %s and since is not null"
         return {worker for (worker,) in self.server.run(told, self.name)}
 
     def test_who_was_refused_waits_no_more(self):
@@ -398,8 +398,8 @@ class Odd(Faulty, unittest.TestCase):
     def test_an_error_that_nobody_foresaw(self):
         """Who asks is told, and nobody enters beside the process that has it."""
         a, b = self.open(BOOK), self.open(BOOK)
-        entry = a.enter("write")
-        with mock.patch.object(a._served._log, "follow", side_effect=ValueError("odd")):
+        entry, odd = a.enter("write"), mock.Mock(side_effect=ValueError("odd"))
+        with mock.patch.multiple(a._served._log, follow=odd, look=odd):
             for call in (a.report, lambda: a.try_enter("read"), lambda: a.why("read")):
                 with self.assertRaisesRegex(ValueError, "^odd$"):
                     call()
@@ -762,7 +762,7 @@ class Cancellations(unittest.TestCase):
         self.assertNotEqual(heartbeat, _postgresql.HEARTBEAT)
 
         def locks(chance):
-            for table in ("line", "waiting"):
+            for table in ("line", "waiter"):
                 the_server().run("begin; lock table wanzoche.{}; select pg_sleep(1.4); commit".format(table))
                 time.sleep(chance.random() * 0.3)
 

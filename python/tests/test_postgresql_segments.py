@@ -299,7 +299,7 @@ class Segments(Rotating, unittest.TestCase):
         a, b = self.open(BOOK), self.open(BOOK)
         own, others, lives = [a.enter("read") for _ in range(3)]
         log = a._served._log
-        given = (log._log, b"1", b"3", log.place.stamp, None, b"{0}", b"{}", b"{}", b"{}", b"f")
+        given = (log._log, b"1", b"3", log.place.stamp, None, b"{0}", b"{}", b"{}")
         self.asks(a, lambda: log._call(_log.Call(b"append", given)))
         self.asks(b, lambda: b._served._log.bury(1, [1], [], True))
         self.moves(b)
@@ -835,6 +835,7 @@ class Earlier(Rotating):
 
     grace = SHORT_GRACE
     earlier: int
+    opens = "select l from wanzoche.open(%s, %s)"
 
     def setUp(self):
         super().setUp()
@@ -842,7 +843,7 @@ class Earlier(Rotating):
         self.addCleanup(self.server.end)
         with open(os.path.join(os.path.dirname(os.path.abspath(__file__)), "schema{}.sql".format(self.earlier))) as file:
             self.server.run(file.read())
-        self.log = self.server.run("select l from wanzoche.open(%s, %s)", self.name, self.declaration())[0][0]
+        self.log = self.server.run(self.opens, self.name, self.declaration())[0][0]
 
     def declaration(self):
         """As the library spells it."""

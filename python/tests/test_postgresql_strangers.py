@@ -159,7 +159,7 @@ class Strangers(AtOwnServer, unittest.TestCase):
         a, b = self.open(BOOK), self.open(BOOK)
         entry = a.enter("write")
         child = self.child(lambda: self.made(BOOK).enter("write"))
-        waiting = "select count(*) from wanzoche.waiting where since is not null"
+        waiting = "select count(*) from wanzoche.waiter where since is not null"
         self.until(lambda: self.server.run(waiting) == [(1,)])
         ((key,),) = self.server.run("select lock from wanzoche.worker where worker = 3")
         self.stranger.take_what_others_have()
@@ -168,7 +168,7 @@ class Strangers(AtOwnServer, unittest.TestCase):
         self.until(lambda: self.stranger.has(key))
         waits = threading.Thread(target=lambda: b.enter("write", timeout=LONGEST).leave())
         waits.start()
-        told = "select worker from wanzoche.waiting where since is not null"
+        told = "select worker from wanzoche.waiter where since is not null"
         self.until(lambda: self.server.run(told) == [(2,)])
         self.assertTrue(self.stranger.has(key))
         entry.leave()
@@ -217,7 +217,7 @@ class Lookers(AtOwnServer, unittest.TestCase):
 
     def standing(self):
         """All that a writer could have changed."""
-        tables = ("log", "line", "segment", "worker", "waiting", "turn")
+        tables = ("log", "line", "segment", "worker", "waiter", "waiting", "turn")
         return [self.server.run("select x::text from wanzoche.{} x order by 1".format(table)) for table in tables]
 
     def test_what_it_may(self):

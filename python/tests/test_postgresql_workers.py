@@ -28,7 +28,7 @@ class Rows(OnServer, unittest.TestCase):
 
     def waiting(self):
         """How many rows say that another than the first waits or has waited."""
-        told = "select count(*) from wanzoche.waiting join wanzoche.log using (log) where name = %s and worker <> 1"
+        told = "select count(*) from wanzoche.waiter join wanzoche.log using (log) where name = %s and worker <> 1"
         return self.server.run(told, self.name)[0][0]
 
     def add_dead(self, count):

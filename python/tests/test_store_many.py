@@ -2,17 +2,17 @@
 wrong is noticed. WANZOCHE_ROUNDS makes more rounds, and WANZOCHE_SEED repeats one.
 """
 
-import os
 import random
 import unittest
 from unittest import mock
 
-from wanzoche import Paths, Timeout, _beside, _store
+import wanzoche
+from wanzoche import Paths, StoreLate, Timeout, _store
 
 from . import witness
 from .declarations import BOOK, SLOT
 from .limits import LONGEST
-from .stores import THOROUGH, only_in_python
+from .stores import THOROUGH
 from .witness import BUFFER, ROUNDS
 
 IMPATIENCE = 20
@@ -20,22 +20,18 @@ IMPATIENCE = 20
 
 
 class Worker(witness.Worker):
-    """One process of a round, half of them with their turns in Python."""
+    """One process of a round."""
 
     def run(self, entries):
         paths = Paths(self.round.text, store=self.round.store, sync=self.round.sync)
-        if random.random() < 0.5:
-            only_in_python(paths._store)
         if self.round.kills:
-            self.dies_around(_store.Store, "_append", 0.001)
-            self.dies_around(_beside.Beside, "give_turn", 0.001)
-            self.dies_around(os, "rename", 0.02)
-            self.dies_around(os, "link", 0.02)
+            for name in ("start_now", "finish_now", "sleep"):
+                self.dies_around(_store.Store, name, 0.001)
         for each in range(entries):
             operation = paths.operations[each % 2] if self.round.text != BOOK else random.choice(paths.operations)
             try:
                 entry = paths.enter(operation, timeout=LONGEST if self.round.text == BOOK else 0.2)
-            except Timeout:
+            except (Timeout, StoreLate):
                 if self.round.text == BOOK:
                     raise
                 continue  # the partners may be dead
@@ -99,17 +95,12 @@ class Many(unittest.TestCase):
     def test_files_that_are_moved_away(self):
         self.rounds(BOOK, 6, 150, kills=0.03, room=30)
 
-    def test_a_book_without_a_futex(self):
-        with mock.patch.dict(os.environ, {"WANZOCHE_FUTEX": "none"}):
-            self.rounds(BOOK, 4, 60, kills=0.01)
-
 
 @unittest.skipUnless(THOROUGH, "it takes long")
 class WrongStores(unittest.TestCase):
     """One thing is changed in each, and a round has to find it."""
 
     def found(self, *patches, text=BOOK, kills=0.0, patience=IMPATIENCE):
-        patches += (mock.patch.object(_store.Store, "_be_ready", lambda *given: None),)  # what is changed is Python
         for patch in patches:
             patch.start()
         try:
@@ -122,43 +113,28 @@ class WrongStores(unittest.TestCase):
                 patch.stop()
         self.fail("nothing was noticed")
 
-    def test_it_takes_the_living_for_dead(self):
-        self.found(mock.patch.object(_beside.Beside, "is_gone", lambda self, worker: True))
+    def test_it_says_started_of_what_is_blocked(self):
+        admits = _store.Store.admits
+        self.found(mock.patch.object(_store.Store, "admits", lambda store, *given: random.random() < 0.05 or admits(store, *given)))
 
-    def test_it_decides_outside_of_its_turn(self):
-        self.found(mock.patch.object(_beside.Beside, "take_turn", lambda self: None))
+    def test_it_forgets_to_finish(self):
+        finish = _store.Store.finish
 
-    def test_it_appends_without_following(self):
-        follow = _store.Store._follow
+        def forgets(store, begun):
+            if random.random() < 0.95:
+                return finish(store, begun)
+            begun._live = False
+            return wanzoche._native.FINISHED, begun
 
-        def at_opening(store, size, is_alone):
-            if store.worker == 0:
-                follow(store, size, is_alone)
-            else:
-                store._end = size
+        self.found(mock.patch.object(_store.Store, "finish", forgets), patience=1.5)
 
-        self.found(mock.patch.object(_store.Store, "_follow", at_opening))
+    def test_it_keeps_what_the_dead_had(self):
+        opens = _store.Store.__init__
 
-    def test_it_finishes_twice(self):
-        def twice(store, worker, number):
-            store._replica.finish(worker, number)
-            for _ in range(2):
-                store._append(b"%b%d finish %d: finished\n" % (store._mark(), worker, number))
-            return True
+        def keeps(store, *given, **named):
+            opens(store, *given, **{**named, "finishes_lost": False})
 
-        self.found(mock.patch.object(_store.Store, "_write_finish", twice))
-
-    def test_it_answers_what_it_has_not_written(self):
-        append = _store.Store._append
-
-        def forgets(store, text):
-            if b"start" not in text or random.random() < 0.9:
-                append(store, text)
-
-        self.found(mock.patch.object(_store.Store, "_append", forgets))
-
-    def test_it_never_finishes_for_the_dead(self):
-        self.found(mock.patch.object(_store.Store, "_finish_lost", lambda self: False), kills=0.3, patience=1.5)
+        self.found(mock.patch.object(_store.Store, "__init__", keeps), kills=0.3, patience=1.5)
 
 
 if __name__ == "__main__":

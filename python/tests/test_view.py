@@ -1,13 +1,14 @@
 """A store over a file for who only reads its files."""
 
 import fcntl
+import mmap
 import os
 import signal
 import shutil
+import struct
 import unittest
 
-from wanzoche import CorruptStore, OtherDeclaration, StoreError
-from wanzoche._beside import Beside, _asked, _is_free
+from wanzoche import CorruptStore, OtherDeclaration, StoreError, StoreLate
 from wanzoche._reading import OnlyReading, Reader
 from wanzoche._showing import Onlooker
 
@@ -61,7 +62,7 @@ class Reading(OnReader, unittest.TestCase):
             waits = self.child(lambda: self.made(BOOK).enter("read"))
             self.addCleanup(os.waitpid, waits, 0)
             self.addCleanup(os.kill, waits, signal.SIGKILL)
-            self.until(lambda: paths._store._beside.waiting[0])
+            self.until(paths.waiting)
             reader = self.reader()
             self.looks(reader)
             self.assertEqual(reader.state(), Onlooker(paths).state()._replace(report=reader.state().report))
@@ -82,26 +83,24 @@ class Reading(OnReader, unittest.TestCase):
         with open(self.file, "rb") as file, open(self.file + ".shared", "rb") as beside:
             fcntl.flock(file, fcntl.LOCK_EX | fcntl.LOCK_NB)
             for fd in (file.fileno(), beside.fileno()):
-                self.assertTrue(_is_free(fd, _asked(fcntl.F_WRLCK, 0, 0)))
+                asked = struct.pack("hhqqi4x", fcntl.F_WRLCK, os.SEEK_SET, 0, 0, 0)
+                self.assertEqual(struct.unpack("hhqqi4x", fcntl.fcntl(fd, 36, asked))[0], fcntl.F_UNLCK)  # F_OFD_GETLK
         before = self.text()
         paths = self.open(BOOK)
-        self.assertFalse(paths._store._beside.has_others())
-        self.assertEqual(self.text(), before)
+        self.assertEqual((paths.worker, self.text()), ("process 2", before))
 
     def test_nobody_holds_it_up(self):
         """As a process that was stopped in its turn."""
         paths = self.open(BOOK)
         reader = self.reader()
         self.looks(reader)
-        beside = Beside(self.file + ".shared")
-        self.addCleanup(beside.close)
-        with paths("read"):
-            beside.take_turn()
-            beside.take_sync()
+        with open(self.file + ".shared", "r+b") as file, mmap.mmap(file.fileno(), 4096) as page, paths("read"):
+            page[64:68] = struct.pack("=I", 1)  # the turn is that of process 1
             self.assertEqual(self.looks(reader), "1 start read: started 0\n")
             self.assertEqual(self.live(reader), [("read", 1, False)])
-            beside.give_sync()
-            beside.give_turn()
+            with self.assertRaises(StoreLate):
+                paths.try_enter("read")
+            page[64:68] = bytes(4)
 
     @unittest.skipIf(os.geteuid(), "only root can become another user")
     def test_the_right_to_read_will_do(self):
@@ -113,7 +112,7 @@ class Reading(OnReader, unittest.TestCase):
                 try:
                     os.setgid(ANOTHER)
                     os.setuid(ANOTHER)
-                    reader = Reader(self.file)
+                    reader = Reader(self.file, BOOK.encode())
                     reader.look(print)
                     os._exit(10 * os.access(self.file, os.W_OK) + reader.lines + len(reader.state().in_progress))
                 except BaseException as error:
@@ -131,7 +130,7 @@ class Reading(OnReader, unittest.TestCase):
         with paths("write"):
             for _ in range(3):
                 paths.rotate()
-                paths._store._in_turn(lambda: None)
+                paths.report()
             self.assertEqual(self.looks(reader), "1 start write: started 1\n")
             paths.rotate()
         self.assertEqual(self.looks(reader), "1 finish 1: finished\n")

@@ -11,7 +11,8 @@ import time
 import unittest
 from unittest import mock
 
-from wanzoche import Blocked, Paths, Timeout, Worker, _store, _waiting, prometheus
+from wanzoche._native import BLOCKED
+from wanzoche import Blocked, Paths, Timeout, Worker, _filed, _waiting, prometheus
 from wanzoche._metrics import BOUNDS, Waits
 
 from .declarations import BOOK
@@ -136,7 +137,7 @@ class Told(InFolder, unittest.TestCase):
 
     def setUp(self):
         super().setUp()
-        for module in (_waiting, _store):
+        for module in (_waiting, _filed):
             sooner = mock.patch.object(module, "FIRST_LOOK", 0.02)
             sooner.start()
             self.addCleanup(sooner.stop)
@@ -178,14 +179,30 @@ class Told(InFolder, unittest.TestCase):
         return seen.messages[0]
 
     def test_tasks_that_wait_are_told_of_together(self):
-        for paths in (Paths(BOOK), self.open(BOOK)):
-            self.assertRegex(self.waiting_tasks(paths), r"^task \d \(and 1 more\) has waited for \d+ s: write is blocked")
+        self.assertRegex(self.waiting_tasks(Paths(BOOK)), r"^task \d \(and 1 more\) has waited for \d+ s: write is blocked")
+
+    def test_a_task_that_waits_at_a_store(self):
+        seen, paths = Seen(self, "has waited"), self.open(BOOK)
+
+        async def writes():
+            async with paths.aio("write"):
+                pass
+
+        async def main():
+            async with paths.aio("read"):
+                task = asyncio.ensure_future(writes())
+                while not seen.messages:
+                    await asyncio.sleep(0.001)
+            await task
+
+        asyncio.run(asyncio.wait_for(main(), LONGEST))
+        self.assertRegex(seen.messages[0], r"^task \d has waited for \d+ s: write is blocked")
 
     def test_nothing_is_asked_where_nobody_reads_it(self):
         paths = self.open(BOOK)
         seen = Seen(self, "", logging.WARNING)
         with mock.patch.object(paths, "report", side_effect=AssertionError):
-            paths._waits_long(0, 1, 0.0)
+            paths._tell_long_wait(paths("read")._begun, BLOCKED, 1, 0.0)
         self.assertEqual(seen.messages, [])
 
     def test_a_process_that_died(self):

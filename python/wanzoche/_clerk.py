@@ -19,9 +19,11 @@ from typing import Any, Callable, Deque, Dict, List, Optional, Sequence, Set, Tu
 
 from . import _native as native
 from ._errors import Closed, CorruptStore, StoreError
-from ._log import Gone, Log, Wishes, may_pass
+from ._log import Gone, Log, Passing, Wait, Wishes, may_pass
+from ._order import NEVER, Told
 from ._postgresql import Cut, Slow
 from ._requests import Batch, Bell, Finish, Held, Nobody, Question, Request, Start, Use, wake_nobody
+from ._served_order import LAST, Here, Standing
 from ._texts import Path
 
 CHECK = 1.0
@@ -70,12 +72,13 @@ class Clerk:
         self.log = log
         self.held: Dict[int, Held] = {}
         self.fault: Optional[BaseException] = None
-        self.waits_long: Callable[[int, int, float], None] = lambda op, caller, since: None
-        """Called at the desk of a start that has waited for a second, for two, four and so on, since then."""
+        self.waits_long: Callable[[int, int, float, Optional[Told]], None] = lambda op, caller, since, told: None
+        """Called at the desk of a start that has waited for a second, for two, four and so on: since when, and for whom it is withheld."""
         self.away: Optional[Exception] = None
         """Why the server can't be reached, or what it refuses; None while all is well."""
-        self.explains: Callable[[int], Any] = lambda op: None
-        """Called at the desk of an operation: what forbids it, as far as is known without a call at the server."""
+        self.explains: Callable[[int, Optional[Told]], Any] = lambda op, told: None
+        """Called at the desk of an operation, and for whom it is withheld: what is in its way, as far as is known without a call at the
+        server."""
         self._away_since: Optional[float] = None  # since when there is no session
         self.is_over = False
         self._names = {op: name.encode() for name, op in numbers.items()}
@@ -99,8 +102,11 @@ class Clerk:
         self._unknown: Set[int] = set()  # activations of this worker that nobody here has asked for, or wants any more
         self._done: Dict[int, Held] = {}  # those that were finished without a reply
         self._flight: Optional[Batch] = None
-        self._registered: Set[int] = set()  # the operations for which the server knows that this worker waits
-        self._doubtful: Set[int] = set()  # those of them of which it may not know it
+        self._slots: Dict[int, Start] = {}  # who waits, or did, as far as the server may know
+        self._free_slots: List[int] = []
+        self._surely: Set[int] = set()  # the slots of which it does know it
+        self._patience = NEVER if log.patience == float("inf") else int(log.patience * 1e9)
+        self._opens_at = float("inf")  # when a door opens for one who waits here
         self._passes: Set[int] = set()  # the operations of which the next waiter has yet to be woken
         self._beaten = 0
         self._alone: Set[int] = set()  # the operations of which two were never admitted at once
@@ -157,7 +163,7 @@ class Clerk:
         if bell is None:
             return
         while self._waits_here is start and not start.is_over():
-            now, ends = time.monotonic(), min(self._check_at, float("inf") if until is None else until)
+            now, ends = time.monotonic(), min(self._check_at, self._opens_at, float("inf") if until is None else until)
             if until is not None and now >= until:
                 break
             bell.wait(self._watched, None if ends == float("inf") else ends - now)
@@ -215,6 +221,7 @@ class Clerk:
             return False
         self._check_at = float("inf")
         self._poller.modify(watched, 0)  # or each answer would wake the clerk
+        self._opens_at = float("inf")
         only = self._only(request)
         if only is None:
             self._put_in(request)
@@ -296,8 +303,9 @@ class Clerk:
         log = self.log
         if isinstance(request, Start):
             answer = log.replica.owed_start(log.worker, request.held._op)
-            if answer.code == native.STARTED:
-                return Batch(((request, self._start_line(request.held._op, answer.number)),), {}, Wishes(), log.place, False)
+            if answer.code == native.STARTED and self._withheld_for(request) is None:
+                line = self._start_line(request.held._op, answer.number)
+                return Batch(((request, line),), {}, Wishes(), log.place, False, self._passing(request))
         elif isinstance(request, Finish):
             held = request.held
             if held._live and self.held.get(held._number) is held and not self._is_lost(held._number):
@@ -394,7 +402,8 @@ class Clerk:
             raise Cut("the connection was closed")
         if fd != self._watched:
             self._watch(fd)
-        seconds = max(self._check_at - time.monotonic(), 0) if self._check_at < float("inf") else None
+        ends = min(self._check_at, self._opens_at)
+        seconds = max(ends - time.monotonic(), 0) if ends < float("inf") else None
         self._is_asleep = True
         self._desk.release()
         ready = [] if self._inbox else self._poller.poll(seconds)
@@ -435,13 +444,21 @@ class Clerk:
 
     def _put_in(self, request: Request) -> None:
         if isinstance(request, Start):
-            self._starts.setdefault(request.held._op, deque()).append(request)
+            self._stand(request)
         elif isinstance(request, Use):
             self._uses.append(request)
         elif isinstance(request, Finish):
             self._finishes.append(request)
         elif isinstance(request, Question):
             self._questions.append(request)
+
+    def _stand(self, start: Start) -> None:
+        """Among those who want the same operation: before all of a lower priority, and behind the others."""
+        queue, key = self._starts.setdefault(start.held._op, deque()), start.key()
+        place = len(queue)
+        while place and queue[place - 1].key() > key:
+            place -= 1
+        queue.insert(place, start)
 
     def _step(self) -> bool:
         """One call at the server, or several in a turn: False if there is nothing to do."""
@@ -455,14 +472,15 @@ class Clerk:
     def _do_next(self) -> bool:
         """The same, of what was read."""
         if self._is_idle():
-            self._check_at = float("inf")
+            self._check_at = self._opens_at = float("inf")
             return False
         self._forget_unwanted()
         self._take_notices()
         if time.monotonic() >= self._check_at:
             self._check()
             return True
-        if self._is_stale:
+        if self._is_stale or time.monotonic() >= self._opens_at:
+            self._opens_at = float("inf")
             self._follow()
             return True
         self._has_moved = self.log.place.lines >= self.log.due and not self._has_moved
@@ -481,14 +499,14 @@ class Clerk:
 
     def _is_idle(self) -> bool:
         """Whether there is nothing to do, and nobody waits."""
-        has_work = self._finishes or self._uses or self._questions or self._unknown or self._passes or self._is_stale or self._registered
+        has_work = self._finishes or self._uses or self._questions or self._unknown or self._passes or self._is_stale or self._slots
         return not (has_work or self.log.session.notices or any(self._starts.values()) or self.log.place.lines >= self.log.due)
 
     def _forget_unwanted(self) -> None:
         for op, queue in self._starts.items():
             for start in queue:
                 if start.is_late and not start.is_over():
-                    start.told = self.explains(op)
+                    start.told = self.explains(op, self.behind(start))
                     start.reply(native.BLOCKED, self.away)
             if not all(each.is_wanted() for each in queue):
                 self._starts[op] = deque(each for each in queue if each.is_wanted())
@@ -509,17 +527,20 @@ class Clerk:
 
     def _append(self) -> bool:
         """What is wanted now, in one append. False if nothing is."""
+        self._opens_at = float("inf")
         self._reply_blocked()
         finishes = self._taken_finishes()
         wanted = self._admissible()
         if len(wanted) > 1 or wanted and self._beaten >= BEATEN:
             self._append_in_turn(finishes)
             return True
-        wishes = self._wishes(finishes, wanted[0][0] if wanted else None)
+        first = wanted[0][0] if wanted else None
+        wishes = self._wishes(finishes, first)
         looks = self._uses or any(not (each.waits or each.has_looked) for queue in self._starts.values() for each in queue)
         if not (wanted or looks or any(wishes)):
             return False
-        self._send(Batch(tuple(wanted), finishes, wishes, self.log.place, False))
+        passing = self._passing(first) if isinstance(first, Start) else None
+        self._send(Batch(tuple(wanted), finishes, wishes, self.log.place, False, passing))
         return True
 
     def _wishes(self, finishes: Dict[int, Finish], first: Optional[Request]) -> Wishes:
@@ -527,23 +548,103 @@ class Clerk:
         wakes = {op for number in finishes for op in self._rivals_of(number)}
         wakes |= {op for op in self._passes if self.log.replica.can_start(op)}
         self._passes.clear()
-        waits, stops = self._waits_and_stops(first)
-        return Wishes(tuple(finishes), tuple(wakes), waits, stops)
+        begins = [] if first is None else [first]
+        waits, leaves = self._waits(begins), self._leaves(begins)
+        return Wishes(tuple(finishes), tuple(wakes | self._freed(leaves, begins)), waits, leaves)
 
-    def _waits_and_stops(self, first: Optional[Request]) -> Tuple[Tuple[int, ...], Tuple[int, ...]]:
-        """The operations for which this worker waits from now on, and those for which it doesn't. Who waits behind one that is started
-        is the last to come, as if it came now."""
-        own = first.held._op if isinstance(first, Start) else -1
-        waits, stops = [], []
-        for op in self._registered | {op for op, queue in self._starts.items() if any(each.waits for each in queue)}:
-            others = sum(each.waits for each in self._starts.get(op, ())) - (op == own)
-            if op in self._registered and (op == own or others <= 0):
-                stops.append(op)
-            if others > 0 and (op == own or op not in self._registered or op in self._doubtful):
-                waits.append(op)
-        if waits:
+    def _waits(self, begins: Sequence[Request]) -> Tuple[Wait, ...]:
+        """Who waits from now on, but for these: those of whom the server doesn't know it yet, in the order in which they came."""
+        waiting = [each for queue in self._starts.values() for each in queue if each.is_waiting() and each not in begins]
+        new = sorted((each for each in waiting if each.slot not in self._surely), key=lambda each: each.ticket)
+        if new:
             self._check_at = min(self._check_at, time.monotonic() + CHECK / 4)
-        return tuple(waits), tuple(stops)
+        return tuple(self._wait_of(each) for each in new)
+
+    def _wait_of(self, start: Start) -> Wait:
+        """What the server is told of one. It has a slot then."""
+        if start.slot is None:
+            start.slot = self._free_slots.pop() if self._free_slots else len(self._slots)
+            self._slots[start.slot] = start
+        return Wait(start.slot, start.held._op, start.priority, sorted(self._held_by({start.caller})))
+
+    def _leaves(self, begins: Sequence[Request]) -> Tuple[int, ...]:
+        """The slots of those who don't wait any more, and of these, which begin."""
+        stays = {each.slot for queue in self._starts.values() for each in queue if each.is_waiting() and each not in begins}
+        return tuple(slot for slot in self._slots if slot not in stays)
+
+    def _freed(self, leaves: Sequence[int], begins: Sequence[Request]) -> Set[int]:
+        """The operations that may have been withheld for those who have given up."""
+        gone = [self._slots[slot] for slot in leaves]
+        return {op for each in gone if each not in begins and each.code != native.STARTED for op in self._rivals[each.held._op]}
+
+    def _note_slots(self, wishes: Wishes, has_left: bool) -> None:
+        """What the server knows now of who waits here."""
+        self._surely.update(each.slot for each in wishes.waits)
+        for slot in wishes.leaves if has_left else ():
+            if self._slots.pop(slot, None) is not None:
+                self._free_slots.append(slot)
+            self._surely.discard(slot)
+
+    # The order of those who wait
+
+    def behind(self, start: Start) -> Optional[Told]:
+        """At the desk: for whom a start is withheld that wants its turn here; None if it isn't, also where a path forbids it."""
+        ahead = self._withheld_for(start) if self.log.replica.can_start(start.held._op) else None
+        return None if ahead is None else ahead.told(time.monotonic_ns())
+
+    def ahead_of(self, op: int, caller: int) -> Optional[Told]:
+        """At the desk: for whom a start of this operation, which no path forbids, would be withheld of a thread or task that comes now."""
+        now = time.monotonic_ns()
+        ahead = self.log.line.withheld_for(Standing(op, 0, 2 * LAST - 1, now, NEVER, self.log.worker, caller), self._own(), now)
+        return None if ahead is None else ahead.told(now)
+
+    def first_of(self, op: int) -> Optional[Start]:
+        """At the desk: the first here that waits for this operation."""
+        return next((each for each in self._starts.get(op, ()) if each.is_waiting()), None)
+
+    def waiters(self) -> List[Told]:
+        """At the desk: all who wait, in order."""
+        now = time.monotonic_ns()
+        here = [self._standing(each) for queue in self._starts.values() for each in queue if each.is_waiting()]
+        return [each.told(now) for each in self.log.line.all(here)]
+
+    def _standing(self, start: Start) -> Standing:
+        return start.standing(self.log.worker, self._patience)
+
+    def _own(self) -> Here:
+        """Who waits here."""
+        firsts = [self._standing(each) for queue in self._starts.values() for each in _firsts(queue)]
+        return Here(firsts, self._resting)
+
+    def _resting(self, caller: int) -> Set[int]:
+        """What those have in progress who wait here, and this one."""
+        callers = {each.caller for queue in self._starts.values() for each in queue if each.is_waiting()}
+        return self._held_by(callers | {caller})
+
+    def _held_by(self, callers: Set[int]) -> Set[int]:
+        return {number for number, held in self.held.items() if held._worker in callers}
+
+    def _withheld_for(self, start: Start) -> Optional[Standing]:
+        """For whom a start is withheld that no path forbids now. If it waits, it asks again when that one's door opens."""
+        if not self.log.line.others and not self._has_waiters():
+            return None
+        now = time.monotonic_ns()
+        ahead = self.log.line.withheld_for(self._standing(start), self._own(), now)
+        if ahead is not None and start.waits:
+            self._opens_at = min(self._opens_at, ahead.opens_at(now) * 1e-9)
+        return ahead
+
+    def _is_held_back(self, start: Start) -> bool:
+        """Whether a path forbids it, or it is withheld."""
+        return not self.log.replica.can_start(start.held._op) or self._withheld_for(start) is not None
+
+    def _passing(self, start: Start) -> Passing:
+        return Passing(tuple(self._rivals[start.held._op]), self.log.line.known, start.priority, start.ticket)
+
+    def _pass_on(self) -> None:
+        """Behind what may let others go on of which no finish tells them: they are to be woken."""
+        if self.log.line.others:
+            self._passes |= self.log.line.may_go_on(self._own(), time.monotonic_ns())
 
     def _taken_finishes(self) -> Dict[int, Finish]:
         """What is to be finished: those of which the log doesn't say that they are over."""
@@ -595,16 +696,21 @@ class Clerk:
             line = self._use_line(use, self.log.replica.owed_use)
             if line is not None:
                 found.append((use, line))
-        for op, queue in self._starts.items():
+        for op, queue in self._in_order():
             ready = [each for each in queue if each.is_ready()]
             if ready and len(found) < 2:
                 answer = self.log.replica.owed_start(self.log.worker, op)
                 if answer.code == native.STARTED:
-                    line = self._start_line(op, answer.number)
-                    found += [(each, line) for each in ready[: 1 if op in self._alone else 2]]
+                    line, first = self._start_line(op, answer.number), ready[: 1 if op in self._alone else 2]
+                    found += [(each, line) for each in first if self._withheld_for(each) is None]
                 elif answer.code != native.BLOCKED:
                     self._refuse_starts(op, answer.code)
         return found
+
+    def _in_order(self) -> List[Tuple[int, Deque[Start]]]:
+        """The operations that somebody wants here, with who does so: as the first of each stand in order."""
+        wanted = [(op, queue) for op, queue in self._starts.items() if queue]
+        return sorted(wanted, key=lambda each: each[1][0].key())
 
     def _refuse_starts(self, op: int, code: int) -> None:
         """Replies to those for which there is no room."""
@@ -645,12 +751,13 @@ class Clerk:
         lines += self._used_now() + self._started_now()
         ops = {op for number in finishes for op in self._rivals_of(number)} | self._passes
         self._passes.clear()
-        waits, stops = self._waits_and_stops(None)
-        wakes = tuple(op for op in ops if log.replica.can_start(op))
-        if not (lines or stops or waits or wakes):
+        begins = [request for request, _ in lines if isinstance(request, Start)]
+        waits, leaves = self._waits(begins), self._leaves(begins)
+        wakes = tuple(op for op in ops | self._freed(leaves, begins) if log.replica.can_start(op))
+        if not (lines or leaves or waits or wakes):
             log.end_turn()
             return
-        self._send(Batch(tuple(lines), finishes, Wishes((), wakes, waits, stops), before, True))
+        self._send(Batch(tuple(lines), finishes, Wishes((), wakes, waits, leaves), before, True))
 
     def _put_back(self, finishes: Dict[int, Finish]) -> None:
         """They are wanted as before."""
@@ -668,31 +775,33 @@ class Clerk:
 
     def _started_now(self) -> List[Tuple[Request, bytes]]:
         lines: List[Tuple[Request, bytes]] = []
-        for op, queue in self._starts.items():
-            ready, count = [each for each in queue if each.is_ready()], 0
-            for start in ready[: max(TOGETHER - len(lines), 0)]:
-                answer = self.log.replica.start(self.log.worker, op)
-                if answer.code != native.STARTED:
-                    break
-                queue.remove(start)
+        begun: Set[int] = set()
+        refused: Set[int] = set()
+        ready = sorted((each for queue in self._starts.values() for each in queue if each.is_ready()), key=Start.key)
+        for start in ready:
+            op = start.held._op
+            if op in refused or len(lines) >= TOGETHER:
+                continue
+            answer = None if self._is_held_back(start) else self.log.replica.start(self.log.worker, op)
+            if answer is not None and answer.code == native.STARTED:
+                self._starts[op].remove(start)
                 lines.append((start, self._start_line(op, answer.number)))
-                count += 1
-            if len(ready) > 1 and count == 1:
-                self._alone.add(op)
+                begun.add(op)
+            else:
+                refused.add(op)
+        self._alone |= {op for op in begun & refused if not self.log.replica.can_start(op)}
         return lines
 
     def _send(self, batch: Batch) -> None:
         """Appends, and replies. If the session is cut meanwhile, the batch is sent again by the next one. If the server refuses something,
         the batch is on its way until the log says whether its lines are there."""
         self._flight = batch
-        is_in, taken = self.log.append(batch.text(), batch.wishes, before=batch.before, is_stepped=batch.is_stepped)
+        given: Dict[str, Any] = {"before": batch.before, "is_stepped": batch.is_stepped, "passing": batch.passing}
+        given["looks"] = self._looks_with(batch)
+        is_in, taken = self.log.append(batch.text(), batch.wishes, **given)
         self._flight, self._outage = None, None
+        self._note_slots(batch.wishes, is_in or not batch.lines)
         self._looked()
-        if is_in or not batch.lines:
-            self._registered.difference_update(batch.wishes.stops)
-            self._doubtful.difference_update(batch.wishes.stops)
-        self._registered.update(batch.wishes.waits)
-        self._doubtful.difference_update(batch.wishes.waits)
         for number in batch.wishes.over:
             self._finished(batch.finishes[number], number, number in taken)
         if is_in:
@@ -700,10 +809,21 @@ class Clerk:
             self._confirm(batch)
         elif batch.lines:
             self._beaten += 1
+            self._passes.update(batch.wishes.wakes)
             self._revert(batch)
             if batch.is_stepped:
                 self._begin_anew()
+        if is_in or any(each.holds for each in batch.wishes.waits):
+            self._pass_on()
         self._reply_blocked()
+
+    def _looks_with(self, batch: Batch) -> bool:
+        """Whether it is asked with an append who waits: if others wait here, or did elsewhere, or the one that begins has waited. Else a
+        start that meets nobody asks nothing."""
+        begins = [request for request, _ in batch.lines if isinstance(request, Start)]
+        if begins and (self.log.line.others or any(each.slot is not None for each in begins)):
+            return True
+        return any(each not in begins for queue in self._starts.values() for each in queue)
 
     def _send_again(self, batch: Batch) -> None:
         """Of one whose answer wasn't read. If somebody was told meanwhile that it hasn't been done, it is only found out whether it was."""
@@ -715,8 +835,11 @@ class Clerk:
             self._catch_up()
 
     def _looked(self) -> None:
-        """The log has just been followed: a request that is refused now is refused."""
+        """The log has just been followed, and who waits is known: a request that is refused now is refused."""
         self._is_stale = False
+        for slot, ticket in self.log.line.tickets.items():
+            if slot in self._slots:
+                self._slots[slot].ticket = ticket
         for queue in self._starts.values():
             for start in queue:
                 start.has_looked = True
@@ -737,21 +860,19 @@ class Clerk:
 
     def _note_waits(self) -> None:
         """Of those that have to wait."""
-        queues = [queue for op, queue in self._starts.items() if queue and not self.log.replica.can_start(op)]
+        queues = [queue for queue in self._starts.values() if queue and self._is_held_back(queue[0])]
         for start in itertools.chain.from_iterable(queues):
             start.has_waited = start.waits and start.has_looked
 
     def _blocked(self) -> List[Start]:
-        """Those that don't wait, and for which the log was looked at, where a path forbids the start."""
-        queues = [queue for op, queue in self._starts.items() if queue and not self.log.replica.can_start(op)]
-        return [start for queue in queues for start in queue if not start.waits and start.has_looked]
+        """Those that don't wait, and for which the log was looked at, where a path forbids the start or it is withheld."""
+        looked = [each for queue in self._starts.values() for each in queue if not each.waits and each.has_looked]
+        return [each for each in looked if self._is_held_back(each)]
 
     def _confirm(self, batch: Batch) -> None:
         """Its lines are in the log."""
         for request, line in batch.lines:
             if isinstance(request, Start):
-                if request.held._op in batch.wishes.stops:
-                    self._passes.add(request.held._op)  # it was woken, and another may have to be
                 self._started(request, int(line.rsplit(b" ", 1)[1]))
             elif isinstance(request, Use):
                 if request in self._uses:
@@ -792,9 +913,8 @@ class Clerk:
         """Its lines aren't in the log: what they were for is wanted as before."""
         for request, _ in reversed(batch.lines):
             if isinstance(request, Start):
-                queue = self._starts.setdefault(request.held._op, deque())
-                if request not in queue:
-                    queue.appendleft(request)
+                if request not in self._starts.get(request.held._op, ()):
+                    self._stand(request)
             elif isinstance(request, Use) and request not in self._uses:
                 self._uses.insert(0, request)
             elif isinstance(request, Finish) and isinstance(request.held, Nobody):
@@ -822,10 +942,13 @@ class Clerk:
         for start in first:
             if time.monotonic() - start.since >= start.looks:
                 start.looks *= 2
-                self.waits_long(start.held._op, start.caller, start.since)
+                self.waits_long(start.held._op, start.caller, start.since, self.behind(start))
 
     def _follow(self) -> None:
-        self.log.follow()
+        if self.log.only_looks or not (self._has_waiters() or self._questions):
+            self.log.follow()
+        else:
+            self.log.look()
         self._looked()
 
     def _answer_questions(self) -> None:
@@ -899,7 +1022,7 @@ class Clerk:
         self.away, self._away_since, self._watched = None, None, -1
         flight = self._flight
         self._is_unsure = self._is_unsure or flight is not None and not flight.is_stepped and flight.before != self.log.place
-        self._doubtful.update(self._registered)
+        self._surely.clear()
         self._check_at = 0.0
         self._is_stale = True
         if not is_same:
@@ -980,10 +1103,9 @@ class Clerk:
             self._tell(_requests_of(flight), self.away)
 
     def _doubt(self, flight: Batch) -> None:
-        """The server may know that this worker waits, or that it doesn't."""
-        for ops in (flight.wishes.waits, flight.wishes.stops):
-            self._registered.update(ops)
-            self._doubtful.update(ops)
+        """The server may know who waits, or that nobody does."""
+        self._surely.difference_update(each.slot for each in flight.wishes.waits)
+        self._surely.difference_update(flight.wishes.leaves)
 
     def _all_requests(self) -> List[Request]:
         """All that aren't on their way."""
@@ -1010,8 +1132,11 @@ class Clerk:
         self._is_unsure = True
         self._take_flight_back()
         self._unknown.clear()
-        self._registered.clear()
-        self._doubtful.clear()
+        for start in self._slots.values():
+            start.slot = None
+        self._slots.clear()
+        self._free_slots.clear()
+        self._surely.clear()
 
     def _begin_anew(self) -> None:
         """Follows the log from its begin: what this process holds is what stands in it."""
@@ -1062,6 +1187,14 @@ class Clerk:
         self.is_over = True
         self.log.session.close_here()
         self.log.replica.close()
+
+
+def _firsts(queue: Sequence[Start]) -> List[Start]:
+    """The first of each priority who waits, of those who want one operation, in their order."""
+    waiting = (each for each in queue if each.is_waiting())
+    if queue and queue[0].priority == queue[-1].priority:
+        return list(itertools.islice(waiting, 1))
+    return [next(of_one) for _, of_one in itertools.groupby(waiting, lambda each: each.priority)]
 
 
 def _requests_of(batch: Optional[Batch]) -> List[Request]:

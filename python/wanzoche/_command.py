@@ -37,7 +37,11 @@ def _declaration(given: Any) -> bytes:
         return _text_in(given.declaration)
     if given.store is None:
         raise WanzocheError("--store or --declaration is wanted")
-    stored = _stored_declaration(given)
+    try:
+        stored = _stored_declaration(given)
+    except StoreError as error:
+        if given.declaration is None or given.command != "operations" or not _is_forbidden(error):
+            raise
     return stored if given.declaration is None else _text_in(given.declaration)
 
 
@@ -60,7 +64,7 @@ def _stored_declaration(given: Any) -> bytes:
     beside = os.path.realpath(given.store) + ".shared"
     if not os.path.exists(beside):
         raise StoreError("{} isn't there: `wanzoche exec` with --declaration makes a store".format(beside))
-    file_beside = Beside(beside, only_reads=True)
+    file_beside = Beside(beside)
     try:
         return file_beside.declaration().encode()
     finally:
@@ -131,10 +135,14 @@ def _told(looking: Looking, given: Any) -> int:
     return 0
 
 
+def _is_forbidden(error: StoreError) -> bool:
+    """Whether this process may not do what it tried."""
+    return isinstance(error.__cause__, OSError) and error.__cause__.errno in (errno.EACCES, errno.EPERM, errno.EROFS)
+
+
 def _is_only_to_read(error: StoreError, given: Any) -> bool:
     """Whether a store over a file couldn't be opened since this process may not write to it, and the command only looks."""
-    is_forbidden = isinstance(error.__cause__, OSError) and error.__cause__.errno in (errno.EACCES, errno.EPERM, errno.EROFS)
-    return is_forbidden and given.command in LOOKING and not _is_served(given)
+    return _is_forbidden(error) and given.command in LOOKING and not _is_served(given)
 
 
 def _read(given: Any) -> int:

@@ -1,6 +1,6 @@
 /*
 ** What is quick of entries: to make one, begin it, and finish it, without ctypes and without a Python object but the entry. Of a thread
-** that waits, the order of its steps. Last, what is quick of a turn at a store.
+** that waits, the order of its steps. Last, what is quick of a store.
 **
 ** Everything that takes longer is Python, and called by its name: to sleep, to make room, to wake those that wait, to say what is wrong. It
 ** may be cut off by an interrupt at any instruction; what is undone then, and in which order, is said here.
@@ -83,11 +83,8 @@ enum Name {
     CLOSED,
     DROPPED,
     IS_LATE,
-    ITS_NUMBER,
-    ITS_WORKER,
     JOIN,
     LEAVE,
-    LIVE,
     NEW_WAITER,
     NOT_IN_PROGRESS,
     NUMBER,
@@ -108,11 +105,8 @@ static const char *const spelled[NAMES] = {
     [CLOSED] = "_closed",
     [DROPPED] = "_dropped",
     [IS_LATE] = "_is_late",
-    [ITS_NUMBER] = "_number",
-    [ITS_WORKER] = "_worker",
     [JOIN] = "join",
     [LEAVE] = "leave",
-    [LIVE] = "_live",
     [NEW_WAITER] = "_new_waiter",
     [NOT_IN_PROGRESS] = "_not_in_progress",
     [NUMBER] = "_number",
@@ -798,412 +792,91 @@ static PyType_Spec system_spec = {
     "wanzoche._core.System", sizeof(System), 0, Py_TPFLAGS_DEFAULT | Py_TPFLAGS_BASETYPE | Py_TPFLAGS_HAVE_GC, system_slots,
 };
 
-/* Turns at a store. */
+/* Steps at a store. */
 
-/*
-** A start or a finish of one process in its turn, as _store.py has it in Python, where nothing is in the way: the turn before this one ended
-** well, others have appended nothing but whole lines that are owed, the file has room, and the line can be written. For all else the answer
-** is None: then nothing was begun, and the caller does the same in Python, which says what is wrong. What it can't know any more is noted in
-** `was_cut`; the next turn in Python then reads the journal from its begin.
-**
-** The interpreter's lock is kept all the time, but while the turn is another process's. So no other thread and no signal handler comes in
-** between, and a turn is as short as its calls of the system.
-*/
+typedef wanzoche_answer begin_step(void *, uint32_t operation, uint32_t priority, uint32_t caller, uint32_t waits, void *, int64_t limit);
+typedef wanzoche_answer end_step(void *, void *, int64_t limit);
 
-typedef wanzoche_answer start_call(wanzoche *, uint32_t worker, uint32_t operation);
-typedef wanzoche_answer finish_call(wanzoche *, uint32_t worker, uint64_t activation);
-typedef wanzoche_answer take_over_call(wanzoche *, const char *text, size_t length, wanzoche_taken *);
-
-/* The page that all processes map: see _beside.py. */
-typedef struct Page {
-    char magic[16];
-    uint32_t word, rotating;
-    uint64_t inode, workers, end, synced, segment;
-    uint32_t waiting[WANZOCHE_MOST_OPERATIONS];
-    uint8_t woken[WANZOCHE_MOST_OPERATIONS];
-} Page;
-
-/* The base of Store. */
-typedef struct Turns {
+/* The base of stores: to begin and to end an operation where the turn is to be had at once. The interpreter keeps its lock meanwhile. */
+typedef struct Steps {
     PyObject_HEAD
-    unsigned long long segment, base, end; /* which file of the journal, and how far this process has followed it: see Store */
-    unsigned long long added;              /* so many lines were taken over here since the last turn in Python */
-    double looked;                         /* when this process last looked for the dead, by the monotonic clock */
-    unsigned worker;
-    bool is_ready; /* whether a turn may be made here */
-    bool was_cut;
-    bool has_lock;  /* whether this turn has the lock of the process's threads, too */
-    bool has_futex; /* whether others are woken by the page's word */
-    int lines, beside; /* the files of the journal and of the locks */
-    long long left;    /* so many lines more may be in the file */
-    uint32_t operations, due_count;
-    uint32_t due[WANZOCHE_MOST_OPERATIONS]; /* the operations of which one is woken when this turn is over */
-    PyObject *lock, *held, *dropped, *holder;
-    Page *page;
-    wanzoche *handle;
-    start_call *start;
-    finish_call *finish;
-    take_over_call *take_over;
-    can_start_call *can_start;
-} Turns;
+    begin_step *begin;
+    end_step *end;
+    void *store; /* null until it is opened */
+} Steps;
 
-static PyTypeObject *turns_type;
+static PyTypeObject *steps_type;
 
-#define HEAD "journal 3 room 1048576\n"
-enum { HEAD_LENGTH = sizeof HEAD - 1, MOST_TEXT = 65536, LEAST_LEFT = 3, CHECKED = 64 };
-static const off_t TURN = (off_t)1 << 40;
-static const double CHECK = 0.1;
-
-/* Takes or gives the lock of the store's turn: -1 with errno if it isn't free, or in the case of F_OFD_SETLKW if a signal came. */
-static int lock_turn(Turns *turns, short kind, int command) {
-    struct flock asked = {.l_type = kind, .l_whence = SEEK_SET, .l_start = TURN, .l_len = 1};
-    return fcntl(turns->beside, command, &asked);
+/* The store. Null with an exception. */
+static void *opened(Steps *steps) {
+    if (steps->store == NULL) PyErr_SetString(PyExc_RuntimeError, "this store was never opened");
+    return steps->store;
 }
 
-static void release_lock(Turns *turns) {
-    turns->has_lock = false;
-    call_surely(turns->lock, RELEASE, NULL);
+static PyObject *steps_begin(PyObject *self, PyObject *args) {
+    Steps *steps = (Steps *)self;
+    unsigned long long record;
+    unsigned operation, priority, caller, waits;
+    if (!PyArg_ParseTuple(args, "KIIII:_begin_now", &record, &operation, &priority, &caller, &waits) || opened(steps) == NULL) return NULL;
+    return PyLong_FromUnsignedLong(steps->begin(steps->store, operation, priority, caller, waits, (void *)(uintptr_t)record, 0).code);
 }
 
-/* Waits until no other process has the turn. Other threads go on meanwhile, and find the lock taken. False if that has to be done in Python,
-** or with an exception. */
-static bool wait_for_store(Turns *turns) {
-    PyObject *has_lock = answer_of(turns->lock, ACQUIRE, Py_False, NULL);
-    int said;
-    if (has_lock == NULL) return false;
-    turns->has_lock = has_lock == Py_True;
-    Py_DECREF(has_lock);
-    if (!turns->has_lock) return false;
-    turns->is_ready = false;
-    do {
-        Py_BEGIN_ALLOW_THREADS;
-        said = lock_turn(turns, F_WRLCK, F_OFD_SETLKW);
-        Py_END_ALLOW_THREADS;
-    } while (said < 0 && errno == EINTR && PyErr_CheckSignals() == 0);
-    turns->is_ready = true;
-    if (said == 0) return true;
-    release_lock(turns);
-    return false;
+static PyObject *steps_end(PyObject *self, PyObject *at) {
+    Steps *steps = (Steps *)self;
+    void *record = PyLong_AsVoidPtr(at);
+    if (PyErr_Occurred() || opened(steps) == NULL) return NULL;
+    return PyLong_FromUnsignedLong(steps->end(steps->store, record, 0).code);
 }
 
-/* Takes the turn. False if that has to be done in Python, or with an exception. */
-static bool take_turn(Turns *turns) {
-    if (!turns->is_ready || PyObject_Size(turns->dropped) != 0) return false;
-    turns->due_count = 0;
-    if (lock_turn(turns, F_WRLCK, F_OFD_SETLK) == 0) return true;
-    return (errno == EAGAIN || errno == EACCES) && wait_for_store(turns);
+static PyObject *steps_aim(PyObject *self, PyObject *args) {
+    Steps *steps = (Steps *)self;
+    unsigned long long begin, end, store;
+    if (!PyArg_ParseTuple(args, "KKK:_aim", &begin, &end, &store)) return NULL;
+    steps->begin = (begin_step *)(uintptr_t)begin;
+    steps->end = (end_step *)(uintptr_t)end;
+    steps->store = (void *)(uintptr_t)store;
+    return none();
 }
 
-/* Gives the turn back, and wakes those that it is due to. */
-static void give_turn(Turns *turns) {
-    int most = turns->operations <= 32 ? 1 : INT_MAX;
-    lock_turn(turns, F_UNLCK, F_OFD_SETLK);
-    if (turns->has_lock) release_lock(turns);
-    for (uint32_t i = 0; turns->has_futex && i < turns->due_count; i++)
-        syscall(SYS_futex, &turns->page->word, FUTEX_WAKE_BITSET, most, NULL, NULL, 1u << turns->due[i] % 32);
-}
-
-/* In a turn: what is known here isn't what stands in the journal, or may not be. Python finds that out. */
-static bool is_cut(Turns *turns) {
-    turns->was_cut = true;
-    turns->is_ready = false;
-    return false;
-}
-
-static void count_lines(Turns *turns, uint64_t bytes, uint64_t lines) {
-    turns->end += bytes;
-    turns->added += lines;
-    turns->left -= (long long)lines;
-    turns->page->end = turns->base + turns->end;
-}
-
-/* Takes over what others have appended. False if that is no usual thing. */
-static bool follow(Turns *turns) {
-    static char text[HEAD_LENGTH + MOST_TEXT] = HEAD;
-    wanzoche_taken taken;
-    wanzoche_answer answer;
-    off_t size, end = (off_t)turns->end;
-    if (turns->page->rotating || turns->page->segment != turns->segment) return false;
-    size = lseek(turns->lines, 0, SEEK_END);
-    if (size == end) return true;
-    if (size < end || size - end > MOST_TEXT || pread(turns->lines, text + HEAD_LENGTH, (size_t)(size - end), end) != size - end) return false;
-    answer = turns->take_over(turns->handle, text, (size_t)(HEAD_LENGTH + size - end), &taken);
-    if (answer.code == WANZOCHE_WRONG_LINE) return is_cut(turns);
-    if (answer.code != WANZOCHE_TAKEN) return false;
-    count_lines(turns, taken.bytes - HEAD_LENGTH, taken.lines);
-    return (off_t)turns->end == size;
-}
-
-/* Appends a line, or nothing. */
-static bool append(Turns *turns, const char *line, int length) {
-    if (write(turns->lines, line, (size_t)length) == length) {
-        count_lines(turns, (uint64_t)length, 1);
-        return true;
-    }
-    is_cut(turns);
-    return ftruncate(turns->lines, (off_t)turns->end) < 0 && false; /* if it can't be cut off here, the next turn does it */
-}
-
-/* What the next line begins with: `+` if the line before it may not be on the disk. */
-static const char *mark(Turns *turns) {
-    return turns->page->synced >= turns->base + turns->end ? "" : "+";
-}
-
-/* Whether the journal's file has been removed. */
-static bool is_removed(Turns *turns) {
-    struct stat found;
-    return fstat(turns->lines, &found) < 0 || found.st_nlink == 0;
-}
-
-/* One that waits for the operation is woken, if it may start, and unless one has been woken that hasn't asked yet. */
-static void is_due(Turns *turns, uint32_t operation) {
-    Page *page = turns->page;
-    if (page->waiting[operation] == 0 || page->woken[operation]) return;
-    if (turns->can_start(turns->handle, operation).code != WANZOCHE_CAN_START) return;
-    page->woken[operation] = 1;
-    turns->due[turns->due_count++] = operation;
-}
-
-/* Behind a finish: one of each operation that may start now is woken. Who is about to sleep sees that the word has changed. */
-static void announce(Turns *turns) {
-    for (uint32_t operation = 0; operation < turns->operations; operation++) is_due(turns, operation);
-    turns->page->word += turns->due_count > 0;
-}
-
-/* A start. */
-typedef struct Attempt {
-    PyObject *held; /* what Python knows of it */
-    const char *name;
-    Py_ssize_t length;
-    unsigned operation, caller;
-    int counts; /* 1 for one that is going to wait, -1 for one that has waited, and 0 for one that doesn't */
-    wanzoche_answer answer;
-} Attempt;
-
-/* What is held has these attributes from now on. False with an exception. */
-static bool set_number(PyObject *held, enum Name name, unsigned long long number) {
-    PyObject *object = PyLong_FromUnsignedLongLong(number);
-    bool is_set = object != NULL && PyObject_SetAttr(held, names[name], object) == 0;
-    Py_XDECREF(object);
-    return is_set;
-}
-
-/* It is in progress, and this process holds it. False with an exception. */
-static bool hold(Turns *turns, Attempt *attempt) {
-    PyObject *number = PyLong_FromUnsignedLongLong(attempt->answer.number);
-    bool is_held = number != NULL && PyObject_SetAttr(attempt->held, names[ITS_NUMBER], number) == 0
-                   && set_number(attempt->held, ITS_WORKER, attempt->caller) && PyDict_SetItem(turns->held, number, attempt->held) == 0
-                   && PyObject_SetAttr(attempt->held, names[LIVE], Py_True) == 0;
-    Py_XDECREF(number);
-    return is_held;
-}
-
-/* Of one that is blocked: it is counted among those that wait, and what it waits on is its answer. False where the dead have to be looked for,
-** or the file. */
-static bool waits(Turns *turns, Attempt *attempt) {
-    struct timespec now;
-    clock_gettime(CLOCK_MONOTONIC, &now);
-    if (attempt->counts == 0 || (double)now.tv_sec + (double)now.tv_nsec * 1e-9 - turns->looked > CHECK || is_removed(turns)) return false;
-    if (attempt->counts > 0) turns->page->waiting[attempt->operation]++;
-    attempt->answer.number = turns->page->word;
-    return true;
-}
-
-static void stop_waiting(Turns *turns, uint32_t operation) {
-    if (turns->page->waiting[operation] > 0) turns->page->waiting[operation]--;
-    announce(turns);
-}
-
-/* Makes the start in this turn. False if Python has to do it, or with an exception. */
-static bool start_in_turn(Turns *turns, Attempt *attempt) {
-    char line[128];
-    int length;
-    if (!follow(turns) || turns->left < LEAST_LEFT) return false;
-    if (attempt->counts < 0) turns->page->woken[attempt->operation] = 0;
-    if (turns->added % CHECKED == 0 && is_removed(turns)) return is_cut(turns);
-    attempt->answer = turns->start(turns->handle, turns->worker, attempt->operation);
-    if (attempt->answer.code == WANZOCHE_BLOCKED) return waits(turns, attempt);
-    if (attempt->answer.code != WANZOCHE_STARTED) return false;
-    length = snprintf(line, sizeof line, "%s%u start %.*s: started %llu\n", mark(turns), turns->worker, (int)attempt->length, attempt->name,
-                      (unsigned long long)attempt->answer.number);
-    if (!append(turns, line, length)) return false;
-    if (!hold(turns, attempt)) return is_cut(turns);
-    attempt->answer.number = turns->base + turns->end;
-    if (attempt->counts < 0) stop_waiting(turns, attempt->operation);
-    return true;
-}
-
-/* Whether what is held is in progress: 1 or 0, or -1 with an exception. */
-static int is_live(PyObject *held) {
-    PyObject *live = PyObject_GetAttr(held, names[LIVE]);
-    Py_XDECREF(live);
-    return live == NULL ? -1 : live == Py_True;
-}
-
-static PyObject *code_and_number(uint32_t code, unsigned long long number) {
-    return Py_BuildValue("IK", (unsigned)code, number);
-}
-
-static PyObject *turns_start(PyObject *self, PyObject *args) {
-    Turns *turns = (Turns *)self;
-    Attempt attempt;
-    PyObject *name;
-    bool is_made;
-    /* The length of a text by "y#" would be an int or a Py_ssize_t, as the Python says that this was built with, and not the one that runs it. */
-    if (!PyArg_ParseTuple(args, "OISIi:_start_now", &attempt.held, &attempt.operation, &name, &attempt.caller, &attempt.counts)) return NULL;
-    attempt.name = PyBytes_AsString(name);
-    attempt.length = PyBytes_Size(name);
-    if (attempt.operation >= turns->operations || is_live(attempt.held) != 0 || !take_turn(turns)) return PyErr_Occurred() ? NULL : none();
-    is_made = start_in_turn(turns, &attempt);
-    give_turn(turns);
-    if (!is_made) return PyErr_Occurred() ? NULL : none();
-    return code_and_number(attempt.answer.code, attempt.answer.number);
-}
-
-/* Makes the finish in this turn. False if Python has to do it, or with an exception. */
-static bool finish_in_turn(Turns *turns, PyObject *held, unsigned long long activation, PyObject *number) {
-    char line[64];
-    int length;
-    if (!follow(turns) || turns->finish(turns->handle, turns->worker, activation).code != WANZOCHE_FINISHED) return false;
-    length = snprintf(line, sizeof line, "%s%u finish %llu: finished\n", mark(turns), turns->worker, activation);
-    if (!append(turns, line, length)) return false;
-    if (PyObject_SetAttr(held, names[LIVE], Py_False) < 0 || PyDict_DelItem(turns->held, number) < 0) return is_cut(turns);
-    announce(turns);
-    return true;
-}
-
-static PyObject *turns_finish(PyObject *self, PyObject *held) {
-    Turns *turns = (Turns *)self;
-    PyObject *number = PyObject_GetAttr(held, names[ITS_NUMBER]);
-    unsigned long long activation = number == NULL ? 0 : PyLong_AsUnsignedLongLong(number);
-    bool is_made = false;
-    if (number != NULL && !PyErr_Occurred() && is_live(held) == 1 && take_turn(turns)) {
-        is_made = finish_in_turn(turns, held, activation, number);
-        give_turn(turns);
-    }
-    Py_XDECREF(number);
-    if (!is_made) return PyErr_Occurred() ? NULL : none();
-    return code_and_number(WANZOCHE_FINISHED, turns->base + turns->end);
-}
-
-static PyObject *turns_new(PyTypeObject *type, PyObject *args, PyObject *named) {
+static PyObject *steps_new(PyTypeObject *type, PyObject *args, PyObject *named) {
     (void)args, (void)named;
     return PyType_GenericAlloc(type, 0);
 }
 
-static void turns_dealloc(PyObject *self) {
-    Turns *turns = (Turns *)self;
+static void steps_dealloc(PyObject *self) {
     PyTypeObject *type = Py_TYPE(self);
     PyObject_GC_UnTrack(self);
-    Py_XDECREF(turns->lock);
-    Py_XDECREF(turns->held);
-    Py_XDECREF(turns->dropped);
-    Py_XDECREF(turns->holder);
     PyObject_GC_Del(self);
     Py_DECREF(type);
 }
 
-static int turns_traverse(PyObject *self, visitproc visit, void *arg) {
-    Turns *turns = (Turns *)self;
+static int steps_traverse(PyObject *self, visitproc visit, void *arg) {
     if (visits_type) Py_VISIT(Py_TYPE(self));
-    Py_VISIT(turns->lock);
-    Py_VISIT(turns->held);
-    Py_VISIT(turns->dropped);
-    Py_VISIT(turns->holder);
     return 0;
 }
 
-static PyObject *turns_set_out(PyObject *self, PyObject *args) {
-    Turns *turns = (Turns *)self;
-    PyObject *lock, *held, *dropped, *holder;
-    unsigned long long start, finish, take_over, can_start, handle, page;
-    int has_futex;
-    if (!PyArg_ParseTuple(args, "(KKKK)KKOO!OOIp:_set_out", &start, &finish, &take_over, &can_start, &handle, &page, &lock, &PyDict_Type, &held,
-                          &dropped, &holder, &turns->operations, &has_futex))
-        return NULL;
-    put(&turns->lock, lock);
-    put(&turns->held, held);
-    put(&turns->dropped, dropped);
-    put(&turns->holder, holder);
-    turns->start = (start_call *)(uintptr_t)start;
-    turns->finish = (finish_call *)(uintptr_t)finish;
-    turns->take_over = (take_over_call *)(uintptr_t)take_over;
-    turns->can_start = (can_start_call *)(uintptr_t)can_start;
-    turns->handle = (wanzoche *)(uintptr_t)handle;
-    turns->page = (Page *)(uintptr_t)page;
-    turns->has_futex = has_futex != 0;
-    return none();
-}
-
-static PyObject *turns_be_ready(PyObject *self, PyObject *args) {
-    Turns *turns = (Turns *)self;
-    if (!PyArg_ParseTuple(args, "iiL:_be_ready", &turns->lines, &turns->beside, &turns->left)) return NULL;
-    turns->is_ready = turns->page != NULL;
-    return none();
-}
-
-static PyMethodDef turns_methods[] = {
-    {"_start_now", turns_start, METH_VARARGS,
-     "Makes a start in a turn, given what is to hold it, its operation with the name, who calls, and whether it waits: a pair as of "
-     "`Store.start`. None if it has to be made by a turn in Python; then nothing was begun."},
-    {"_finish_now", turns_finish, METH_O, "The same of a finish."},
-    {"_set_out", turns_set_out, METH_VARARGS, "Where the library's calls, its handle and the page lie, and what a turn needs besides."},
-    {"_be_ready", turns_be_ready, METH_VARARGS,
-     "From now on turns may be made here: with these files of the journal and of the locks, and so many lines more in the journal."},
+static PyMethodDef steps_methods[] = {
+    {"_begin_now", steps_begin, METH_VARARGS, "Begins the operation of a record, if the turn is to be had at once: the code of the answer."},
+    {"_end_now", steps_end, METH_O, "Ends it likewise."},
+    {"_aim", steps_aim, METH_VARARGS, "Where the library's calls to begin and to end lie, and the store."},
     {NULL, NULL, 0, NULL},
 };
 
-static PyMemberDef turns_members[] = {
-    {"_segment", T_ULONGLONG, offsetof(Turns, segment), 0, "How many files of the journal are behind the one that is read and written."},
-    {"_base", T_ULONGLONG, offsetof(Turns, base), 0, "How many bytes they have."},
-    {"_end", T_ULONGLONG, offsetof(Turns, end), 0, "How many bytes of this file are whole lines that were taken over."},
-    {"_added", T_ULONGLONG, offsetof(Turns, added), 0, "How many lines turns in C have taken over since the last turn in Python."},
-    {"_looked", T_DOUBLE, offsetof(Turns, looked), 0, "When this process last looked for the dead."},
-    {"_was_cut", T_BOOL, offsetof(Turns, was_cut), 0, "Whether a turn was cut off."},
-    {"_is_ready", T_BOOL, offsetof(Turns, is_ready), 0, "Whether a turn may be made in C."},
-    {"worker", T_UINT, offsetof(Turns, worker), 0, "Who this opening is."},
-    {NULL, 0, 0, 0, NULL},
-};
-
-static PyType_Slot turns_slots[] = {
-    {Py_tp_doc, "What is quick of a store's turns."},
-    {Py_tp_new, turns_new},
-    {Py_tp_dealloc, turns_dealloc},
-    {Py_tp_traverse, turns_traverse},
-    {Py_tp_methods, turns_methods},
-    {Py_tp_members, turns_members},
+static PyType_Slot steps_slots[] = {
+    {Py_tp_doc, "What is quick of a store."},
+    {Py_tp_new, steps_new},
+    {Py_tp_dealloc, steps_dealloc},
+    {Py_tp_traverse, steps_traverse},
+    {Py_tp_methods, steps_methods},
     {0, NULL},
 };
 
-static PyType_Spec turns_spec = {
-    "wanzoche._core.Turns", sizeof(Turns), 0, Py_TPFLAGS_DEFAULT | Py_TPFLAGS_BASETYPE | Py_TPFLAGS_HAVE_GC, turns_slots,
-};
-
-/* The highest number of a worker in the lines of a journal. */
-static PyObject *highest_worker(PyObject *nothing, PyObject *given) {
-    char *text;
-    Py_ssize_t length;
-    unsigned long long highest = 0;
-    (void)nothing;
-    if (PyBytes_AsStringAndSize(given, &text, &length) < 0) return NULL;
-    for (const char *at = text, *end = text + length, *feed; at < end; at = feed + 1) {
-        unsigned long long number = 0;
-        if (*at == '+') at++;
-        for (int digits = 0; digits < 10 && at < end && *at >= '0' && *at <= '9'; digits++) number = number * 10 + (unsigned)(*at++ - '0');
-        if (at < end && *at == ' ' && number > highest) highest = number;
-        feed = memchr(at, '\n', (size_t)(end - at));
-        if (feed == NULL) break;
-    }
-    return PyLong_FromUnsignedLongLong(highest);
-}
-
-static PyMethodDef functions[] = {
-    {"highest_worker", highest_worker, METH_O, "The highest number of a worker in the lines of a journal; 0 without lines."},
-    {NULL, NULL, 0, NULL},
+static PyType_Spec steps_spec = {
+    "wanzoche._core.Steps", sizeof(Steps), 0, Py_TPFLAGS_DEFAULT | Py_TPFLAGS_BASETYPE | Py_TPFLAGS_HAVE_GC, steps_slots,
 };
 
 static struct PyModuleDef module = {
-    PyModuleDef_HEAD_INIT, "wanzoche._core", "What is quick of paths, entries and stores.", -1, functions, NULL, NULL, NULL, NULL,
+    PyModuleDef_HEAD_INIT, "wanzoche._core", "What is quick of paths, entries and stores.", -1, NULL, NULL, NULL, NULL, NULL,
 };
 
 static bool add(PyObject *made, const char *name, void *object) {
@@ -1232,12 +905,12 @@ PyMODINIT_FUNC PyInit__core(void) {
     if (!make_names()) return NULL;
     visits_type = strncmp(Py_GetVersion(), "3.8.", 4) != 0;
     if (!made_of(&calls_type, &calls_spec) || !made_of(&system_type, &system_spec) || !made_of(&entry_type, &entry_spec)) return NULL;
-    if (!made_of(&turns_type, &turns_spec) || !make_order_types(visits_type)) return NULL;
+    if (!made_of(&steps_type, &steps_spec) || !make_order_types(visits_type)) return NULL;
     if (in_use == NULL) in_use = PyErr_NewException("wanzoche._attempts.InUse", PyExc_RuntimeError, NULL);
     if (in_use == NULL) return NULL;
     made = PyModule_Create(&module);
     if (made == NULL) return NULL;
-    if (add(made, "Calls", calls_type) && add(made, "System", system_type) && add(made, "Entry", entry_type) && add(made, "Turns", turns_type)
+    if (add(made, "Calls", calls_type) && add(made, "System", system_type) && add(made, "Entry", entry_type) && add(made, "Steps", steps_type)
         && add(made, "Line", line_type) && add(made, "Place", place_type) && add(made, "InUse", in_use))
         return made;
     Py_DECREF(made);

@@ -49,30 +49,8 @@ class Entry:
     def _ask(self, worker: int, /) -> int: ...
     def _end(self) -> int: ...
 
-class Turns:
-    worker: int
-    _segment: int
-    _base: int
-    _end: int
-    _added: int
-    _looked: float
-    _was_cut: bool
-    _is_ready: bool
-    def _set_out(
-        self,
-        calls: Tuple[int, ...],
-        handle: int,
-        page: int,
-        lock: object,
-        held: Dict[int, Any],
-        dropped: object,
-        holder: object,
-        operations: int,
-        has_futex: bool,
-        /,
-    ) -> None: ...
-    def _be_ready(self, lines: int, beside: int, left: int, /) -> None: ...
-    def _start_now(self, held: Any, op: int, name: bytes, caller: int, counts: int, /) -> Optional[Tuple[int, int]]: ...
-    def _finish_now(self, held: Any, /) -> Optional[Tuple[int, int]]: ...
+class Steps:
+    def _aim(self, begin: int, end: int, store: int, /) -> None: ...
+    def _begin_now(self, record: int, operation: int, priority: int, caller: int, waits: int, /) -> int: ...
+    def _end_now(self, record: int, /) -> int: ...
 
-def highest_worker(text: bytes, /) -> int: ...

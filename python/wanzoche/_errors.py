@@ -155,6 +155,10 @@ class StoreInUse(StoreError):
     """Another program has the store's journal to itself, or it is open in another place with another file beside it."""
 
 
+class StoreLate(StoreError, TimeoutError):
+    """No turn at the store was to be had in time, since a process that has it is stopped. Nothing has changed. It is a `TimeoutError`, too."""
+
+
 class OtherDeclaration(StoreError):
     """The store is one of another declaration."""
 

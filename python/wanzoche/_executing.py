@@ -68,7 +68,7 @@ class _Told:
     def _tell(self) -> None:
         while not self._is_over.wait(TELLS):
             try:
-                why = self._paths.why(self._operation)
+                why = self._paths._why_waits(self._operation)
                 who = "" if why is None else _in_the_way(self._paths, why)
             except (WanzocheError, OSError):
                 return  # who waits is told the same
@@ -80,7 +80,8 @@ class _Told:
 
 def _in_the_way(paths: StoredPaths, why: Blocked) -> str:
     """Which processes those are that are in the way, as far as the store knows."""
-    workers = dict.fromkeys(int(worker.split()[-1]) for _, worker in why.in_progress)
+    ahead = [] if why.behind is None else [why.behind.worker]
+    workers = dict.fromkeys(int(worker.split()[-1]) for worker in [*ahead, *(worker for _, worker in why.in_progress)])
     known = [(worker, paths._store.process_of(worker)) for worker in workers]
     told = ["process {} is {}".format(worker, process) for worker, process in known if process]
     return " ({})".format(", ".join(told)) if told else ""

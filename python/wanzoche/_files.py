@@ -1,12 +1,10 @@
-"""Files as a store has them: none becomes a standard stream, each is written whole, a new one has the access of the one before it, and what
-the system refuses is told as the store's fault."""
+"""Files as who looks on at a store has them: none becomes a standard stream, and what the system refuses is told as the store's fault."""
 
 from __future__ import annotations
 
 import contextlib
-import errno
 import os
-from typing import Any, Callable, Iterator, List
+from typing import Iterator, List
 
 from ._errors import StoreError
 
@@ -68,40 +66,3 @@ def read(fd: int, begin: int, end: int) -> bytes:
         parts.append(part)
         begin += len(part)
     return b"".join(parts)
-
-
-def write(fd: int, text: bytes) -> None:
-    """Writes all of it. What the system says of the part that it doesn't take is raised: it may have taken the begin."""
-    while text:
-        written = os.write(fd, text)
-        if not written:
-            raise OSError(errno.EIO, os.strerror(errno.EIO))
-        text = text[written:]
-
-
-def give_access(fd: int, like: os.stat_result) -> None:
-    """Gives a new file the owner, the group and the mode of another, as far as this process may."""
-    mode = like.st_mode & 0o777
-    if not _may(os.fchown, fd, like.st_uid, like.st_gid) and not _may(os.fchown, fd, -1, like.st_gid):
-        mode = mode & ~0o070 | (mode & 0o007) << 3  # its group is another one, which gets no more than all others
-    _may(os.fchmod, fd, mode)
-
-
-def _may(call: Callable[..., None], *given: Any) -> bool:
-    """Makes a call of the system: False if this process may not."""
-    try:
-        call(*given)
-    except OSError as error:
-        if error.errno not in (errno.EPERM, errno.EINVAL, errno.ENOTSUP):
-            raise
-        return False
-    return True
-
-
-def sync_folder(path: str) -> None:
-    """Syncs the folder of a file, so that the file is found there after a crash."""
-    fd = os.open(os.path.dirname(path) or ".", os.O_RDONLY | os.O_CLOEXEC)
-    try:
-        os.fsync(fd)
-    finally:
-        os.close(fd)

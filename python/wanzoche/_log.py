@@ -12,9 +12,10 @@ from . import _native as native
 from ._errors import CorruptStore, OtherDeclaration, StoreError
 from ._postgresql import AGAIN, CANCELLED, HEARTBEAT, Call, Complaint, Cut, Row, Session, Slow, array
 from ._replica import ROOM, Replica
+from ._served_order import LEAVE, MAY_PASS, WAIT, WAITERS, ServedLine
 from ._store import difference
 
-SCHEMA = 4
+SCHEMA = 5
 """The number of the schema that this package knows. It brings one of an earlier number there."""
 MOST_IN_SEGMENT = native.MOST_LINES - ROOM
 """So many may: what is in progress behind them has room in a journal, too."""
@@ -30,24 +31,16 @@ HAS_SCHEMA = (
     "select exists (select from pg_class c join pg_namespace n on n.oid = relnamespace where nspname = 'wanzoche' and relname = 'schema')"
 )
 """Asked in this way since `to_regclass` may not see yet what another session has made."""
-PUT = (
+PUT_IF = (
     "insert into wanzoche.line (log, place, line, by) select $1::int, $3::bigint, $5, $2::int "
     "from (select from wanzoche.turn where log = $1::int for update) turn "
     "where (select x.place = $3::bigint - 1 and x.stamp = $4::bigint from wanzoche.line x where x.log = $1::int "
-    "order by x.place desc limit 1) on conflict do nothing returning stamp"
+    "order by x.place desc limit 1){} on conflict do nothing returning stamp"
 )
+PUT = PUT_IF.format("")
 """Appends one line, if its place is the next one: then there is a row. Not for the first line of a log."""
-WAIT = (
-    "insert into wanzoche.waiting (log, operation, worker, since) select $1::int, o, $2::int, clock_timestamp() "
-    "from (select from wanzoche.turn where log = $1::int for update) turn, unnest($3::int[]) o "
-    "on conflict (log, operation, worker) do update set since = excluded.since where waiting.since is null"
-)
-"""Waits for operations from now on. In a turn, so that whoever appends behind it knows; what was appended before it is read then."""
-STOP = (
-    "update wanzoche.waiting set since = null where log = $1::int and worker = $2::int and operation = any ($3::int[]) "
-    "and exists (select from wanzoche.line x where x.log = $1::int and x.place = $4::bigint and x.line = $5)"
-)
-"""Waits for operations no more, if a line was appended."""
+PUT_START = PUT_IF.format(MAY_PASS)
+"""The same of a start, if it also keeps to the order of those who wait."""
 COPY = (
     "select min(x.place), max(x.place), count(*), string_agg(x.line, E'\\n' order by x.place) || E'\\n' from "
     "(select y.place, y.line from wanzoche.line y where y.log = $1 and y.place >= $2 order by y.place limit $3) x"
@@ -79,11 +72,15 @@ STATEMENTS = {
     b"lines": "select * from wanzoche.lines($1, $2, $3)",
     b"put": PUT,
     b"put_and_wake": PUT + ", wanzoche.wake($1::int, $2::int, $6::int[])",
+    b"put_start": PUT_START,
+    b"put_start_and_wake": PUT_START + ", wanzoche.wake($1::int, $2::int, $10::int[])",
+    b"listen": "select wanzoche.listen($1, $2)",
     b"wait": WAIT,
-    b"stop": STOP,
+    b"leave_slots": LEAVE,
+    b"waiters": WAITERS,
     b"lasts": LASTS,
     b"line_lasts": LASTS + " from wanzoche.line where log = $2 and place = $3 and line = $4",
-    b"append": "select * from wanzoche.append($1, $2, $3, $4, $5, $6, $7, $8, $9, $10)",
+    b"append": "select * from wanzoche.append($1, $2, $3, $4, $5, $6, $7, '{}', '{}', false, $8)",
     b"turn": "select * from wanzoche.turn($1, $2, $3)",
     b"copy": COPY,
     b"segment": SEGMENT_AT,
@@ -125,14 +122,37 @@ class Given(NamedTuple):
     room: Optional[int] = None
 
 
+class Wait(NamedTuple):
+    """One who waits from now on, in a slot of this worker."""
+
+    slot: int
+    operation: int
+    priority: int
+    holds: Sequence[int]
+    """The activations that it has in progress."""
+
+
+class Passing(NamedTuple):
+    """Whom a start may pass of those who wait in other processes."""
+
+    rivals: Sequence[int]
+    """The operations that share a path with it: who waits for another isn't in its way."""
+    known: Sequence[int]
+    """The tickets of those that it knows of, and that it isn't withheld for."""
+    priority: int
+    ticket: int
+
+
 class Wishes(NamedTuple):
     """What an append does beside its lines."""
 
     over: Sequence[int] = ()
     """The activations to finish, wherever the lines come."""
     wakes: Sequence[int] = ()
-    waits: Sequence[int] = ()
-    stops: Sequence[int] = ()
+    """The operations for which the first in order is woken."""
+    waits: Sequence[Wait] = ()
+    leaves: Sequence[int] = ()
+    """The slots in which nobody waits any more."""
 
 
 class Place(NamedTuple):
@@ -157,6 +177,9 @@ class Log:
         self.replica = Replica(source, handle)
         self.session = Session(url)
         self.place = Place()
+        self.line = ServedLine(self.replica)
+        self.patience = 0.0
+        """For so many seconds those who wait here may be passed."""
         self.worker = 0
         self._given = given
         self._moved = 0  # so many lines are in segments, as far as is known
@@ -304,39 +327,54 @@ class Log:
     def _know_moved(self, lines: int) -> None:
         self._moved, self.due = lines, float("inf") if self.only_looks else lines + self.settings.room + KEPT
 
-    def append(self, text: Optional[bytes], wishes: Wishes, *, before: Place, is_stepped: bool) -> Tuple[bool, Set[int]]:
+    def append(
+        self,
+        text: Optional[bytes],
+        wishes: Wishes,
+        *,
+        before: Place,
+        is_stepped: bool,
+        passing: Optional[Passing] = None,
+        looks: bool = False,
+    ) -> Tuple[bool, Set[int]]:
         """Appends lines if their place is the next one, and finishes, and takes over what has come: whether the lines are in the log, and
-        which of the finishes are others'. With `is_stepped` the replica has taken these lines already, in a turn, which ends."""
-        over, wakes, waits, stops = wishes
+        which of the finishes are others'. With `is_stepped` the replica has taken these lines already, in a turn, which ends. One line that
+        is a start is appended if it is `passing` nobody else who waits; with `looks` it is known then who waits."""
+        over, wakes, waits, leaves = wishes
         is_one = len(over) + (text is not None) == 1 and (text is None or b"\n" not in text) and before.lines > 0
         try:
-            if waits and self._listens and not (over or wakes or stops or is_stepped) and text is None:
-                self._wait(waits)
+            if text is None and not (over or wakes or leaves or is_stepped):
+                self.look(waits)
                 return False, set()
-            if not is_one or waits or is_stepped or stops and (over or wakes):
-                return self._append(text, wishes, before, is_stepped)
+            if not is_one or is_stepped or leaves and over:
+                return self._append(text, wishes, before, is_stepped, looks)
             line = b"%d finish %d: finished" % (self.worker, over[0]) if text is None else text
-            is_put, is_there = self._put(line, wakes, stops, before)
+            is_put, is_there = self._put(line, wishes, before, passing, looks)
             if text is not None or is_put:
                 return is_there and text is not None, set()
         except Moved as error:
             if is_stepped:
                 raise Gone(str(error)) from error  # of a turn that was cut off: all is read anew, since the replica is ahead
             self.follow()
-        return self._append_rest(text, wishes, before)
+        return self._append_rest(text, wishes, before, looks)
 
-    def _append(self, text: Optional[bytes], wishes: Wishes, before: Place, is_stepped: bool) -> Tuple[bool, Set[int]]:
-        """The same in one call, whatever it is. Raises `Moved` if nothing was done since what follows `before` was moved."""
-        over, wakes, waits, stops = wishes
-        listens = bool(waits) and not self._listens
-        given = (self._log, b"%d" % self.worker, b"%d" % before.lines, before.stamp, text, array(over), array(wakes), array(waits))
-        calls = [Call(b"append", given + (array(stops), b"t" if listens else b"f"))]
+    def _append(
+        self, text: Optional[bytes], wishes: Wishes, before: Place, is_stepped: bool, looks: bool
+    ) -> Tuple[bool, Set[int]]:
+        """The same in one call, whatever it is; who waits from now on does so by another. Raises `Moved` if nothing was done since what
+        follows `before` was moved."""
+        over, wakes, waits, leaves = wishes
+        given = (self._log, b"%d" % self.worker, b"%d" % before.lines, before.stamp, text, array(over), array(wakes), array(leaves))
+        calls = [Call(b"append", given)]
         if is_stepped:
             calls.append(Call(b"commit"))
         if self._sync and (text is not None or over):
             calls.append(self._lasts())
-        news, final, mark, taken = self._call(*calls)[0][0]
-        self._listens = self._listens or listens
+        asks = looks and not (waits or is_stepped)  # in a turn it is known who waits
+        if asks:
+            calls.append(self._who_waits())
+        found = self._call(*calls)
+        news, final, mark, taken = found[0][0]
         if news is None and int(final or -1) >= before.lines:
             own = ([] if text is None else [text]) + [b"%d finish %d: finished" % (self.worker, each) for each in over]
             news = b"\n".join(own) or None
@@ -346,51 +384,92 @@ class Log:
         if is_in or not is_stepped:
             if self._take((news, final, mark)) >= MOST:
                 self.follow()
+        if asks:
+            self._know_waiters(found[-1])
+        elif waits:
+            self.look(waits)
         return is_in, {int(each) for each in (taken or b"{}")[1:-1].split(b",") if each}
 
-    def _append_rest(self, text: Optional[bytes], wishes: Wishes, before: Place) -> Tuple[bool, Set[int]]:
+    def _append_rest(self, text: Optional[bytes], wishes: Wishes, before: Place, looks: bool) -> Tuple[bool, Set[int]]:
         """The same when others were quicker, and all is taken over that they have appended: what isn't done yet is done behind it. What the
         log doesn't know as live is over."""
         is_in = text is not None and self.has(text, before.lines)
         left = tuple(each for each in wishes.over if self.replica.has_live(self.worker, each))
         ended = set(wishes.over).difference(left)
         taken = ended - self.own_finishes(sorted(ended))
-        rest = wishes._replace(over=left, stops=wishes.stops if is_in or text is None else ())
+        rest = wishes._replace(over=left, leaves=wishes.leaves if is_in or text is None else ())
         if is_in or ended:
             self.make_last()
         try:
             if any(rest):
-                taken |= self._append(None, rest, self.place, False)[1]
+                taken |= self._append(None, rest, self.place, False, looks)[1]
         except Moved:
             self.follow()
-            return self._append_rest(text, wishes, before)
+            return self._append_rest(text, wishes, before, looks)
         return is_in, taken
 
-    def _wait(self, operations: Sequence[int]) -> None:
-        """Waits for operations from now on, and takes over what is new."""
-        given: Row = (self._log, b"%d" % self.worker, array(operations))
-        if self._take(self._call(Call(b"wait", given), Call(b"lines", self._known()))[1][0]) >= MOST:
+    def look(self, waits: Sequence[Wait] = ()) -> None:
+        """Takes over what is new, and who waits. These wait from now on."""
+        try:
+            found = self._call(*self._waits(waits), Call(b"lines", self._known()), self._who_waits())
+            self._listens = self._listens or bool(waits)
+            if self._take(found[-2][0]) >= MOST:
+                self.follow()
+            self._know_waiters(found[-1])
+        except Moved:  # those who were to wait do
+            self._listens = self._listens or bool(waits)
             self.follow()
+            self._know_waiters(self._call(self._who_waits())[0])
 
-    def _put(self, line: bytes, wakes: Sequence[int], stops: Sequence[int], before: Place) -> Tuple[bool, bool]:
+    def _waits(self, waits: Sequence[Wait]) -> List[Call]:
+        """What has these wait; the session listens before."""
+        if not waits:
+            return []
+        columns = zip(*((each.slot, each.operation, each.priority) for each in waits))
+        holds = b"{%b}" % b",".join(b'"%b"' % array(each.holds) for each in waits)
+        given: Row = (self._log, b"%d" % self.worker, *map(array, columns), holds, b"%f" % self.patience)
+        return [Call(b"listen", given[:2])] * (not self._listens) + [Call(b"wait", given)]
+
+    def _who_waits(self) -> Call:
+        return Call(b"waiters", (self._log, b"%d" % self.worker))
+
+    def _know_waiters(self, rows: Sequence[Row]) -> None:
+        self.line.take(rows, self.worker, time.monotonic_ns())
+
+    def _put(
+        self, line: bytes, wishes: Wishes, before: Place, passing: Optional[Passing], looks: bool
+    ) -> Tuple[bool, bool]:
         """Appends a line, if its place is the next one, and takes over what is new: whether it was appended, and whether it is there. If it
-        is, it doesn't wait for the operations `stops` any more."""
+        is, nobody waits in the slots that are left any more."""
+        _, wakes, waits, leaves = wishes
         given: Row = (self._log, b"%d" % self.worker, b"%d" % before.lines, before.stamp, line)
-        calls = [Call(b"put_and_wake", (*given, array(wakes))) if wakes else Call(b"put", given)]
-        if stops:
-            calls.append(Call(b"stop", (self._log, given[1], array(stops), given[2], line)))
+        calls = [_put_call(given, wakes, passing)]
+        if leaves:
+            calls.append(Call(b"leave_slots", (self._log, given[1], array(leaves), given[2], line)))
         if self._sync:
             calls.append(Call(b"line_lasts", (self._commits, self._log, given[2], line)))
-        if self._has_company:
+        calls += self._waits(waits)
+        looks, reads = looks or bool(waits), self._has_company or looks or bool(waits)
+        if reads:
             calls.append(Call(b"lines", self._known()))
+        if looks:
+            calls.append(self._who_waits())
         found = self._call(*calls)
-        if found[0] and not self._has_company:
+        self._listens = self._listens or bool(waits)
+        if found[0] and not reads:
             self._take((line, b"%d" % before.lines, found[0][0][0]))
             return True, True
-        news = found[-1][0] if self._has_company else self._call(Call(b"lines", self._known()))[0][0]
+        if not found[0] and passing is not None and not looks:
+            found += self._call(Call(b"lines", self._known()), self._who_waits())
+            looks = True
+        elif not reads:
+            found += self._call(Call(b"lines", self._known()))
+        news = found[-2 if looks else -1][0]
         is_there = news[0] is not None and (news[0] + b"\n").startswith(line + b"\n")
         if self._take(news) >= MOST:
             self.follow()
+        if looks:
+            self._know_waiters(found[-1])
         self._has_company = not found[0] or self._has_company
         return bool(found[0]), is_there
 
@@ -403,9 +482,9 @@ class Log:
             self._call(self._lasts())
 
     def turn(self) -> None:
-        """Takes over what is new. From now on nobody else appends, until `append` or `end_turn`."""
+        """Takes over what is new, and who waits. From now on nobody else appends or begins to wait, until `append` or `end_turn`."""
         try:
-            rows = self._call(Call(b"begin"), Call(b"turn", self._known()))
+            rows = self._call(Call(b"begin"), Call(b"turn", self._known()), self._who_waits())
         except Gone:
             self.end_turn()
             raise
@@ -415,6 +494,7 @@ class Log:
             return self.turn()
         if self._take(rows[1][0]) >= MOST:
             self.follow()
+        self._know_waiters(rows[2])
 
     def end_turn(self) -> None:
         """Ends a turn without a line. Does nothing if there is none."""
@@ -583,6 +663,15 @@ class Log:
         if error.code == "WZ002":
             return self.broken("there is no line", int(error.detail))
         return StoreError("the log {}: {}".format(self.name, error.told))
+
+
+def _put_call(given: Row, wakes: Sequence[int], passing: Optional[Passing]) -> Call:
+    """What appends a line and, if it is appended, wakes those who wait for operations."""
+    name, others = b"put", [array(wakes)] if wakes else []
+    if passing is not None:
+        name, known = b"put_start", [array(passing.rivals), array(passing.known), b"%d" % passing.priority, b"%d" % passing.ticket]
+        others = known + others
+    return Call(name + b"_and_wake" if wakes else name, (*given, *others))
 
 
 def may_pass(error: BaseException) -> bool:

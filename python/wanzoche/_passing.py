@@ -2,13 +2,12 @@
 
 from __future__ import annotations
 
-from typing import Optional, Tuple, cast
+from typing import Optional, cast
 
-from . import _native as native
 from ._entries import Entry
-from ._errors import Lost
+from ._filed import StoredEntry
 from ._store import Store
-from ._stored import StoredEntry, StoredPaths
+from ._stored import StoredPaths
 
 
 def pass_at_once(paths: StoredPaths, operation: str, behind: Optional[Entry] = None) -> Optional[int]:
@@ -20,7 +19,7 @@ def pass_at_once(paths: StoredPaths, operation: str, behind: Optional[Entry] = N
     entry may be in progress still, or over without the pass.
     """
     if isinstance(paths._store, Store):
-        return _in_one_turn(paths, operation, behind)
+        return paths._store.pass_at_once(paths._number(operation), None if behind is None else cast(StoredEntry, behind)._begun)
     if behind is not None:
         behind.leave()
     entry = paths.try_enter(operation)
@@ -29,27 +28,6 @@ def pass_at_once(paths: StoredPaths, operation: str, behind: Optional[Entry] = N
     number = entry.token
     entry.leave()
     return number
-
-
-def _in_one_turn(paths: StoredPaths, operation: str, behind: Optional[Entry]) -> Optional[int]:
-    """The same over a file."""
-    store, begun, caller = paths._store, cast(StoredEntry, paths(operation))._begun, paths._thread_worker()
-    ends = None if behind is None else cast(StoredEntry, behind)._begun
-
-    def turn() -> Tuple[int, int, int]:
-        ended = native.FINISHED if ends is None else store._finish(ends)[0]
-        code = native.BLOCKED if ended != native.FINISHED else store._start(begun, begun._word, caller, 0, False)[0]
-        if code == native.STARTED:
-            store._finish(begun)
-        return ended, code, store._base + store._end
-
-    ended, code, end = store._in_turn(turn)
-    store.wait_for_sync(end)
-    if ends is not None and ended != native.FINISHED:
-        raise Lost("activation {} was finished by others, which took this process for dead".format(ends._number))
-    if code not in (native.STARTED, native.BLOCKED):
-        paths.enter(operation, 0.0).leave()  # raises what else there is: no room
-    return begun._number if code == native.STARTED else None
 
 
 def make_pass(paths: StoredPaths, operation: str, timeout: Optional[float]) -> int:

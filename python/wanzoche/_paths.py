@@ -288,9 +288,9 @@ class Paths(System):
         of_thread: int = getattr(self._local, "worker", 0)
         return of_task or of_thread
 
-    def _behind(self, operation: str, told: Told) -> Blocked:
-        """That a start is withheld for this one."""
-        ahead, report = self._waiting_of(told), self.report()
+    def _behind(self, operation: str, told: Told, report: Optional[Report] = None) -> Blocked:
+        """That a start is withheld for this one, where the report says what is in progress."""
+        ahead, report = self._waiting_of(told), report or self.report()
         path = next(each for each in self._paths_of_text if {operation, ahead.operation} <= set(each.operations))
         return self._blocked(operation, self._paths_of_text.index(path), report, (), ahead)
 
@@ -346,7 +346,7 @@ class Paths(System):
         """Writes to the log that this one has waited since then, and so many others, too, and for whom."""
         if (operation in report.blocked or told is not None) and _logger.isEnabledFor(logging.INFO):
             who = self._worker(worker).told + (" (and {} more)".format(others) if others else "")
-            why = self._blocked(operation, report.blocked[operation], report, ()) if told is None else self._behind(operation, told)
+            why = self._blocked(operation, report.blocked[operation], report, ()) if told is None else self._behind(operation, told, report)
             _logger.info("%s has waited for %.0f s: %s", who, time.monotonic() - since, why)
 
     def _tell_held_up(self, operation: str, report: Report, waiters: Sequence[Waiter]) -> None:
@@ -393,6 +393,10 @@ class Paths(System):
         waiting = {name: self._queues.waiting(op) for name, op in self._numbers.items()}
         return {name: number for name, number in waiting.items() if number}
 
+    def _waiting_here(self) -> Dict[str, int]:
+        """The same of this process."""
+        return self.waiting()
+
     def waiters(self) -> List[Waiting]:
         """Who waits, in the order in which they come next where nothing is in their way. Of a task and a thread alike: the operation, the
         worker, the priority, and for how many seconds it has waited."""
@@ -403,7 +407,7 @@ class Paths(System):
     def metrics(self) -> Dict[str, Metrics]:
         """What was counted of each operation in this process since the paths were opened: how often it was begun, how many had to wait for
         it, for how long, and how many do so now. Costs about what a report does."""
-        waiting, waits = self.waiting(), self._queues.waits
+        waiting, waits = self._waiting_here(), self._queues.waits
         live = self._in_progress()
         found = ((name, waits.of(op), op) for name, op in self._numbers.items())
         return {

@@ -3,7 +3,9 @@ read them will do, and nobody waits for it, nor it for anybody."""
 
 from __future__ import annotations
 
+import errno
 import os
+import re
 from typing import Callable, List, Optional, Tuple
 
 from . import _native as native
@@ -11,13 +13,27 @@ from ._beside import Beside
 from ._errors import CorruptStore, OtherDeclaration, StoreError
 from ._files import open_file, read, telling
 from ._replica import Refusal, Replica
-from ._showing import State, in_progress_of, waiting_at
-from ._store import CHUNK, HEAD, difference, wrong_of
+from ._showing import State, Waiting, in_progress_of
+from ._store import difference
 from ._stored import process_name
 from ._texts import Path, Report, Worker, read_declaration, read_report
 
 See = Callable[[bytes], None]
 """Is given whole lines of the journal, as they stand there."""
+HEAD = re.compile(rb"journal 3 room ([1-9][0-9]{0,6})\n")
+CHUNK = 1 << 20
+
+
+def _shown(text: bytes) -> str:
+    """A line for a message."""
+    return text[:200].decode("ascii", "backslashreplace")
+
+
+def wrong_of(refusal: Refusal) -> str:
+    """What is wrong with a line that isn't taken over, in words."""
+    if refusal.owed is None:
+        return "`{}` isn't a line of a journal".format(_shown(refusal.line))
+    return "`{}`, where `{}` is owed".format(_shown(refusal.line), _shown(refusal.owed))
 
 
 class Reader:
@@ -28,11 +44,13 @@ class Reader:
         one than is given."""
         self.path = os.path.realpath(path)
         self._handle = native.Handle()
+        self._given = declaration
         self._beside: Optional[Beside] = None
+        self._is_open = False
         self._fd = -1
         self._is_new = True
         self._begin_anew()
-        if declaration is not None:
+        if declaration is not None and self._beside is not None:
             self._has_to_be_of(declaration)
 
     def _has_to_be_of(self, declaration: bytes) -> None:
@@ -52,25 +70,42 @@ class Reader:
         beside = self.path + ".shared"
         if not os.path.exists(beside):
             raise StoreError("{} isn't there: `wanzoche exec` with --declaration makes a store".format(beside))
-        self._beside = Beside(beside, only_reads=True)
-        declaration = self._beside.declaration()
+        self._beside = self._opened_beside(beside)
+        declaration = (self._given or b"").decode("utf-8", "replace") if self._beside is None else self._beside.declaration()
         self._replica = Replica(declaration.encode(), self._handle)
+        self._is_open = True
         opened = self._replica.open()
         if opened.code == native.OUT_OF_MEMORY:
             raise MemoryError("no memory to follow {}".format(self.path))
         if opened.code != native.OPENED:
             raise StoreError("{} has no declaration".format(beside))
-        names, paths = read_declaration(declaration)
+        names, paths = read_declaration(self._replica.declaration())
         self.operations: Tuple[str, ...] = tuple(names)
         self.paths: Tuple[Path, ...] = tuple(paths)
         self._segment = 0
         self._open_file()
 
+    def _opened_beside(self, path: str) -> Optional[Beside]:
+        """The file beside the journal. None if this user may not read it, and knows the declaration: whoever may only read the journal gets
+        neither."""
+        try:
+            return Beside(path)
+        except StoreError as error:
+            if not isinstance(error.__cause__, OSError) or error.__cause__.errno != errno.EACCES:
+                raise
+            with telling(self.path, "can't be opened"):
+                os.close(open_file(self.path, os.O_RDONLY))
+            if self._given is None:
+                raise StoreError("{}: who may read the journal alone names its declaration by --declaration".format(error)) from error.__cause__
+            return None
+
     def close(self) -> None:
         """Gives the files and the memory back. A second close does nothing."""
         beside, self._beside = self._beside, None
+        is_open, self._is_open = self._is_open, False
         if beside is not None:
             beside.close()
+        if is_open:
             self._replica.close()
         self._close_file()
 
@@ -86,8 +121,7 @@ class Reader:
 
     def stamp(self) -> Tuple[object, ...]:
         """What is the same as long as neither the files nor who waits have changed. Raises nothing."""
-        beside = self._beside
-        page = () if beside is None else (beside.end.value, beside.segment.value, bytes(beside.waiting))
+        page = None if self._beside is None else self._beside.stamp()
         return (_stamp_of(self.path), _stamp_of(self.path + ".shared")[:2], page)
 
     def look(self, see: See, see_again: See = lambda text: None) -> bool:
@@ -112,7 +146,7 @@ class Reader:
     def _has_same_files(self) -> bool:
         """Whether the files are those that are followed, moved away or not. Raises `StoreError` if one is gone."""
         beside = self._beside
-        if beside is None or not self._is_at(self.path + ".shared", beside.fd):
+        if not self._is_open or beside is not None and not self._is_at(self.path + ".shared", beside.fd):
             return False
         return self._is_at(self.path, self._fd) or _is_same(self._archive(), self._fd)
 
@@ -194,16 +228,18 @@ class Reader:
 
     def state(self) -> State:
         """How the store is, as far as the journal was read. Raises `StoreError`."""
-        beside = self._beside
-        if beside is None:
+        if not self._is_open:
             raise StoreError("{} is closed".format(self.path))
         report = read_report(self._replica.report(), lambda worker: Worker(process_name(worker)))
+        beside = self._beside
+        if beside is None:
+            return State(report, in_progress_of(report, self.process_of, None), ())
         workers = {each.number: each.worker for each in self._replica.live()}
         gone = {worker for worker in set(workers.values()) if beside.is_gone(worker)}
         report = report._replace(lost=tuple(each for each in report.live if workers[each.activation] in gone))
-        names = dict(enumerate(self.operations))
-        waiting = waiting_at(beside, names) if beside.has_others() else ()  # those that were killed are counted on
-        return State(report, in_progress_of(report, self.process_of, self.path + ".shared"), tuple(waiting))
+        counts = beside.waiting() if beside.has_others() else {}  # those that were killed are counted on
+        waiting = tuple(Waiting(name, counts[op]) for op, name in enumerate(self.operations) if counts.get(op))
+        return State(report, in_progress_of(report, self.process_of, self.path + ".shared"), waiting)
 
     def process_of(self, worker: int) -> Optional[str]:
         """What the store knows of a worker's process. Raises `StoreError`."""

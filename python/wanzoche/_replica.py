@@ -153,11 +153,6 @@ class Replica:
             at = line.end()
         return None
 
-    def is_line(self, text: bytes, at: int) -> bool:
-        """Whether a whole line without a mark stands there, of an operation that is declared."""
-        line = LINE.match(text, at)
-        return line is not None and (line.group(2) is None or line.group(2) in self.operations)
-
     def _reply(self, line: "re.Match[bytes]", calls: Tuple[Any, Any, Any]) -> bytes:
         """Makes the attempt of a line by one of the calls, or asks what it would be answered: the reply."""
         start, finish, use = calls

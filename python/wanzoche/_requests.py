@@ -2,12 +2,17 @@
 
 from __future__ import annotations
 
+import itertools
 import select
 import socket
 import time
 from typing import Any, Callable, Dict, NamedTuple, Optional, Protocol, Tuple
 
-from ._log import Place, Wishes
+from ._log import Passing, Place, Wishes
+from ._served_order import LAST, Standing
+
+
+_arrivals = itertools.count(1)
 
 
 class Held(Protocol):
@@ -63,10 +68,15 @@ class Request:
 class Start(Request):
     """A start. One that `waits` stays until it is admitted or withdrawn; else it is blocked when the log was looked at."""
 
-    def __init__(self, wake: Callable[[], None], held: Held, caller: int, waits: bool, loop: Any = None) -> None:
+    def __init__(self, wake: Callable[[], None], held: Held, caller: int, waits: bool, loop: Any = None, priority: int = 0) -> None:
         super().__init__(wake)
-        self.held, self.caller, self.waits = held, caller, waits
+        self.held, self.caller, self.waits, self.priority = held, caller, waits, priority
         self._loop, self.release = loop, wake
+        self.arrived = time.monotonic_ns()
+        self.ticket = LAST + next(_arrivals)
+        """Its place among those who wait with its priority, in all processes; until the server gives it one, behind all that have one."""
+        self.slot: Optional[int] = None
+        """Where the server knows of it, if it does."""
         self.bell: Optional[Bell] = None
         """Rung when a thread that waits for the session itself is to look whether it still does."""
         self.has_looked = False
@@ -80,6 +90,18 @@ class Start(Request):
         """What forbade it then, as far as was known."""
         self.is_unwanted = False
         """Nobody waits for it any more: it is finished if it is started."""
+
+    def standing(self, worker: int, patience: int) -> Standing:
+        """Its place in the order, as one of this worker."""
+        return Standing(self.held._op, self.priority, self.ticket, self.arrived, patience, worker, self.caller)
+
+    def key(self) -> Tuple[int, int]:
+        """Who stands before another has a lower one."""
+        return -self.priority, self.ticket
+
+    def is_waiting(self) -> bool:
+        """Whether others stand behind it."""
+        return self.waits and self.is_wanted()
 
     def is_wanted(self) -> bool:
         """Whether it may still come to a start: a task may not whose loop is closed."""
@@ -124,6 +146,8 @@ class Batch(NamedTuple):
     wishes: Wishes
     before: Place
     is_stepped: bool
+    passing: Optional[Passing] = None
+    """Whom its line may pass, of one that is a start."""
 
     def text(self) -> Optional[bytes]:
         """Its lines, as one text."""

@@ -3,16 +3,17 @@
 from __future__ import annotations
 
 import asyncio
+import collections
 import copy
 import threading
 import time
 import weakref
 from types import TracebackType
-from typing import Any, Callable, Dict, List, NoReturn, Optional, Tuple, Type, TypeVar, cast
+from typing import Any, Callable, Dict, List, Mapping, NoReturn, Optional, Tuple, Type, TypeVar, cast
 
 from . import _clerk
 from . import _native as native
-from ._attempts import InUse, admitted, in_use
+from ._attempts import InUse, admitted, check_priority, in_use
 from ._clerk import Clerk
 from ._entries import AsyncEntry, Entry
 from ._errors import Blocked, Closed, Lost, StoreError, Timeout
@@ -20,8 +21,10 @@ from ._log import MOST_IN_SEGMENT, Given, Log, may_pass
 from ._postgresql import Cut, Denied
 from ._requests import Finish, Question, Request, Start, Use, wake_nobody
 from ._store import Store
-from ._stored import Begun, StoredPaths, _Stored, without_order
-from ._texts import Report, read_declaration, read_report
+from ._order import NEVER, Told
+from ._paths import Paths, _nanoseconds_of
+from ._stored import Begun, StoredPaths, _Stored
+from ._texts import Report, Waiting, Worker, read_declaration, read_report
 from ._waiting import Queues
 
 OPENING = 10.0
@@ -31,6 +34,11 @@ SCHEMES = ("postgresql://", "postgres://")
 T = TypeVar("T")
 
 _LOST = "activation {} was finished by others, which took this process for dead"
+
+
+def _told_of(paths: "Optional[ServedPaths]", op: int, worker: int, since: float, told: Optional[Told]) -> None:
+    if paths is not None:
+        paths._waits_long(op, worker, since, 0, told)
 
 
 class ServedStore:
@@ -52,9 +60,12 @@ class ServedStore:
         may_finish: bool,
         only_looks: bool,
         outage: float,
+        patience: float,
     ) -> None:
-        """With `may_finish` it finishes what the dead have in progress if the log says so. One that `only_looks` begins nothing."""
+        """With `may_finish` it finishes what the dead have in progress if the log says so. One that `only_looks` begins nothing. Who waits
+        here may be passed for so many seconds, the `patience`."""
         self._log = Log(url, name, source, handle, sync=sync, given=given, only_looks=only_looks)
+        self._log.patience = patience
         self._replica = self._log.replica
         self._may_finish, self._outage = may_finish, outage
         self._is_closed = False
@@ -213,9 +224,9 @@ class ServedStore:
         log.follow()
         return len(found)
 
-    def tell_long_waits(self, tell: Callable[[int, int, float], None]) -> None:
-        """Has this called, at the desk, of a start that has waited for a second, for two, four and so on: its operation, by whom, and since
-        when."""
+    def tell_long_waits(self, tell: Callable[[int, int, float, Optional[Told]], None]) -> None:
+        """Has this called, at the desk, of a start that has waited for a second, for two, four and so on: its operation, by whom, since
+        when, and for whom it is withheld."""
         self.clerk.waits_long = tell
 
     @property
@@ -223,8 +234,9 @@ class ServedStore:
         """What this process has in progress, by its numbers."""
         return self.clerk.held
 
-    def pid_of(self, worker: int) -> None:
-        """It isn't known without a call: see `process_of`."""
+    def pid_of(self, worker: int) -> Optional[int]:
+        """None: it isn't known without a call; see `process_of`."""
+        return None
 
     def process_of(self, worker: int) -> Optional[str]:
         """The process of a worker, and its machine; None if that isn't known."""
@@ -290,10 +302,11 @@ class ServedStore:
 class ServedBegun(Begun):
     """An operation that is to begin, in progress or over."""
 
-    __slots__ = ("_attempt",)
+    __slots__ = ("_attempt", "_priority")
 
-    def __init__(self, paths: "ServedPaths", name: str, timeout: Optional[float]) -> None:
+    def __init__(self, paths: "ServedPaths", name: str, timeout: Optional[float], priority: int) -> None:
         super().__init__(paths, name, timeout)
+        self._priority = check_priority(priority)
         self._attempt: Optional[Start] = None
 
     def store(self) -> ServedStore:
@@ -321,8 +334,8 @@ class _Served(_Stored):
 
     __slots__ = ()
 
-    def __init__(self, paths: "ServedPaths", operation: str, timeout: Optional[float]) -> None:
-        self._begun = ServedBegun(paths, operation, timeout)  # type: ignore[misc]  # a slot of the entries below
+    def __init__(self, paths: "ServedPaths", operation: str, timeout: Optional[float], priority: int) -> None:
+        self._begun = ServedBegun(paths, operation, timeout, priority)
 
     def __enter__(self: T) -> T:
         begun = cast(ServedBegun, cast(_Served, self)._begun)
@@ -371,7 +384,7 @@ class _Served(_Stored):
 def new_start(begun: ServedBegun, worker: int, wake: Callable[[], None], until: Optional[float], loop: Any = None) -> Start:
     """A start that waits until then for its turn. Without a time it waits; with one that is over it doesn't."""
     waits = until is None or until > time.monotonic()
-    start = Start(wake, begun, worker, waits, loop)
+    start = Start(wake, begun, worker, waits, loop, begun._priority)
     start.until = _ends(begun, until)
     return start
 
@@ -392,10 +405,10 @@ def _begin(begun: ServedBegun, worker: int) -> None:
 
 
 def _why(begun: ServedBegun, until: Optional[float]) -> Optional[Blocked]:
-    """What forbids it. If the server doesn't say so in time: what did so when its time was over."""
+    """What is in its way. If the server doesn't say so in time: what was so when its time was over."""
     paths, told = cast(ServedPaths, begun._paths), begun._attempt and begun._attempt.told
     try:
-        return begun.store().ask(lambda: paths._blocked_now(begun._name), _ends(begun, until))
+        return begun.store().ask(lambda: paths._refused_now(begun), _ends(begun, until))
     except Closed:
         raise paths._closed() from None
     except StoreError:
@@ -412,7 +425,7 @@ def _code_of_start(begun: ServedBegun, worker: int, until: Optional[float]) -> i
 
 
 def _timeout(why: Blocked, limit: Optional[float]) -> Timeout:
-    return Timeout(why.operation, why.path, why.resource, why.text, why.in_progress, limit, why.may_begin)
+    return why.over(limit)
 
 
 class ServedEntry(_Served):
@@ -461,7 +474,7 @@ class ServedAsyncEntry(_Served, AsyncEntry):
                     alarm.cancel()
             if admitted(begun, _code_unless_closed(begun, start), worker):
                 return
-            question = Question(wake_nobody, lambda: paths._blocked_now(begun._name))
+            question = Question(wake_nobody, lambda: paths._refused_now(begun))
             question.until = start.until
             await _replied(begun.store(), question)
             if question.error is not None and start.told is not None and isinstance(question.error, StoreError):
@@ -514,9 +527,9 @@ async def _replied(store: ServedStore, request: Request) -> None:
         event.clear()
 
 
-def _known_of(paths: "Optional[ServedPaths]", op: int) -> Optional[Blocked]:
-    """What forbids an operation, as far as its paths know."""
-    return None if paths is None else paths._blocked_as_known(paths._operations[op])
+def _known_of(paths: "Optional[ServedPaths]", op: int, told: Optional[Told]) -> Optional[Blocked]:
+    """What is in the way of an operation, as far as its paths know."""
+    return None if paths is None else paths._blocked_as_known(paths._operations[op], told)
 
 
 class ServedQueues(Queues):
@@ -561,34 +574,95 @@ class ServedPaths(StoredPaths):
         seconds = OUTAGE if outage is None else float(outage)
         if not (0 <= (given.grace or 0.0) < float("inf") and seconds >= 0):
             raise ValueError("`grace` and `outage` are seconds, not {} and {}".format(grace, outage))
-        kind: Dict[str, Any] = {"may_finish": self._may_finish, "only_looks": self._only_looks}
+        patience = other.pop("patience", None)
+        if patience is not None:
+            self._wait = _nanoseconds_of(patience)
+        waits = float("inf") if self._wait == NEVER else self._wait * 1e-9
+        kind: Dict[str, Any] = {"may_finish": self._may_finish, "only_looks": self._only_looks, "patience": waits}
         self._served = ServedStore(str(store), source, handle, name=name, sync=sync, given=given, outage=seconds, **kind)
         return cast(Store, self._served)  # it has the calls that paths make
 
     def __call__(self, operation: str, timeout: Optional[float] = None, priority: int = 0) -> Entry:
-        return ServedEntry(self, operation, without_order(timeout, priority))
+        return ServedEntry(self, operation, timeout, priority)
 
     def aio(self, operation: str, timeout: Optional[float] = None, priority: int = 0) -> AsyncEntry:
-        return ServedAsyncEntry(self, operation, without_order(timeout, priority))
+        return ServedAsyncEntry(self, operation, timeout, priority)
 
     def _new_queues(self) -> Queues:
         this = weakref.ref(self)
-        self._served.clerk.explains = lambda op: _known_of(this(), op)
+        self._served.clerk.explains = lambda op, told: _known_of(this(), op, told)
         return ServedQueues(self._calls, self._served.clerk)
+
+    def _begin_with(self, opened: Store, source: bytes, handle: native.Handle) -> None:
+        super()._begin_with(opened, source, handle)
+        this = weakref.ref(self)
+        self._served.tell_long_waits(lambda op, worker, since, told: _told_of(this(), op, worker, since, told))
+
+    def can_start(self, operation: str) -> bool:
+        op = self._number(operation)
+        return self._asked(lambda: self._served._replica.can_start(op))
+
+    def waiting(self) -> Dict[str, int]:
+        """How many threads and tasks wait for each operation in this process, of those for which any does."""
+        return Paths.waiting(self)
+
+    def _waiting_here(self) -> Dict[str, int]:
+        return self.waiting()
+
+    def _in_progress(self) -> Mapping[str, int]:
+        return collections.Counter(self._operations[each._op] for each in list(self._served.held.values()))
+
+    def _process(self, worker: int) -> Worker:
+        return self._process_at(worker, self._served.pid_of(worker))
+
+    def _read_report(self) -> Report:
+        told = read_report(self._text_of(native.report), self._process)
+        gone = {each.number for each in self._served.lost()}
+        return told._replace(lost=tuple(each for each in told.live if each.activation in gone))
 
     def _report_for_log(self) -> Report:
         return self._read_report()  # it is the desk that asks
 
-    def _blocked_now(self, operation: str) -> Optional[Blocked]:
-        """At the desk: what forbids the operation."""
-        told = None if self._replica_can_start(operation) else self._read_report()
-        return None if told is None else self._why_of(operation, told)
+    def why(self, operation: str) -> Optional[Blocked]:
+        op, caller = self._number(operation), self._worker_now()
+        return self._asked(lambda: self._blocked_now(operation, lambda: self._served.clerk.ahead_of(op, caller)))
 
-    def _blocked_as_known(self, operation: str) -> Optional[Blocked]:
-        """The same, without a call at the server: nobody is asked who is dead."""
-        if self._replica_can_start(operation):
+    def _why_waits(self, operation: str) -> Optional[Blocked]:
+        """The same for the first who waits for the operation in this process, if any does: it isn't in its own way."""
+        return self._asked(lambda: self._why_first_waits(operation))
+
+    def waiters(self) -> List[Waiting]:
+        return [self._waiting_of(told) for told in self._asked(lambda: self._served.clerk.waiters())]
+
+    def _waiting_of(self, told: Told) -> Waiting:
+        op, worker, priority, waited = told
+        return Waiting(self._operations[op], self._process(worker), priority, waited)
+
+    def _why_first_waits(self, operation: str) -> Optional[Blocked]:
+        """At the desk."""
+        op, clerk = self._number(operation), self._served.clerk
+        start = clerk.first_of(op)
+        return self._blocked_now(operation, lambda: clerk.ahead_of(op, 0) if start is None else clerk.behind(start))
+
+    def _refused_now(self, begun: ServedBegun) -> Optional[Blocked]:
+        """At the desk: what is in the way of one that would come now."""
+        clerk, worker = self._served.clerk, begun._worker
+        start = Start(wake_nobody, begun, begun._attempt.caller if begun._attempt else worker, False, None, begun._priority)
+        return self._blocked_now(begun._name, lambda: clerk.behind(start))
+
+    def _blocked_now(self, operation: str, behind: Callable[[], Optional[Told]]) -> Optional[Blocked]:
+        """At the desk: what forbids the operation, or else for whom it is withheld."""
+        if not self._replica_can_start(operation):
+            return self._why_of(operation, self._read_report())
+        told = behind()
+        return None if told is None else self._behind(operation, told, self._read_report())
+
+    def _blocked_as_known(self, operation: str, told: Optional[Told]) -> Optional[Blocked]:
+        """The same of one that is withheld for this one, without a call at the server: nobody is asked who is dead."""
+        if told is None and self._replica_can_start(operation):
             return None
-        return self._why_of(operation, read_report(self._text_of(native.report), self._process))
+        report = read_report(self._text_of(native.report), self._process)
+        return self._why_of(operation, report) if told is None else self._behind(operation, told, report)
 
     def _replica_can_start(self, operation: str) -> bool:
         return self._served._replica.can_start(self._number(operation))

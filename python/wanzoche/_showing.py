@@ -4,10 +4,9 @@ from __future__ import annotations
 
 import json
 import time
-from typing import Any, Callable, Dict, List, Mapping, NamedTuple, Optional, Protocol, Sequence, Tuple
+from typing import Any, Callable, Dict, List, NamedTuple, Optional, Protocol, Sequence, Tuple
 
 from ._asking import Asked
-from ._beside import Beside
 from ._log import Log
 from ._processes import Process, process_at
 from ._served import ServedPaths
@@ -18,8 +17,11 @@ from ._texts import Report
 FORM = 1
 """The number of the form of the JSON. It changes when something in it gets another meaning or goes; what is added leaves it as it is."""
 WAITING = (
-    "select x.operation, x.worker, floor(extract(epoch from x.since))::bigint, y.process from wanzoche.waiting x "
-    "left join wanzoche.worker y using (log, worker) where x.log = $1 and x.since is not null order by x.operation, x.since, x.worker"
+    "select x.operation, x.worker, count(*), min(floor(extract(epoch from x.since))::bigint), min(y.process) from "
+    "(select log, operation, worker, since, priority, ticket from wanzoche.waiter union all "
+    "select log, operation, worker, since, 0, null from wanzoche.waiting) x left join wanzoche.worker y using (log, worker) "
+    "where x.log = $1 and x.since is not null group by x.operation, x.worker "
+    "order by max(x.priority) desc, min(x.ticket), min(x.since), x.worker"
 )
 
 
@@ -96,8 +98,7 @@ class Onlooker:
         if isinstance(paths, ServedPaths):
             served = paths._served
             return served.ask(lambda: served._replica.lines)
-        beside = paths._store._beside
-        return beside.end.value, bytes(beside.waiting)
+        return paths._store.stamp()
 
     def report(self) -> Report:
         return self._paths.report()
@@ -122,14 +123,18 @@ class Onlooker:
         if isinstance(paths, ServedPaths):
             log = paths._served._log
             rows = paths._served.ask(lambda: self._rows(log))
-            return [Waiting(names[row[0]], 1, row[1], process_at(row[3], None)._replace(since=row[2])) for row in rows if row[0] in names]
-        return waiting_at(paths._store._beside, names)
+            known = [row for row in rows if row[0] in names]
+            return [Waiting(names[op], many, who, process_at(name, None)._replace(since=since)) for op, who, many, since, name in known]
+        counts = paths.waiting()
+        return [Waiting(name, counts[name]) for name in paths.operations if name in counts]
 
-    def _rows(self, log: Log) -> List[Tuple[int, int, int, str]]:
-        """At the desk: the operation, the worker, since when, and the worker's process, of all that wait and are alive."""
+
+    def _rows(self, log: Log) -> List[Tuple[int, int, int, int, str]]:
+        """At the desk: the operation, the worker, how many wait there, since when the first does, and the worker's process, of all that
+        wait and are alive, in order."""
         rows = self._who_waits.rows(log, log._log)
         dead = log.dead(sorted({int(row[1]) for row in rows}))
-        told = [(int(row[0]), int(row[1]), int(row[2]), (row[3] or b"").decode("utf-8", "replace")) for row in rows]
+        told = [(int(op), int(who), int(many), int(since), (name or b"").decode("utf-8", "replace")) for op, who, many, since, name in rows]
         return [row for row in told if row[1] not in dead]
 
 
@@ -144,12 +149,6 @@ def in_progress_of(report: Report, process_of: Callable[[int], Optional[str]], b
         worker = int(each.worker.split()[-1])
         found.append(InProgress(each.activation, each.operation, worker, each.activation in lost, processes[worker]))
     return tuple(found)
-
-
-def waiting_at(beside: Beside, names: Mapping[int, str]) -> List[Waiting]:
-    """For which operations somebody waits over a file, and in how many processes."""
-    counts = beside.waiting
-    return [Waiting(name, counts[number]) for number, name in names.items() if counts[number]]
 
 
 def lines_of(report: Report, process_of: Callable[[int], Optional[str]]) -> str:

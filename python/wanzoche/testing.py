@@ -65,7 +65,7 @@ def _waiting(paths: Sequence[Paths]) -> List[str]:
 
 def _waits_of(paths: Paths) -> List[str]:
     try:
-        return ["{} wait: {}".format(count, paths.why(name) or name) for name, count in paths.waiting().items()]
+        return ["{} wait: {}".format(count, paths.why(name) or name) for name, count in paths._waiting_here().items()]
     except (Closed, StoreError):
         return []
 

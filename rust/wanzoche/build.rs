@@ -1,7 +1,8 @@
 //! Builds the C library from its sources, or finds an installed one by its `wanzoche.pc`.
 //!
-//! The sources lie in the folder `native` of a package, and two folders up in the repository. They are taken unless `WANZOCHE_INSTALLED` is
-//! set. What is built is what the repository's Makefile builds: one object, of which only the names of wanzoche.h stay.
+//! The sources lie in the folder `native` of a package, and two folders up in the repository. They are taken unless `WANZOCHE_INSTALLED`
+//! is set. What is built is what the repository's Makefile builds: two objects, of which only the names of the headers stay. Programs that
+//! open no store don't get the second.
 
 use std::env;
 use std::path::{Path, PathBuf};
@@ -66,7 +67,18 @@ fn said(command: &mut Command) -> String {
 fn sources() -> Option<PathBuf> {
     let crate_folder = PathBuf::from(of_cargo("CARGO_MANIFEST_DIR"));
     let mut places = ["native", "../.."].iter().map(|place| crate_folder.join(place));
-    places.find(|place| place.join("c/wanzoche.c").exists() && place.join("dist/system.c").exists())
+    places.find(|place| ["c/wanzoche.c", "c/store", "dist/system.c"].iter().all(|part| place.join(part).exists()))
+}
+
+/// The sources of the store, in the order of their names.
+fn sources_of_store(sources: &Path) -> Vec<PathBuf> {
+    let folder = sources.join("c/store");
+    println!("cargo:rerun-if-changed={}", folder.display());
+    let files = std::fs::read_dir(&folder).unwrap_or_else(|error| fail(&format!("{} can't be read: {error}", folder.display())));
+    let paths = files.filter_map(|file| file.ok()).map(|file| file.path());
+    let mut all: Vec<PathBuf> = paths.filter(|path| path.extension().map_or(false, |end| end == "c")).collect();
+    all.sort();
+    all
 }
 
 /// Builds `libwanzoche.a` in this folder.
@@ -86,14 +98,21 @@ fn build(sources: &Path, processor: &str, out: &Path) {
     compile(&assembly, "path_c", &[]);
     compile(&sources.join("dist/system.c"), "memory", &[&flags[..], &["-DLIBRARY"]].concat());
     compile(&sources.join("c/wanzoche.c"), "names", &flags);
-    println!("cargo:rerun-if-changed={}", sources.join("include/wanzoche.h").display());
-    let whole = object("wanzoche");
-    let parts = ["path_c", "memory", "names"].map(object);
-    said(compiler.command().args(["-nostdlib", "-r", "-o"]).arg(&whole).args(&parts));
-    said(Command::new(compiler.program("objcopy")).args(["--wildcard", "--keep-global-symbol=wanzoche_*"]).arg(&whole));
+    for header in ["wanzoche.h", "wanzoche_store.h"] {
+        println!("cargo:rerun-if-changed={}", sources.join("include").join(header).display());
+    }
+    let store = sources_of_store(sources);
+    let name_of = |file: &PathBuf| format!("store_{}", file.file_stem().unwrap_or_default().to_string_lossy());
+    store.iter().for_each(|file| compile(file, &name_of(file), &[&flags[..], &["-D_GNU_SOURCE", "-pthread"]].concat()));
+    let join = |whole: &Path, parts: &[PathBuf]| {
+        said(compiler.command().args(["-nostdlib", "-r", "-o"]).arg(whole).args(parts));
+        said(Command::new(compiler.program("objcopy")).args(["--wildcard", "--keep-global-symbol=wanzoche_*"]).arg(whole));
+    };
+    join(&object("wanzoche"), &["path_c", "memory", "names"].map(object));
+    join(&object("store"), &store.iter().map(|file| object(&name_of(file))).collect::<Vec<_>>());
     let archive = out.join("libwanzoche.a");
     let _ = std::fs::remove_file(&archive);
-    said(Command::new(compiler.program("ar")).arg("rcs").arg(&archive).arg(&whole));
+    said(Command::new(compiler.program("ar")).arg("rcs").arg(&archive).args(["wanzoche", "store"].map(object)));
     println!("cargo:rustc-link-search=native={}", out.display());
     println!("cargo:include={}", sources.join("include").display());
 }

@@ -12,3 +12,5 @@ pub use Rattle.path_gate.proofs.Counted.{named_declared}
 pub use Rattle.path_gate.proofs.Threads.{gate_send}
 -- the values of a gate at a history
 pub use Rattle.path_gate.proofs.Determined.{same_semaphores, same_counters}
+-- pasts: the same values and counts have the same, and one history of all paths is a past of each
+pub use Rattle.path_gate.proofs.Pasts.{same_pasts, one_history}

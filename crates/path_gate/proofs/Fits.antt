@@ -53,7 +53,7 @@ finds_kept false (Braced c q) v f = f
 finds_kept true (Counted c q) v f = tt
 finds_kept false (Counted c q) v f = f
 
-module _ (s : Tree) (wf : WellFormed s) (few : FewAtOnce s) (h : List Event) (l : LegalOn s h) (small : starts_in h ≤ 2 ^ 32) where
+module _ (s : Tree) (wf : WellFormed s) (few : FewAtOnce s) (h : List Event) (l : LegalOn s h) (small : starts_in h ≤ 2 ^ 63 + 2 ^ 32) where
   same : SameKept s (lean_now h s) (values_among s (opening s) h)
   same = (each_path_trims s wf h).kept_values
 

@@ -13,9 +13,9 @@ use Rattle.path_model.proofs.CallerLemmas.{has_names, names_has, every_to, on_tr
 use Rattle.path_trim.specs.LeanTable.{prologue_left}
 use Rattle.path_gate.specs.declared.gate.Term.{Term}
 use Rattle.path_gate.specs.Levels.{Levels, can_pass}
-use Rattle.path_gate.specs.Sites.{unlike, kept_paths, Shows}
+use Rattle.path_gate.specs.Sites.{unlike, kept_paths, Shows, HasPlaces}
 use Rattle.path_gate.specs.Inner.Terms.{term_at, terms_at, is_blocked_at}
-use Rattle.path_gate.specs.Inner.Soundness.{HasPlaces, IsSound}
+use Rattle.path_gate.specs.Inner.Soundness.{IsSound}
 use Rattle.path_gate.specs.Standings.{Standing, IsAt, AtNumber, Tells}
 use Rattle.path_gate.proofs.OnePath.{passes_to, passes_from}
 use Rattle.path_gate.proofs.Passes.{trees_of}

@@ -5,6 +5,7 @@ pub mod KeptPaths
 pub mod Counts
 pub mod Fits
 pub mod Unkept
+pub mod Pasts
 pub mod Sound
 pub mod Forbidding
 pub mod Runs

@@ -11,8 +11,7 @@ use Rattle.path_model.specs.KeptTerms.{TouchesKept}
 use Rattle.path_model.proofs.CallerLemmas.{rank_low, rank_apart}
 use Rattle.path_trim.specs.LeanTable.{prologue_left, epilogue_left}
 use Rattle.path_gate.specs.Levels.{Levels, taken, given, is_open, can_pass, entered, left, started, finished, PrologueWithin, EpilogueWithin, CanEnter, CanLeave, CanStart, CanFinish}
-use Rattle.path_gate.specs.Sites.{Shows}
-use Rattle.path_gate.specs.Inner.Soundness.{HasPlaces}
+use Rattle.path_gate.specs.Sites.{Shows, HasPlaces}
 
 put_here : (f : ℕ → ℕ) (k y i : ℕ) → i ≡ k → put f k y i ≡ y
 put_here f k y i e = cond-true (i == k) y (f i) (eq-eqb i k e)

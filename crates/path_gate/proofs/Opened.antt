@@ -22,6 +22,7 @@ use Rattle.path_gate.specs.Inner.Terms.{term_at, terms_at}
 use Rattle.path_gate.specs.Inner.Soundness.{IsSound}
 use Rattle.path_gate.specs.Inner.Initial.{ops_terms, rows_terms, semaphores_put, counters_put, IsBelow}
 use Rattle.path_gate.proofs.KeptPaths.{rising_kept, every_kept}
+use Rattle.path_gate.proofs.Pasts.{one_history}
 use Rattle.path_gate.proofs.OpeningValues.{zeros, SemaphoresOpen, CountersOpen, semaphores_opened, counters_opened, shows_opened, places_opened}
 use Rattle.path_gate.proofs.UnkeptOpen.{semaphores_zero, counters_zero}
 
@@ -208,5 +209,5 @@ module _ (ss : List Tree) (L : LawfulTrees ss) where
     counts = length-replicate {A = ℕ} 256 0 ∙ sym rows;
     places = every_both (λ x s c. places_opened (semaphores_put (lean_table ss) []) (counters_put (lean_table ss) []) x s c) (kept_paths paths) semaphores_open counters_open;
     idle = λ a n. zeros 256 a.0;
-    history = ([], legal_empty paths, opened_at, refl);
+    pasts = one_history opened [] (legal_empty paths) opened_at refl;
   }

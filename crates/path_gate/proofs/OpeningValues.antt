@@ -12,8 +12,7 @@ use Rattle.path_model.proofs.CallerLemmas.{rank_before, rank_after, rank_low, bo
 use Rattle.path_code.specs.PathCodes.{bounds_in, numbered_values, numbers_from, opening_values, semaphores_of, braces_of}
 use Rattle.path_trim.specs.LeanTable.{lean_row, semaphores_left, counters_left}
 use Rattle.path_gate.specs.Levels.{levels}
-use Rattle.path_gate.specs.Sites.{Shows}
-use Rattle.path_gate.specs.Inner.Soundness.{HasPlaces}
+use Rattle.path_gate.specs.Sites.{Shows, HasPlaces}
 use Rattle.path_gate.specs.Inner.Initial.{put_value, put_all, at_zero, semaphores_put, counters_put}
 use Rattle.path_gate.proofs.Passes.{Rising}
 

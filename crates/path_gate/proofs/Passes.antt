@@ -16,9 +16,8 @@ use Rattle.path_model.specs.KeptTerms.{TouchesKept}
 use Rattle.path_model.proofs.CallerLemmas.{has_names, names_has, on_tree, rank_low, trimmed_terms_touch_the_kept}
 use Rattle.path_trim.specs.LeanTable.{prologue_left, epilogue_left}
 use Rattle.path_gate.specs.Levels.{Levels, can_pass, started, finished}
-use Rattle.path_gate.specs.Sites.{Shows}
+use Rattle.path_gate.specs.Sites.{Shows, HasPlaces}
 use Rattle.path_gate.specs.Inner.Terms.{term_at, terms_at, blocking, all_started, all_finished, CanStartAll, CanFinishAll, IsWithin}
-use Rattle.path_gate.specs.Inner.Soundness.{HasPlaces}
 use Rattle.path_gate.proofs.OnePath.{StartFits, FinishFits, passes_to, passes_from, shows_started, can_start, shows_finished, can_finish, prologue_within, epilogue_within, Off, off_started, off_finished}
 
 true_false : true ≡ false → ⊥

@@ -1,4 +1,4 @@
--- A sound gate judges a start, can go on by it, and stays sound.
+-- A sound gate judges a start, can go on by it, and stays sound: each path has a past, which goes on by the same event.
 use Rattle.std.proofs.Common.{◌≡◌, ◌≢◌, ◌⊎◌, ◌+◌, ◌-◌, ◌<◌, ◌≤◌, ◌^◌, ℕ, cond, Bool, true, false, List, [], ◌∷◌, ◌++◌, length, get_or, take, drop, arith, refl, sym, ap, ◌∙◌, subst, Option, Some, None, Result, Ok, Err, MatchResult, All, inl, inr}
 use Rattle.std.specs.Prelude.{MatchOption}
 use Rattle.std.proofs.lemmas.List.{get_or-set_other, get_or_past, length-set, take_at}
@@ -12,22 +12,22 @@ use Rattle.path_model.specs.Histories.{begun, ended, starts_in}
 use Rattle.path_model.specs.Projection.{LegalOn}
 use Rattle.path_model.specs.Legal as legal
 use Rattle.path_model.specs.Machine.{Values}
-use Rattle.path_model.specs.AllPaths.{Judged}
 use Rattle.path_model.specs.Flat.{Sited}
 use Rattle.path_model.specs.Trimmed.{kept, lean_prologue, lean_epilogue, LeanPasses, LeanBlocks}
-use Rattle.path_model.proofs.CallerLemmas.{has_names, all_paths_judge, each_block_stays, every_map, every_both, every_from, first_from, on_tree, lean_now, lean_after_placed, trimmed_admits_the_words, trimmed_terms_touch_the_kept}
+use Rattle.path_model.proofs.CallerLemmas.{has_names, each_block_stays, every_map, every_both, every_from, first_from, on_tree, lean_now, lean_after_placed, trimmed_admits_the_words, trimmed_terms_touch_the_kept}
 use Rattle.path_trim.specs.LeanTable.{prologue_left}
 use Rattle.path_gate.specs.declared.gate.Term.{Term}
 use Rattle.path_gate.specs.Levels.{Levels, can_pass}
-use Rattle.path_gate.specs.Sites.{kept_paths, Shows}
-use Rattle.path_gate.specs.Standings.{Standing, IsNamed, IsAt, Judges, Admitted, BlocksStay, Released, SamePlaces, having, CanHave, Restored}
+use Rattle.path_gate.specs.Sites.{kept_paths, Shows, HasPlaces}
+use Rattle.path_gate.specs.Standings.{Standing, IsNamed, IsAt, HasPast, HavePasts, Judges, Admitted, BlocksStay, Released, SamePlaces, having, CanHave, Restored}
 use Rattle.path_gate.specs.Inner.Terms.{term_at, terms_at, blocking, all_started, all_finished, CanStartAll, CanFinishAll, IsWithin, one_more, one_less}
-use Rattle.path_gate.specs.Inner.Soundness.{HasPlaces, IsSound}
+use Rattle.path_gate.specs.Inner.Soundness.{IsSound}
 use Rattle.path_gate.proofs.OnePath.{StartFits, FinishFits, passes_to}
 use Rattle.path_gate.proofs.Passes.{next, Low, Moved, StartReady, started_moves, started_can, finished_moves, finished_can, IsFirst, blocking_first, all_within}
 use Rattle.path_gate.proofs.KeptPaths.{rising_kept, every_kept, trees_kept, terms_none, none_terms}
-use Rattle.path_gate.proofs.Counts.{starts_snoc, begun_few, counts_start, counts_finish, counts_other}
+use Rattle.path_gate.proofs.Counts.{starts_snoc, counts_start, counts_finish, counts_other}
 use Rattle.path_gate.proofs.Fits.{start_fits, ends_fit, next_now}
+use Rattle.path_gate.proofs.Pasts.{named_kept, same_pasts, one_begins, one_ends, more_at, more_off, more_few, less_at, less_off, less_few}
 use Rattle.path_gate.proofs.Unkept.{starts_leave_semaphore, starts_leave_counter, ends_leave_semaphore, ends_leave_counter}
 
 true_false : true ≡ false → ⊥
@@ -131,10 +131,6 @@ first_judges xs wf h l a (Some p) r =
 along : (h : List Event) (e : Event) (v : Levels) (ys : List (ℕ × Sited)) → legal.Every (λ x. Shows v (next e (lean_now h) x.tree) x) ys → legal.Every (λ x. Shows v (lean_now (h ++ e ∷ []) x.tree) x) ys
 along h e v ys S = every_map (λ x T. subst (λ w. Shows v w x) (next_now h e x.tree) T) ys S
 
-every_three : (P Q R T : Tree → Type 0) → ((s : Tree) → P s → Q s → R s → T s) → (xs : List (ℕ × Tree)) → legal.Every P xs → legal.Every Q xs → legal.Every R xs → legal.Every T xs
-every_three P Q R T f [] p q r = tt
-every_three P Q R T f (x ∷ xs) p q r = (f x.1 p.0 q.0 r.0, every_three P Q R T f xs p.1 q.1 r.1)
-
 module _ (g : Standing) (by_op : List (List Term)) (S : IsSound g by_op) (a : OpId) (terms : List Term) (run : terms ≡ get_or by_op a.0 []) where
   is : terms ≡ terms_at (kept_paths g.paths) a
   is = run ∙ S.terms a
@@ -154,6 +150,9 @@ module _ (g : Standing) (by_op : List (List Term)) (S : IsSound g by_op) (a : Op
 
   pub named : terms ≢ [] → IsNamed g.paths a
   named n none = n (is ∙ terms_none a g.paths none)
+
+  has_terms : IsNamed g.paths a → terms ≢ []
+  has_terms n e = n (none_terms a g.paths (sym is ∙ e))
 
   pub unnamed : legal.NoneOf (λ s. Names s a) g.paths → terms ≡ []
   unnamed none = is ∙ terms_none a g.paths none
@@ -176,43 +175,60 @@ module _ (g : Standing) (by_op : List (List Term)) (S : IsSound g by_op) (a : Op
   pub stay : BlocksStay g a
   stay h l at b = every_map (λ s w. each_block_stays s w h a b) g.paths S.well_formed
 
-  few_starts : g.admitted < 2 ^ 32 → starts_in S.history.0 ≤ 2 ^ 32
-  few_starts small = let e = S.history.3 in omega (arith, e, small)
+  abbrev past : Tree → List Event
+  past = S.pasts.past
 
-  start_all_fits : g.admitted < 2 ^ 32 → legal.Every (λ s. Names s a → StartFits (lean_prologue s a) (lean_now S.history.0 s)) g.paths
+  -- the values of each path behind its past
+  abbrev now : Tree → Values
+  now s = lean_now (S.pasts.past s) s
+
+  shown : legal.Every (λ x. Shows g.levels (now x.tree) x) (kept_paths g.paths)
+  shown = every_map (λ x p. p.values) (kept_paths g.paths) S.pasts.each
+
+  -- each path that is kept is lawful and has its past
+  abbrev HasAll : Sited → Type 0
+  HasAll x = WellFormed x.tree × FewAtOnce x.tree × HasPast g (S.pasts.past x.tree) x
+
+  few_and_past : legal.Every (λ x. FewAtOnce x.tree × HasPast g (S.pasts.past x.tree) x) (kept_paths g.paths)
+  few_and_past = every_both (λ x f p. (f, p)) (kept_paths g.paths) (every_kept FewAtOnce g.paths S.few_at_once) S.pasts.each
+
+  all : legal.Every HasAll (kept_paths g.paths)
+  all = every_both (λ x w r. (w, r.0, r.1)) (kept_paths g.paths) formed few_and_past
+
+  -- and what it names, a path names
+  abbrev NamesAll : Sited → Type 0
+  NamesAll x = HasAll x × ((b : OpId) → Names x.tree b → IsNamed g.paths b)
+
+  all_named : legal.Every NamesAll (kept_paths g.paths)
+  all_named = every_both (λ x k n. (k, n)) (kept_paths g.paths) all (named_kept g.paths)
+
+  start_all_fits : g.admitted < 2 ^ 32 → legal.Every (λ x. Names x.tree a → StartFits (lean_prologue x.tree a) (now x.tree)) (kept_paths g.paths)
   start_all_fits small =
-      every_three WellFormed FewAtOnce (λ s. LegalOn s S.history.0) (λ s. Names s a → StartFits (lean_prologue s a) (lean_now S.history.0 s))
-      (λ s w f l n. start_fits s w f S.history.0 l (few_starts small) (lean_prologue s a) (trimmed_terms_touch_the_kept s w a n).0) g.paths S.well_formed S.few_at_once S.history.1
+      every_map (λ x k n.
+      let few = k.2.few in
+      start_fits x.tree k.0 k.1 (past x.tree) k.2.follows (omega (arith, few, small)) (lean_prologue x.tree a) (trimmed_terms_touch_the_kept x.tree k.0 a n).0) (kept_paths g.paths) all
+
+  passes_free : blocking terms g.levels ≡ None → legal.Every (λ x. Names x.tree a → LeanPasses (lean_prologue x.tree a) (now x.tree)) (kept_paths g.paths)
+  passes_free free = free_passes a now (kept_paths g.paths) formed g.levels shown S.places (subst (λ ts. blocking ts g.levels ≡ None) is free)
 
   pub starts : g.admitted < 2 ^ 32 → blocking terms g.levels ≡ None → CanStartAll terms g.levels
   starts small free =
       subst (λ ts. CanStartAll ts g.levels) (sym is)
-      (started_can a (lean_now S.history.0) (kept_paths g.paths) 0 0 (rising_kept g.paths) formed g.levels S.history.2.values S.places ready)
-    where
-      free' : blocking (terms_at (kept_paths g.paths) a) g.levels ≡ None
-      free' = subst (λ ts. blocking ts g.levels ≡ None) is free
-
-      ready : StartReady a (lean_now S.history.0) (kept_paths g.paths)
-      ready = every_both (λ x p f n. (p n, f n)) (kept_paths g.paths)
-          (free_passes a (lean_now S.history.0) (kept_paths g.paths) formed g.levels S.history.2.values S.places free')
-          (every_kept (λ s. Names s a → StartFits (lean_prologue s a) (lean_now S.history.0 s)) g.paths (start_all_fits small))
+      (started_can a now (kept_paths g.paths) 0 0 (rising_kept g.paths) formed g.levels shown S.places
+      (every_both (λ x p f n. (p n, f n)) (kept_paths g.paths) (passes_free free) (start_all_fits small)))
 
   -- a start counts up to the number of starts at most
   pub count_small : terms ≢ [] → get_or g.in_progress a.0 0 ≤ g.admitted
-  count_small n =
-      let p = S.history.2.progress a (named n) in
-      let b = begun_few a S.history.0 in
-      let e = S.history.3 in
-      omega arith
+  count_small n = S.pasts.counts a (named n)
 
-  begun_moved : (h : List Event) → IsAt g h → Moved a (lean_now h) (Began a) (kept_paths g.paths) 0 0 (all_started terms g.levels) g.levels
-  begun_moved h at =
-      subst (λ ts. Moved a (lean_now h) (Began a) (kept_paths g.paths) 0 0 (all_started ts g.levels) g.levels) (sym is)
-      (started_moves a (lean_now h) (kept_paths g.paths) 0 0 (rising_kept g.paths) formed g.levels at.values S.places)
+  begun_moved : (f : Tree → Values) → legal.Every (λ x. Shows g.levels (f x.tree) x) (kept_paths g.paths) → Moved a f (Began a) (kept_paths g.paths) 0 0 (all_started terms g.levels) g.levels
+  begun_moved f shows =
+      subst (λ ts. Moved a f (Began a) (kept_paths g.paths) 0 0 (all_started ts g.levels) g.levels) (sym is)
+      (started_moves a f (kept_paths g.paths) 0 0 (rising_kept g.paths) formed g.levels shows S.places)
 
   begun_at : (h : List Event) → IsAt g h → IsAt (begun_from g terms a.0) (h ++ Began a ∷ [])
   begun_at h at = record {
-    values = along h (Began a) (all_started terms g.levels) (kept_paths g.paths) (begun_moved h at).0;
+    values = along h (Began a) (all_started terms g.levels) (kept_paths g.paths) (begun_moved (lean_now h) at.values).0;
     unkept_semaphores = λ i free. ap (λ ts. get_or (all_started ts g.levels).semaphores i 0) is ∙ starts_leave_semaphore i a (kept_paths g.paths) formed free g.levels ∙ at.unkept_semaphores i free;
     unkept_counters = λ i free. ap (λ ts. get_or (all_started ts g.levels).counters i 0) is ∙ starts_leave_counter i a (kept_paths g.paths) formed free g.levels ∙ at.unkept_counters i free;
     progress = λ b n. more_progress g.paths a b g.in_progress h n (at.progress b n) terms is counted;
@@ -224,10 +240,38 @@ module _ (g : Standing) (by_op : List (List Term)) (S : IsSound g by_op) (a : Op
       (subst (λ m. legal.Every (λ y. HasPlaces (length g.levels.semaphores) m y) (kept_paths g.paths)) (sym L.places.1) S.places)
 
   pub admits : Admitted g a (begun_from g terms a.0)
-  admits = record { paths = refl; admitted = refl; moved = begun_at }
+  admits = record {
+    paths = refl;
+    admitted = refl;
+    moved = begun_at;
+    counted = λ n. more_at g.in_progress a.0 terms (has_terms n) (counted (has_terms n));
+    others = λ b. more_off g.in_progress a.0 terms b.0;
+  }
 
   pub begun_places : SamePlaces g (begun_from g terms a.0)
-  begun_places = let L = (begun_moved S.history.0 S.history.2).1 in record { semaphores = L.places.0; counters = L.places.1 }
+  begun_places = let L = (begun_moved now shown).1 in record { semaphores = L.places.0; counters = L.places.1 }
+
+  -- the past of a path that lets the start in
+  abbrev LetsIn : Sited → Type 0
+  LetsIn x = (Names x.tree a → LeanPasses (lean_prologue x.tree a) (now x.tree)) × Shows (all_started terms g.levels) (next (Began a) now x.tree) x
+
+  all_let_in : blocking terms g.levels ≡ None → legal.Every LetsIn (kept_paths g.paths)
+  all_let_in free = every_both (λ x p v. (p, v)) (kept_paths g.paths) (passes_free free) (begun_moved now shown).0
+
+  begun_past : (x : Sited) → NamesAll x → LetsIn x → HasPast (begun_from g terms a.0) (past x.tree ++ Began a ∷ []) x
+  begun_past x k i = record {
+    follows = one_begins x.tree k.0.0 (past x.tree) k.0.2.follows a i.0;
+    values = subst (λ w. Shows (all_started terms g.levels) w x) (next_now (past x.tree) (Began a) x.tree) i.1;
+    progress = λ b n. more_progress g.paths a b g.in_progress (past x.tree) (k.1 b n) (k.0.2.progress b n) terms is counted;
+    few = (let f = k.0.2.few in let s = starts_snoc (past x.tree) (Began a) in let o : starts_in (Began a ∷ []) ≡ 0 + 1 = refl in omega arith);
+  }
+
+  begun_pasts : blocking terms g.levels ≡ None → HavePasts (begun_from g terms a.0)
+  begun_pasts free = record {
+    past = λ s. past s ++ Began a ∷ [];
+    each = every_both begun_past (kept_paths g.paths) all_named (all_let_in free);
+    counts = λ b n. (let c = S.pasts.counts b n in let m = more_few g.in_progress a.0 terms b.0 counted in omega (arith, c, m));
+  }
 
   pub begun_sound : blocking terms g.levels ≡ None → IsSound (begun_from g terms a.0) by_op
   begun_sound free = record {
@@ -235,56 +279,72 @@ module _ (g : Standing) (by_op : List (List Term)) (S : IsSound g by_op) (a : Op
     few_at_once = S.few_at_once;
     terms = S.terms;
     counts = length_more terms a.0 g.in_progress ∙ S.counts;
-    places = placed_after (all_started terms g.levels) (begun_moved S.history.0 S.history.2).1;
+    places = placed_after (all_started terms g.levels) (begun_moved now shown).1;
     idle = λ b n. more_idle g.paths a b g.in_progress n (S.idle b n) terms is;
-    history = (
-      S.history.0 ++ Began a ∷ [],
-      subst (IsJudged g.paths S.history.0 a) free (judged S.history.0 S.history.1 S.history.2),
-      begun_at S.history.0 S.history.2,
-      (let e = S.history.3 in let s = starts_snoc S.history.0 (Began a) in let o : starts_in (Began a ∷ []) ≡ 0 + 1 = refl in omega arith),
-    );
+    pasts = begun_pasts free;
   }
 
   module _ (some : IsNamed g.paths a → 0 < get_or g.in_progress a.0 0) where
-    finish_legal : legal.Legal g.paths (S.history.0 ++ Ended a ∷ [])
-    finish_legal = elim (empty_or terms) [
-      | inl e ↦ (all.unnamed a (none_terms a g.paths (sym is ∙ e))).2
-      | inr n ↦ all.finishes a (let p = S.history.2.progress a (named n) in let l = some (named n) in omega arith)
-    ]
-      where
-        all : Judged g.paths S.history.0
-        all = all_paths_judge g.paths S.well_formed S.history.0 S.history.1
+    -- the operation is in progress in each path that names it
+    ends_all : legal.Every (λ x. LegalOn x.tree (past x.tree ++ Ended a ∷ [])) (kept_paths g.paths)
+    ends_all = every_both (λ x k named. one_ends x.tree k.0 (past x.tree) k.2.follows a (λ n. let p = k.2.progress a n in let l = some (named a n) in omega (arith, p, l))) (kept_paths g.paths) all (named_kept g.paths)
 
-    finish_all_fits : g.admitted < 2 ^ 32 → legal.Every (λ s. Names s a → FinishFits (lean_epilogue s a) (lean_now S.history.0 s)) g.paths
+    finish_all_fits : g.admitted < 2 ^ 32 → legal.Every (λ x. Names x.tree a → FinishFits (lean_epilogue x.tree a) (now x.tree)) (kept_paths g.paths)
     finish_all_fits small =
-        every_three (λ s. WellFormed s × FewAtOnce s) (λ s. LegalOn s S.history.0) (λ s. LegalOn s (S.history.0 ++ Ended a ∷ [])) (λ s. Names s a → FinishFits (lean_epilogue s a) (lean_now S.history.0 s))
-        (λ s w l k n. ends_fit s w.0 w.1 S.history.0 l (few_starts small) a n k (trimmed_terms_touch_the_kept s w.0 a n).1) g.paths
-        (every_both (λ s w f. (w, f)) g.paths S.well_formed S.few_at_once) S.history.1 finish_legal
+        every_both (λ x k l n.
+        let few = k.2.few in
+        ends_fit x.tree k.0 k.1 (past x.tree) k.2.follows (omega (arith, few, small)) a n l (trimmed_terms_touch_the_kept x.tree k.0 a n).1) (kept_paths g.paths) all ends_all
 
     pub finishes : g.admitted < 2 ^ 32 → CanFinishAll terms g.levels
     finishes small =
         subst (λ ts. CanFinishAll ts g.levels) (sym is)
-        (finished_can a (lean_now S.history.0) (kept_paths g.paths) 0 0 (rising_kept g.paths) formed g.levels S.history.2.values S.places
-        (every_kept (λ s. Names s a → FinishFits (lean_epilogue s a) (lean_now S.history.0 s)) g.paths (finish_all_fits small)))
+        (finished_can a now (kept_paths g.paths) 0 0 (rising_kept g.paths) formed g.levels shown S.places (finish_all_fits small))
 
-    ended_moved : (h : List Event) → IsAt g h → Moved a (lean_now h) (Ended a) (kept_paths g.paths) 0 0 (all_finished terms g.levels) g.levels
-    ended_moved h at =
-        subst (λ ts. Moved a (lean_now h) (Ended a) (kept_paths g.paths) 0 0 (all_finished ts g.levels) g.levels) (sym is)
-        (finished_moves a (lean_now h) (kept_paths g.paths) 0 0 (rising_kept g.paths) formed g.levels at.values S.places)
+    ended_moved : (f : Tree → Values) → legal.Every (λ x. Shows g.levels (f x.tree) x) (kept_paths g.paths) → Moved a f (Ended a) (kept_paths g.paths) 0 0 (all_finished terms g.levels) g.levels
+    ended_moved f shows =
+        subst (λ ts. Moved a f (Ended a) (kept_paths g.paths) 0 0 (all_finished ts g.levels) g.levels) (sym is)
+        (finished_moves a f (kept_paths g.paths) 0 0 (rising_kept g.paths) formed g.levels shows S.places)
 
     ended_at : (h : List Event) → IsAt g h → IsAt (ended_from g terms a.0) (h ++ Ended a ∷ [])
     ended_at h at = record {
-      values = along h (Ended a) (all_finished terms g.levels) (kept_paths g.paths) (ended_moved h at).0;
+      values = along h (Ended a) (all_finished terms g.levels) (kept_paths g.paths) (ended_moved (lean_now h) at.values).0;
       unkept_semaphores = λ i free. ap (λ ts. get_or (all_finished ts g.levels).semaphores i 0) is ∙ ends_leave_semaphore i a (kept_paths g.paths) formed free g.levels ∙ at.unkept_semaphores i free;
       unkept_counters = λ i free. ap (λ ts. get_or (all_finished ts g.levels).counters i 0) is ∙ ends_leave_counter i a (kept_paths g.paths) formed free g.levels ∙ at.unkept_counters i free;
       progress = λ b n. less_progress g.paths a b g.in_progress h n (at.progress b n) terms is counted (λ m. some (named m));
     }
 
     pub releases : Released g a (ended_from g terms a.0)
-    releases = record { paths = refl; admitted = refl; moved = ended_at }
+    releases = record {
+      paths = refl;
+      admitted = refl;
+      moved = ended_at;
+      counted = λ n. less_at g.in_progress a.0 terms (has_terms n) (counted (has_terms n)) (some n);
+      others = λ b. less_off g.in_progress a.0 terms b.0;
+    }
 
     pub ended_places : SamePlaces g (ended_from g terms a.0)
-    ended_places = let L = (ended_moved S.history.0 S.history.2).1 in record { semaphores = L.places.0; counters = L.places.1 }
+    ended_places = let L = (ended_moved now shown).1 in record { semaphores = L.places.0; counters = L.places.1 }
+
+    abbrev LetsOut : Sited → Type 0
+    LetsOut x = LegalOn x.tree (past x.tree ++ Ended a ∷ []) × Shows (all_finished terms g.levels) (next (Ended a) now x.tree) x
+
+    all_let_out : legal.Every LetsOut (kept_paths g.paths)
+    all_let_out = every_both (λ x l v. (l, v)) (kept_paths g.paths) ends_all (ended_moved now shown).0
+
+    ended_past : (x : Sited) → NamesAll x → LetsOut x → HasPast (ended_from g terms a.0) (past x.tree ++ Ended a ∷ []) x
+    ended_past x k o = record {
+      follows = o.0;
+      values = subst (λ w. Shows (all_finished terms g.levels) w x) (next_now (past x.tree) (Ended a) x.tree) o.1;
+      progress = λ b n. less_progress g.paths a b g.in_progress (past x.tree) (k.1 b n) (k.0.2.progress b n) terms is counted (λ m. some (named m));
+      few = (let f = k.0.2.few in let s = starts_snoc (past x.tree) (Ended a) in let o : starts_in (Ended a ∷ []) ≡ 0 = refl in omega arith);
+    }
+
+    ended_pasts : HavePasts (ended_from g terms a.0)
+    ended_pasts = record {
+      past = λ s. past s ++ Ended a ∷ [];
+      each = every_both ended_past (kept_paths g.paths) all_named all_let_out;
+      counts = λ b n. (let c = S.pasts.counts b n in let m = less_few g.in_progress a.0 terms b.0 counted in omega (arith, c, m));
+    }
 
     pub ended_sound : IsSound (ended_from g terms a.0) by_op
     ended_sound = record {
@@ -292,14 +352,9 @@ module _ (g : Standing) (by_op : List (List Term)) (S : IsSound g by_op) (a : Op
       few_at_once = S.few_at_once;
       terms = S.terms;
       counts = length_less terms a.0 g.in_progress ∙ S.counts;
-      places = placed_after (all_finished terms g.levels) (ended_moved S.history.0 S.history.2).1;
+      places = placed_after (all_finished terms g.levels) (ended_moved now shown).1;
       idle = λ b n. less_idle g.paths a b g.in_progress n (S.idle b n) terms is;
-      history = (
-        S.history.0 ++ Ended a ∷ [],
-        finish_legal,
-        ended_at S.history.0 S.history.2,
-        (let e = S.history.3 in let s = starts_snoc S.history.0 (Ended a) in let o : starts_in (Ended a ∷ []) ≡ 0 = refl in omega arith),
-      );
+      pasts = ended_pasts;
     }
 
 -- values that the gate may have, and counts that were written over the first ones of its own
@@ -317,6 +372,9 @@ module _ (g : Standing) (by_op : List (List Term)) (S : IsSound g by_op) (semaph
     unkept_counters = at.unkept_counters;
     progress = λ a n. (let e = here a.0 (named_counted a n) (can.named a n) in let p = at.progress a n in omega (arith, e, p));
   }
+
+  restored_pasts : HavePasts (having g semaphores counters new admitted)
+  restored_pasts = same_pasts (having g semaphores counters counts admitted) new admitted (λ a n. here a.0 (named_counted a n) (can.named a n)) refl can.pasts
 
   still_idle : (a : OpId) → legal.NoneOf (λ s. Names s a) g.paths → get_or new a.0 0 ≡ 0
   still_idle a none = elim (cases_lt a.0 (length counts)) [
@@ -337,7 +395,7 @@ module _ (g : Standing) (by_op : List (List Term)) (S : IsSound g by_op) (semaph
         subst (λ n. legal.Every (λ y. HasPlaces n (length counters) y) (kept_paths g.paths)) (sym can.semaphores)
         (subst (λ m. legal.Every (λ y. HasPlaces (length g.levels.semaphores) m y) (kept_paths g.paths)) (sym can.counters) S.places);
     idle = still_idle;
-    history = (can.history.0, can.history.1, restored_at can.history.0 can.history.2, can.history.3);
+    pasts = restored_pasts;
   }
 
   pub restores : Restored g semaphores counters counts admitted (having g semaphores counters new admitted)

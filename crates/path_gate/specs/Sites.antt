@@ -20,6 +20,12 @@ pub record Shows (v : Levels) (w : Values) (x : Sited) : Type 0 where
   pub counters : (c : ℕ) → c < braces x.tree → KeepsCounter x.tree c → slice_index v.counters (x.first + c) ≡ w.counter c
   pub limits : (c : ℕ) → HasBound x.tree 0 c → slice_index v.semaphores (bound_number x c) ≡ w.bound c
 
+-- each kept value of the path has its place in tables of n semaphores and m counters
+pub record HasPlaces (n m : ℕ) (x : Sited) : Type 0 where
+  pub semaphores : (q : ℕ) → q ≤ semicolons x.tree → KeepsSemaphore x.tree q → x.own + q < n
+  pub counters : (c : ℕ) → c < braces x.tree → KeepsCounter x.tree c → x.first + c < m
+  pub limits : (c : ℕ) → HasBound x.tree 0 c → bound_number x c < n
+
 -- no value that is kept of the path is the semaphore of this number, or the counter
 pub record LeavesSemaphore (i : ℕ) (x : Sited) : Type 0 where
   pub own : (q : ℕ) → q ≤ semicolons x.tree → KeepsSemaphore x.tree q → i ≢ x.own + q

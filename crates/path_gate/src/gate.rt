@@ -9,7 +9,7 @@ ghost use Rattle.std.specs.Prelude.{IfOk, OnOk, OnErr, MatchResult};
 ghost use Rattle.path_model.specs.Trees.{Names};
 ghost use Rattle.path_model.specs.Legal as legal;
 ghost use Rattle.path_gate.specs.Standings.{IsNamed, IsAt, Judges, Tells, Admitted, BlocksStay, Released, SamePlaces};
-ghost use Rattle.path_gate.specs.Standings.{AreCounts, CanHave, Restored};
+ghost use Rattle.path_gate.specs.Standings.{AreCounts, HavePlaces, HavePasts, CanHave, Restored};
 ghost use Rattle.path_gate.specs.Levels.{levels_in};
 ghost use Rattle.path_gate.specs.Inner.Terms.{IsWithin, blocking, is_blocked_at, all_started, all_finished};
 ghost use Rattle.path_gate.specs.Inner.Terms.{CanStartAll, CanFinishAll, one_more, one_less};
@@ -260,9 +260,10 @@ impl<A: Allocator + Copy> Gate<A> {
         count_finish(&mut self.in_progress, terms, op);
     }
 
-    /// How many starts were admitted since the gate was opened.
+    /// How many starts were admitted since the gate was opened, or since [`restore`](Gate::restore) and what that was told.
     pub fn admitted(&self) -> u32
-        ensures { result ≡ self.now.admitted }
+        ensures value { result ≡ self.now.admitted }
+        ensures pasts { HavePasts self.now }
     {
         self.admitted
     }
@@ -292,7 +293,8 @@ impl<A: Allocator + Copy> Gate<A> {
 
     /// The values of the semaphores, by their numbers in the file. Takes constant time.
     pub fn semaphores(&self) -> &[u64]
-        ensures { result.now ≡ self.now.levels.semaphores }
+        ensures value { result.now ≡ self.now.levels.semaphores }
+        ensures places { HavePlaces self.now }
     {
         &self.levels.semaphores
     }
@@ -304,8 +306,8 @@ impl<A: Allocator + Copy> Gate<A> {
         &self.levels.counters
     }
 
-    /// Puts back values that a gate of the same paths had at a legal history: those of the semaphores and the counters, and how often
-    /// each of the first operations was in progress, with all that a path names among them. So many starts were admitted in it.
+    /// Puts values into the gate that each of its paths can have, if it is looked at alone: those of the semaphores and the counters, and
+    /// how often each of the first operations is in progress, with all that a path names among them. So many starts count as admitted.
     ///
     /// Allocates nothing. The cost is that of copying them.
     pub fn restore(

@@ -1,17 +1,11 @@
--- A gate that runs, and the spare gates beside it, in which others' steps are tried out.
+-- The spare gates beside a gate, in which others' steps are tried out.
 use Rattle.std.specs.Prelude.{◌≡◌, ◌<◌, ℕ, List, length}
 use Rattle.path_model.specs.declared.ids.OpId.{OpId}
-use Rattle.path_model.specs.declared.history.Event.{Event}
 use Rattle.path_model.specs.Trees.{WellFormed}
-use Rattle.path_model.specs.Histories.{starts_in}
-use Rattle.path_model.specs.Legal.{Legal, Every}
+use Rattle.path_model.specs.Legal.{Every}
 use Rattle.path_model.specs.Declarations.{Declaration, paths_of}
-use Rattle.path_gate.specs.Standings.{Standing, IsAt, IsNamed}
+use Rattle.path_gate.specs.Standings.{Standing, IsNamed}
 use Rattle.path_order.specs.declared.spare.Spares.{Spares}
-
--- a legal history of as many starts led to the gate
-pub record IsRunning (g : Standing) : Type 0 where
-  pub history : (h : List Event) × Legal g.paths h × IsAt g h × (starts_in h ≡ g.admitted)
 
 -- a spare gate of the same paths and as many values; all that they name has a number below n
 pub record Fits (g spare : Standing) (n : ℕ) : Type 0 where

@@ -10,7 +10,7 @@ ghost use Rattle.path_order.specs.Waiting as spec;
 ghost use Rattle.path_order.specs.Waiting.{ops_of};
 ghost use Rattle.path_order.specs.Rulings.{IsRuled, IsNext, IsFirstAdmissible};
 ghost use Rattle.path_order.specs.Bounds.{KeepsTheDoor, LetsInUnopposed};
-ghost use Rattle.path_order.specs.Beside.{IsRunning, AreReady, AreOf};
+ghost use Rattle.path_order.specs.Beside.{AreReady, AreOf};
 
 use crate::ruling::{Ruling, clear_all, first_free, rule, rule_unopposed};
 use crate::spare::{Spares, has_same_places};
@@ -84,7 +84,6 @@ impl<A: Allocator + Copy> Order<A> {
         running: &[u32],
         asking: Waiter,
     ) -> Result<Ruling, OutOfMemory>
-        requires runs { IsRunning gate.now }
         requires ready { AreReady gate.now self.old.spares }
         requires room { gate.now.admitted < 4294967295 }
         ensures ruled { IfOk result (λ ruling. (h : List Event) → Legal gate.now.paths h → IsAt gate.now h
@@ -123,7 +122,6 @@ impl<A: Allocator + Copy> Order<A> {
         waiting: &[Waiter],
         running: &[u32],
     ) -> Result<Option<usize>, OutOfMemory>
-        requires runs { IsRunning gate.now }
         requires ready { AreReady gate.now self.old.spares }
         requires room { gate.now.admitted < 4294967295 }
         ensures next { IfOk result (λ found. (h : List Event) → Legal gate.now.paths h → IsAt gate.now h

@@ -10,7 +10,7 @@ ghost use Rattle.path_order.specs.declared.waiting.Waiter as declared;
 ghost use Rattle.path_order.specs.Waiting.{asked, ops_of, NobodyShutsOut};
 ghost use Rattle.path_order.specs.Ways.{IsClear, Takes, TakesNothing};
 ghost use Rattle.path_order.specs.Rulings.{IsRuled, IsNext};
-ghost use Rattle.path_order.specs.Beside.{IsRunning, AreReady};
+ghost use Rattle.path_order.specs.Beside.{AreReady};
 ghost use Rattle.path_order.specs.Inner.Spares.{IsBehind, IsOver, AreAt, AreOver, AreAlike, IsOne, IsSuch, AllSuch};
 
 use crate::spare::{Spares, end_all, follow, takes};
@@ -142,7 +142,6 @@ fn rule_behind<A: Allocator + Copy>(
     ahead: &[Waiter],
     asking: Waiter,
 ) -> Result<Ruling, OutOfMemory>
-    requires runs { IsRunning gate.now }
     requires ready { AreReady gate.now spares.old }
     requires room { gate.now.admitted < 4294967295 }
     requires over { IsOver gate.now (ops_of running.now) spares.old.clear }
@@ -182,7 +181,6 @@ pub fn rule<A: Allocator + Copy>(
     ahead: &[Waiter],
     asking: Waiter,
 ) -> Result<Ruling, OutOfMemory>
-    requires runs { IsRunning gate.now }
     requires ready { AreReady gate.now spares.old }
     requires room { gate.now.admitted < 4294967295 }
     requires over { IsOver gate.now (ops_of running.now) spares.old.clear }
@@ -207,7 +205,6 @@ fn rule_next<A: Allocator + Copy>(
     ahead: &[Waiter],
     asking: Waiter,
 ) -> Result<Ruling, OutOfMemory>
-    requires runs { IsRunning gate.now }
     requires ready { AreReady gate.now spares.old }
     requires room { gate.now.admitted < 4294967295 }
     requires over { IsOver gate.now (ops_of running.now) spares.old.clear }
@@ -231,7 +228,6 @@ pub fn clear_all<A: Allocator + Copy>(
     spares: &mut Spares<A>,
     running: &[u32],
 ) -> Result<(), OutOfMemory>
-    requires runs { IsRunning gate.now }
     requires ready { AreReady gate.now spares.old }
     ensures ready { AreReady gate.now spares.new }
     ensures operations { spares.new.operations ≡ spares.old.operations }
@@ -280,7 +276,6 @@ pub fn first_free<A: Allocator + Copy>(
     waiting: &[Waiter],
     running: &[u32],
 ) -> Result<Option<usize>, OutOfMemory>
-    requires runs { IsRunning gate.now }
     requires ready { AreReady gate.now spares.old }
     requires room { gate.now.admitted < 4294967295 }
     ensures ready { AreReady gate.now spares.new }

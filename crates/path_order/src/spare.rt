@@ -8,7 +8,7 @@ ghost use Rattle.path_model.specs.Legal.{Legal};
 ghost use Rattle.path_gate.specs.Standings.{IsAt, SamePlaces};
 ghost use Rattle.path_order.specs.Waiting.{ops_of};
 ghost use Rattle.path_order.specs.Ways.{one_over, all_over, Takes, TakesNothing};
-ghost use Rattle.path_order.specs.Beside.{IsRunning, Fits};
+ghost use Rattle.path_order.specs.Beside.{Fits};
 
 use path_gate::Gate;
 use path_model::{OpId, OutOfMemory, PathId};
@@ -49,7 +49,6 @@ pub fn follow<A: Allocator + Copy>(
     operations: u32,
     row: &mut Vec<u64, A>,
 ) -> Result<(), OutOfMemory>
-    requires runs { IsRunning gate.now }
     requires fits { Fits gate.now spare.old operations }
     ensures fits { Fits gate.now spare.new operations }
     ensures at { OnOk result ((h : List Event) → IsAt gate.now h → IsAt spare.new h) }

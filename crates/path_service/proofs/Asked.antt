@@ -2,7 +2,6 @@
 use Rattle.std.proofs.Common.{◌≡◌, ◌∙◌, ℕ, List, [], sym, subst, Option}
 use Rattle.path_model.specs.declared.history.Event.{Event}
 use Rattle.path_model.specs.Declarations.{paths_of}
-use Rattle.path_model.specs.Histories.{starts_in}
 use Rattle.path_model.specs.Journals.{admitted_history}
 use Rattle.path_model.specs.Legal.{Legal}
 use Rattle.path_gate.specs.Standings.{Standing, IsAt}
@@ -12,20 +11,17 @@ use Rattle.path_order.specs.declared.spare.Spares.{Spares}
 use Rattle.path_order.specs.Waiting.{ops_of}
 use Rattle.path_order.specs.Rulings.{IsRuled, IsNext, IsFirstAdmissible}
 use Rattle.path_order.specs.Bounds.{KeepsTheDoor, LetsInUnopposed}
-use Rattle.path_order.specs.Beside.{IsRunning, AreReady, AreOf}
+use Rattle.path_order.specs.Beside.{AreReady, AreOf}
 use Rattle.path_system.specs.Accounts.{Account, all_lines}
 use Rattle.path_service.specs.Ordered.{ahead_of, IsRuledIn, KeepsTheDoorIn, IsNextIn, IsUnopposedIn, IsFirstIn}
 
 module _ (a : Account) (g : Standing) (paths : g.paths ≡ paths_of a.declaration) (at : IsAt g (admitted_history (all_lines a)))
-    (legal : Legal (paths_of a.declaration) (admitted_history (all_lines a))) (admitted : starts_in (admitted_history (all_lines a)) ≡ g.admitted) where
+    (legal : Legal (paths_of a.declaration) (admitted_history (all_lines a))) where
   abbrev history : List Event
   history = admitted_history (all_lines a)
 
   legal_there : Legal g.paths history
   legal_there = subst (λ xs. Legal xs history) (sym paths) legal
-
-  pub runs : IsRunning g
-  runs = record { history = (history, legal_there, at, admitted) }
 
   module _ {Y : Type 0} (s : Spares Y) (of : AreOf a.declaration s) where
     pub still_of : (new : Spares Y) → AreReady g new → new.operations ≡ s.operations → new.paths ≡ s.paths → AreOf a.declaration new

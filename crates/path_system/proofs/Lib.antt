@@ -1,6 +1,5 @@
 pub mod Serving
 pub mod Agreed
-pub mod Begun
 pub mod Stepped
 pub mod Counted
 pub mod Taken

@@ -4,7 +4,6 @@ ghost use Rattle.std.specs.Prelude.{◌≡◌, ◌+◌, length, is_some, IfErr};
 ghost use Rattle.path_model.specs.declared.journal.Attempt.TheVariants as attempts;
 ghost use Rattle.path_model.specs.Asked.{resource_asked};
 ghost use Rattle.path_model.specs.Declarations.{paths_of};
-ghost use Rattle.path_model.specs.Histories.{starts_in};
 ghost use Rattle.path_model.specs.Legal.{Legal};
 ghost use Rattle.path_model.specs.Journals.{activation_of, admitted_history, live, with_line};
 ghost use Rattle.path_model.specs.Segments.{OwedBehind, joined, taken_behind};
@@ -181,7 +180,6 @@ impl<D: Device, A: Allocator + Copy> Controller<D, A> {
         ensures paths { result.now.paths ≡ paths_of self.now.declaration }
         ensures at { IsAt result.now (admitted_history (all_lines self.now)) }
         ensures legal { Legal (paths_of self.now.declaration) (admitted_history (all_lines self.now)) }
-        ensures admitted { starts_in (admitted_history (all_lines self.now)) ≡ result.now.admitted }
     {
         self.parts.gate()
     }

@@ -1,11 +1,14 @@
 //! What can be wrong.
 
-use std::fmt;
+use std::{fmt, io};
 
+use crate::store::library::answer as store;
+use crate::store::Hindrance;
 use crate::sys::{self, code, Answer};
 use crate::Blocked;
 
-/// Why a call wasn't served. Nothing was started then, and nothing has changed.
+/// Why a call wasn't served. Nothing was started then, and nothing has changed; of a store that has another exception:
+/// [`Unsynced`](Error::Unsynced).
 #[derive(Clone, Debug, PartialEq, Eq)]
 #[non_exhaustive]
 pub enum Error {
@@ -39,8 +42,8 @@ pub enum Error {
     /// So many operations are in progress that the journal has no line left, or, without a journal, the room no place; or 4,294,967,295
     /// were started. From each call that enters, and from those that use a device.
     NoRoom,
-    /// There is no memory. From each call that returns a text, from the opening, from a call that waits beside more others than ever before,
-    /// and, if there is a log, from each call that needs a new journal.
+    /// There is no memory. From each call that returns a text, from the opening, from a call that waits beside more others than ever
+    /// before, and, if there is a log, from each call that needs a new journal.
     OutOfMemory,
     /// The resource's device doesn't offer this: a cell has `put` and `look`, a tally `look` and `add`, a queue `put`, `take` and `look`.
     NotOffered,
@@ -73,6 +76,55 @@ pub enum Error {
     /// No lines are kept: the paths were opened by [`Options::without_journal`](crate::Options::without_journal). From
     /// [`Paths::journal`](crate::Paths::journal), and from [`Options::open`](crate::Options::open) if there is a log.
     NoJournal,
+    /// At a store a path forbids the operation, or its start is withheld for one who waits: now, or when the time is over. From
+    /// [`Store::try_enter`](crate::Store::try_enter) and [`enter_timeout`](crate::Store::enter_timeout).
+    Hindered(Hindrance),
+    /// No turn at the store's file was to be had in time: a process that has one is stopped, or the machine is very busy. From each call
+    /// of a store that has a time limit.
+    Late,
+    /// The system refuses what a store asks of it, as on a full disk.
+    System {
+        /// The number of the error, for [`std::io::Error::from_raw_os_error`].
+        errno: i32,
+        /// What was refused, in words.
+        words: String,
+    },
+    /// Others have the store's file open who don't share it: a program that has it to itself, or processes of an older Python package. From
+    /// [`Paths::open_store`](crate::Paths::open_store).
+    InUse {
+        /// Who, in words.
+        words: String,
+    },
+    /// The store was made with another declaration. From [`Paths::open_store`](crate::Paths::open_store).
+    OtherDeclaration {
+        /// Where the two differ first, in words.
+        words: String,
+    },
+    /// What lies there isn't a store, or it is incomplete: the file isn't a journal, or one is gone or shorter than it was.
+    NotAStore {
+        /// Which, in words.
+        words: String,
+    },
+    /// A line of the store's journal isn't owed by those before it, or isn't a line. Each later call of this opening says so, too.
+    Corrupt {
+        /// The line, counted from 1; 0 if none is meant.
+        line: u64,
+        /// Which file, and why, in words.
+        words: String,
+    },
+    /// A sync of the store failed, so nobody can say what of the last lines is on the disk. Each later call of this opening says so, too:
+    /// drop it, and open the store again.
+    Unsynced {
+        /// The number of the sync's error.
+        errno: i32,
+    },
+    /// The store was opened before a fork, of which this is the child: it has no part in it, and may open it itself.
+    Forked,
+    /// The opening is alive. From [`Store::recover`](crate::Store::recover).
+    Alive,
+    /// The operation isn't in progress any more: others have finished it, by
+    /// [`Store::recover_even_alive`](crate::Store::recover_even_alive). From the calls of a store's guards.
+    NotInProgress,
     /// The C library gave an answer that this crate doesn't know of the call: it isn't the library that the crate is made for.
     Library {
         /// The answer in words.
@@ -114,12 +166,54 @@ impl Error {
         }
     }
 
+    /// Why a store wasn't opened, with the library's words for it.
+    pub(crate) fn of_opening(answer: Answer, words: String, declaration: &str) -> Error {
+        match answer.code {
+            code::BAD_ROOM | code::TOO_LONG..=code::TOO_MANY => Error::of_text(answer, declaration),
+            _ => Error::of_store(answer, words),
+        }
+    }
+
+    /// Why a call of a store wasn't served, but for a path that forbids it; with the library's words, if it has any.
+    pub(crate) fn of_store(answer: Answer, words: String) -> Error {
+        let errno = i32::try_from(answer.number).unwrap_or(0);
+        match answer.code {
+            store::LATE => Error::Late,
+            store::SYSTEM => Error::System { errno, words: words_or(words, || io::Error::from_raw_os_error(errno).to_string()) },
+            store::IN_USE => Error::InUse { words },
+            store::OTHER_DECLARATION => Error::OtherDeclaration { words },
+            store::NOT_A_STORE => Error::NotAStore { words: words_or(words, || sys::words(answer.code).to_string()) },
+            store::CORRUPT => Error::Corrupt { line: answer.number, words: words_or(words, || sys::words(answer.code).to_string()) },
+            store::UNSYNCED => Error::Unsynced { errno },
+            store::FORKED => Error::Forked,
+            store::ALIVE => Error::Alive,
+            code::STALE | code::NOT_YOURS => Error::NotInProgress,
+            code::OUT_OF_MEMORY => Error::OutOfMemory,
+            _ => Error::of_attempt(answer),
+        }
+    }
+
+    /// Why there is no thread that waits in a task's place.
+    pub(crate) fn of_thread(error: &io::Error) -> Error {
+        let errno = error.raw_os_error().unwrap_or(0);
+        Error::System { errno, words: format!("there is no thread that waits for a task: {error}") }
+    }
+
     /// The same where a time is over.
     pub(crate) fn in_time(self) -> Error {
         match self {
             Error::Blocked(why) => Error::Timeout(why),
             other => other,
         }
+    }
+}
+
+/// These words, or others if there are none.
+fn words_or(words: String, others: impl FnOnce() -> String) -> String {
+    if words.is_empty() {
+        others()
+    } else {
+        words
     }
 }
 
@@ -151,6 +245,16 @@ impl fmt::Display for Error {
             Error::WrongLine { index } => write!(to, "journal: wrong line {index}"),
             Error::Script { fault, line } => write!(to, "{fault}, line {line}"),
             Error::NoJournal => to.write_str("the paths were opened without a journal"),
+            Error::Hindered(why) => why.fmt(to),
+            Error::Late => to.write_str("no turn at the store was to be had in time"),
+            Error::System { words, .. } | Error::InUse { words } | Error::OtherDeclaration { words } | Error::NotAStore { words } => {
+                to.write_str(words)
+            }
+            Error::Corrupt { words, .. } => to.write_str(words),
+            Error::Unsynced { errno } => write!(to, "a sync of the store failed: {}", io::Error::from_raw_os_error(*errno)),
+            Error::Forked => to.write_str("the store was opened before a fork, and belongs to the parent"),
+            Error::Alive => to.write_str("the opening is alive"),
+            Error::NotInProgress => to.write_str("the operation isn't in progress any more: others have finished it"),
             Error::Library { answer } => write!(to, "the C library answered `{answer}`, which isn't an answer to this call"),
         }
     }

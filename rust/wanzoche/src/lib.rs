@@ -24,6 +24,7 @@ mod queue;
 #[allow(unsafe_code)]
 mod shared;
 mod state;
+pub mod store;
 #[allow(unsafe_code)]
 mod sys;
 mod threads;
@@ -38,6 +39,7 @@ pub use guard::{Guard, OwnedGuard};
 pub use options::{Options, MOST_LINES, USUAL_PATIENCE, USUAL_ROOM, USUAL_YIELDS};
 pub use paths::{Op, Paths};
 pub use state::Log;
+pub use store::Store;
 pub use threads::thread_number;
 
 /// The version of the C library that the program runs with, as `0.1.0`.

@@ -1,10 +1,10 @@
 //! How paths are opened.
 
 use std::fmt;
-use std::sync::atomic::{AtomicU64, Ordering};
 use std::time::Duration;
 
 use crate::names::Names;
+use crate::paths::next_id;
 use crate::queue::Queue;
 use crate::shared::Shared;
 use crate::state::State;
@@ -175,15 +175,13 @@ impl Options {
     }
 
     fn over(self, mut system: System, resumed: u64, lost: Vec<Activation>) -> Result<Paths, Error> {
-        static LAST: AtomicU64 = AtomicU64::new(0);
         let text = system.text(Text::Declaration)?;
         let names = Shared::new(Names::of(text, |name| system.operation(name))?)?;
         let queue = Queue::new(u64::try_from(self.patience.as_nanos()).unwrap_or(u64::MAX))?;
         let state = State::new(system, queue, names.clone(), self.log, lost)?;
-        let id = LAST.fetch_add(1, Ordering::Relaxed);
         // Who gives way isn't in line, so another may come before it.
         let yields = if self.patience.is_zero() { 0 } else { self.yields };
-        Ok(Paths { monitor: Monitor::new(state, yields)?, names, id, resumed })
+        Ok(Paths { monitor: Monitor::new(state, yields)?, names, id: next_id(), resumed })
     }
 }
 

@@ -1,6 +1,7 @@
 //! Paths that threads and tasks wait on.
 
 use std::fmt;
+use std::sync::atomic::{AtomicU64, Ordering};
 use std::sync::Arc;
 use std::time::{Duration, Instant};
 
@@ -56,6 +57,22 @@ impl Op {
 
     pub(crate) fn priority(self) -> u32 {
         self.priority
+    }
+
+    /// The operation with this number, of the paths or the store with this one.
+    #[inline]
+    pub(crate) fn at(of: u64, number: u32) -> Op {
+        Op { number, priority: 0, of }
+    }
+
+    /// Its number there.
+    #[inline]
+    pub(crate) fn number_at(self, of: u64) -> Result<u32, Error> {
+        if self.of == of {
+            Ok(self.number)
+        } else {
+            Err(Error::ForeignOperation)
+        }
     }
 }
 
@@ -267,15 +284,11 @@ impl Paths {
     /// The number of an operation of these paths.
     #[inline]
     pub(crate) fn number(&self, op: Op) -> Result<u32, Error> {
-        if op.of == self.id {
-            Ok(op.number)
-        } else {
-            Err(Error::ForeignOperation)
-        }
+        op.number_at(self.id)
     }
 
     pub(crate) fn op_of(&self, number: u32) -> Op {
-        Op { number, priority: 0, of: self.id }
+        Op::at(self.id, number)
     }
 
     #[inline]
@@ -358,6 +371,12 @@ impl Paths {
 #[inline]
 fn in_progress<P: std::ops::Deref<Target = Paths>>(paths: P, start: Start, activation: u64) -> InProgress<P> {
     InProgress::new(paths, activation, start.worker, start.operation)
+}
+
+/// A number that no other paths and no store of this process have.
+pub(crate) fn next_id() -> u64 {
+    static LAST: AtomicU64 = AtomicU64::new(0);
+    LAST.fetch_add(1, Ordering::Relaxed)
 }
 
 /// Until when a thread waits that begins now.

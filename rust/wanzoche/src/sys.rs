@@ -1,4 +1,4 @@
-//! The C library: all that is unsafe in this crate.
+//! The C library's calls for paths of one process. Those for a store are in its own module.
 //!
 //! A [`System`] owns an open handle, and each of its calls has the handle for itself, since it takes `&mut self`. The rest of the crate
 //! keeps it under a lock.
@@ -18,7 +18,7 @@ struct Handle {
 
 /// The struct `wanzoche_answer`: what a call answers.
 #[repr(C)]
-#[derive(Clone, Copy)]
+#[derive(Clone, Copy, Debug)]
 pub(crate) struct Answer {
     pub(crate) code: u32,
     pub(crate) number: u64,
@@ -55,8 +55,12 @@ pub(crate) mod code {
     pub(crate) const EMPTY: u32 = 6;
     pub(crate) const FULL: u32 = 7;
     pub(crate) const OVERFLOW: u32 = 8;
+    pub(crate) const FINISHED: u32 = 10;
+    pub(crate) const STALE: u32 = 11;
+    pub(crate) const NOT_YOURS: u32 = 12;
     pub(crate) const NO_ROOM: u32 = 13;
     pub(crate) const CAN_START: u32 = 15;
+    pub(crate) const ROTATED: u32 = 16;
     pub(crate) const WRITTEN: u32 = 17;
     pub(crate) const TOO_SMALL: u32 = 18;
     pub(crate) const OPENED: u32 = 19;
@@ -317,7 +321,7 @@ impl Drop for System {
 }
 
 /// So many zero bytes, or [`Error::OutOfMemory`].
-fn zeroes(length: usize) -> Result<Vec<u8>, Error> {
+pub(crate) fn zeroes(length: usize) -> Result<Vec<u8>, Error> {
     let mut bytes = Vec::new();
     bytes.try_reserve_exact(length).map_err(|_| Error::OutOfMemory)?;
     bytes.resize(length, 0);
@@ -351,7 +355,7 @@ pub(crate) fn explore(declaration: &str, script: &str, most: u32) -> Result<(Ans
 }
 
 /// The text in a buffer, up to its zero byte. The library's texts are ASCII.
-fn text_in(mut buffer: Vec<u8>) -> String {
+pub(crate) fn text_in(mut buffer: Vec<u8>) -> String {
     let length = buffer.iter().position(|byte| *byte == 0).unwrap_or(0);
     buffer.truncate(length);
     String::from_utf8(buffer).unwrap_or_default()

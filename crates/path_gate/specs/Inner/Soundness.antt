@@ -1,23 +1,12 @@
 -- What always holds of a gate.
 use Rattle.std.specs.Prelude.{◌≡◌, ◌+◌, ◌-◌, ◌<◌, ◌≤◌, ℕ, List, [], length, map, take, drop, slice_index, slice_index_or, All}
 use Rattle.path_model.specs.declared.ids.OpId.{OpId}
-use Rattle.path_model.specs.declared.history.Event.{Event}
 use Rattle.path_model.specs.Trees.{Names, FewAtOnce, WellFormed}
-use Rattle.path_model.specs.Histories.{starts_in}
-use Rattle.path_model.specs.Machine.{semicolons, braces}
 use Rattle.path_model.specs.Legal as legal
-use Rattle.path_model.specs.Flat.{Sited, HasBound, bound_number}
-use Rattle.path_model.specs.Trimmed.{KeepsSemaphore, KeepsCounter}
 use Rattle.path_gate.specs.declared.gate.Term.{Term}
 use Rattle.path_gate.specs.Sites.{kept_paths}
-use Rattle.path_gate.specs.Standings.{Standing, IsAt}
+use Rattle.path_gate.specs.Standings.{Standing, HavePlaces, HavePasts}
 use Rattle.path_gate.specs.Inner.Terms.{terms_at}
-
--- each kept value of the path has its place in tables of n semaphores and m counters
-pub record HasPlaces (n m : ℕ) (x : Sited) : Type 0 where
-  pub semaphores : (q : ℕ) → q ≤ semicolons x.tree → KeepsSemaphore x.tree q → x.own + q < n
-  pub counters : (c : ℕ) → c < braces x.tree → KeepsCounter x.tree c → x.first + c < m
-  pub limits : (c : ℕ) → HasBound x.tree 0 c → bound_number x c < n
 
 -- the run of each operation: the terms in its range
 abbrev pub runs_of : List Term → List (ℕ × ℕ) → List (List Term)
@@ -27,13 +16,13 @@ runs_of terms ranges = map (λ r. take (r.1 - r.0) (drop r.0 terms)) ranges
 abbrev pub IsLaidOut : List Term → List (ℕ × ℕ) → Type 0
 IsLaidOut terms ranges = All (λ r. (r.0 ≤ r.1) × (r.1 ≤ length terms)) ranges
 
--- what holds of a gate: its runs are the terms of its paths, each kept value has its place, and it is at a legal history
+-- what holds of a gate: its runs are the terms of its paths, each kept value has its place, and each path has a past
 pub record IsSound (g : Standing) (runs : List (List Term)) : Type 0 where
   pub well_formed : legal.Every WellFormed g.paths
   pub few_at_once : legal.Every FewAtOnce g.paths
   pub terms : (a : OpId) → slice_index_or runs a.0 [] ≡ terms_at (kept_paths g.paths) a
   pub counts : length g.in_progress ≡ length runs
-  pub places : legal.Every (λ x. HasPlaces (length g.levels.semaphores) (length g.levels.counters) x) (kept_paths g.paths)
+  pub places : HavePlaces g
   -- the count of an operation that no path names is 0
   pub idle : (a : OpId) → legal.NoneOf (λ s. Names s a) g.paths → slice_index g.in_progress a.0 ≡ 0
-  pub history : (h : List Event) × legal.Legal g.paths h × IsAt g h × (starts_in h ≡ g.admitted)
+  pub pasts : HavePasts g

@@ -1,7 +1,7 @@
 //! Orders beside gates over worked examples: who is withheld for whom, and who is next.
 
 ghost use Rattle.std.specs.Prelude.{IfOk};
-ghost use Rattle.path_order.specs.Beside.{IsRunning, AreReady};
+ghost use Rattle.path_order.specs.Beside.{AreReady};
 
 use path_gate::{Gate, compile};
 use path_model::{OpId, OutOfMemory, PathId};
@@ -160,7 +160,6 @@ enum Happening {
 
 // A door of the declaration in a text, with nothing in progress.
 fn opened<A: Allocator + Copy>(alloc: A, text: &[u8]) -> Result<Door<A>, OutOfMemory>
-    ensures runs { IfOk result (λ door. IsRunning door.gate) }
     ensures ready { IfOk result (λ door. AreReady door.gate door.order.spares) }
 {
     let Ok(decl) = read(alloc, text) else {
@@ -176,9 +175,7 @@ fn opened<A: Allocator + Copy>(alloc: A, text: &[u8]) -> Result<Door<A>, OutOfMe
 
 // Starts the operation, if a path doesn't forbid it.
 fn start<A: Allocator + Copy>(rt: &impl Abort, door: &mut Door<A>, op: OpId) -> bool
-    requires runs { IsRunning door.old.gate }
     requires ready { AreReady door.old.gate door.old.order.spares }
-    ensures runs { IsRunning door.new.gate }
     ensures ready { AreReady door.new.gate door.new.order.spares }
 {
     assert!(rt; door.gate.admitted() < 100);
@@ -190,9 +187,7 @@ fn start<A: Allocator + Copy>(rt: &impl Abort, door: &mut Door<A>, op: OpId) -> 
 
 // Ends an execution of the operation, if one is in progress.
 fn finish<A: Allocator + Copy>(door: &mut Door<A>, op: OpId) -> bool
-    requires runs { IsRunning door.old.gate }
     requires ready { AreReady door.old.gate door.old.order.spares }
-    ensures runs { IsRunning door.new.gate }
     ensures ready { AreReady door.new.gate door.new.order.spares }
 {
     if door.gate.in_progress(op) > 0 {
@@ -209,9 +204,7 @@ fn happens<A: Allocator + Copy>(
     door: &mut Door<A>,
     happening: Happening,
 ) -> Result<(), OutOfMemory>
-    requires runs { IsRunning door.old.gate }
     requires ready { AreReady door.old.gate door.old.order.spares }
-    ensures runs { IsRunning door.new.gate }
     ensures ready { AreReady door.new.gate door.new.order.spares }
 {
     assert!(rt; door.gate.admitted() < 100);

@@ -9,6 +9,7 @@ use std::time::{Duration, Instant};
 use wanzoche::{Error, Log, Op, Options, Paths};
 
 pub mod random;
+pub mod stores;
 pub mod tasks;
 
 pub const SHELF: &str = "resource shelf cell operation take path take end end";

@@ -3,9 +3,7 @@ use Rattle.std.proofs.Common.{◌∙◌, ap, sym, subst}
 use Rattle.path_model.specs.Journals.{admitted_history}
 use Rattle.path_model.specs.Legal.{Legal}
 use Rattle.path_gate.specs.Standings.{Standing, IsAt}
-use Rattle.path_model.specs.Histories.{starts_in}
 use Rattle.path_system.proofs.Agreed.{legal_now}
-use Rattle.path_system.proofs.Begun.{starts_are_begun}
 use Rattle.path_system.proofs.Controlled.{all}
 use Rattle.path_system.proofs.controller.Controller.gate.Goals as goal
 
@@ -17,7 +15,3 @@ returns-clause-at g c = rw (← c.self.view_is) (subst (λ (s : Standing). IsAt 
 
 pub returns-clause-legal : goal.returns-clause-legal
 returns-clause-legal g c = let t = c.self.invariant.told in rw (← c.self.view_is) (subst (λ xs. Legal xs (admitted_history (all _ _ _ _ _ c.self.invariant))) t.present.paths (legal_now _ _ _ _ t))
-
-pub returns-clause-admitted : goal.returns-clause-admitted
-returns-clause-admitted g c = rw (← c.self.view_is)
-    (starts_are_begun (all _ _ _ _ _ c.self.invariant) ∙ sym c.self.invariant.told.present.admitted ∙ ap (λ (s : Standing). s.admitted) (sym c.gate.ensures))

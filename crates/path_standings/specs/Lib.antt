@@ -1,0 +1,2 @@
+-- The trees of a declaration by their numbers.
+pub mod Told

@@ -1,0 +1,11 @@
+pub mod Alike
+pub mod Standings
+pub mod Twins
+pub mod States
+pub mod Places
+pub mod Blocks
+pub mod Runs
+pub mod Fillings
+pub mod Values
+pub mod Examples
+pub mod CallerLemmas

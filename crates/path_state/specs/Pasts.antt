@@ -1,0 +1,39 @@
+-- Where a path can stand: the standings to which a history of the path alone leads.
+use Rattle.std.specs.Prelude.{◌≡◌, ◌==◌, ◌≤◌, ◌+◌, if◌then◌else◌, ℕ, List, length, slice_index, ◌↔◌}
+use Rattle.path_model.specs.declared.ids.OpId.{OpId}
+use Rattle.path_model.specs.declared.history.Event.{Event}
+use Rattle.path_model.specs.Trees.{Tree, op, seq, alt, burst, WellFormed}
+use Rattle.path_model.specs.Machine.{semicolons}
+use Rattle.path_model.specs.Guarantees.{FitsBound}
+use Rattle.path_state.specs.Standings.{LeadsTo}
+
+-- How many executions of the tree are underway: what is in progress and what stands behind a `;`, where all within braces count as one.
+-- The first `;` of the tree has this place in the path.
+abbrev pub underway : Tree → ℕ → (OpId → ℕ) → List ℕ → ℕ
+underway (op a) place progress stands = progress a
+underway (seq l r) place progress stands =
+    underway l place progress stands + slice_index stands (place + semicolons l) + underway r (place + semicolons l + 1) progress stands
+underway (alt l r) place progress stands = underway l place progress stands + underway r (place + semicolons l) progress stands
+underway (burst bd t) place progress stands = if underway t place progress stands == 0 then 0 else 1
+
+-- no braces have more executions underway than their bound
+abbrev pub BoundsFit : Tree → ℕ → (OpId → ℕ) → List ℕ → Type 0
+BoundsFit (op a) place progress stands = Unit {0}
+BoundsFit (seq l r) place progress stands = BoundsFit l place progress stands × BoundsFit r (place + semicolons l + 1) progress stands
+BoundsFit (alt l r) place progress stands = BoundsFit l place progress stands × BoundsFit r (place + semicolons l) progress stands
+BoundsFit (burst bd t) place progress stands = BoundsFit t place progress stands × FitsBound bd (underway t place progress stands) 0
+
+-- A path can stand so: there is a number for each `;`, bounds are kept, and of the whole path at most one execution is underway.
+pub record CanStand (s : Tree) (progress : OpId → ℕ) (stands : List ℕ) : Type 0 where
+  pub places : length stands ≡ semicolons s
+  pub bounds : BoundsFit s 0 progress stands
+  pub one : underway s 0 progress stands ≤ 1
+
+-- a history of the path leads there
+abbrev pub Past : Tree → (OpId → ℕ) → List ℕ → Type 0
+Past s progress stands = (h : List Event) × LeadsTo s progress stands h
+
+-- a path can stand so exactly if it has a past
+abbrev pub EachStandingHasAPast : Type 0
+EachStandingHasAPast =
+    (s : Tree) → WellFormed s → (progress : OpId → ℕ) (stands : List ℕ) → CanStand s progress stands ↔ Past s progress stands
