@@ -3,6 +3,7 @@
 import contextlib
 import os
 import resource
+import shlex
 import subprocess
 import sys
 import threading
@@ -11,7 +12,8 @@ from .declarations import BOOK
 from .limits import LONGEST
 from .stores import InFolder
 
-
+COMMAND = shlex.split(os.environ.get("WANZOCHE_COMMAND", "")) or [sys.executable, "-m", "wanzoche"]
+"""The words that run the command: another program's, if the variable names one."""
 DELIVERY = """resource delivery cell
 operation build, built, broken, deploy
 path build ; ((built ; deploy) , broken) end
@@ -57,7 +59,7 @@ class OnCommand(InFolder):
             file.write(self.DECLARATION)
 
     def words(self, command, *words):
-        return [sys.executable, "-m", "wanzoche", command, "--store", self.file] + list(words)
+        return [*COMMAND, command, "--store", self.file, *words]
 
     def runs(self, command, *words):
         """What it writes, what it writes on standard error, and its status."""

@@ -11,7 +11,7 @@ from wanzoche import Paths, _native
 from wanzoche._beside import Beside
 from wanzoche._executing import TELLS
 
-from .commands import OnCommand, running
+from .commands import COMMAND, OnCommand, running
 from .declarations import BOOK, SLOT
 from .limits import LONGEST
 
@@ -215,13 +215,13 @@ class Commands(OnCommand, unittest.TestCase):
 
     def test_operations(self):
         """Of a declaration or of a store, which isn't opened for that: no number is given."""
-        words = [sys.executable, "-m", "wanzoche", "operations", "--declaration", self.declaration]
+        words = [*COMMAND, "operations", "--declaration", self.declaration]
         self.assertEqual(subprocess.run(words, stdout=subprocess.PIPE, timeout=LONGEST, check=True).stdout, b"read\nwrite\n")
         self.assertEqual(os.listdir(self.folder), ["declaration.path"])
         self.open(BOOK)
         self.assertEqual(self.runs("operations"), ("read\nwrite\n", "", 0))
         self.assertEqual(self.open(BOOK).worker, "process 2")
-        told = subprocess.run(words[:4], stderr=subprocess.PIPE, timeout=LONGEST)
+        told = subprocess.run([*COMMAND, "operations"], stderr=subprocess.PIPE, timeout=LONGEST)
         self.assertEqual((told.stderr, told.returncode), (b"wanzoche: --store or --declaration is wanted\n", 1))
         with open(self.declaration, "w") as file:
             file.write("resource")
