@@ -22,7 +22,7 @@ enum {
     OF_SIGNAL = 128     /* and the number of what has ended it */
 };
 
-enum command { NO_COMMAND, EXEC, STATUS, LOG, AUDIT, WATCH, VIEW, RECOVER, PASS, OPERATIONS, COMMANDS };
+enum command { NO_COMMAND, DO_EXEC, DO_STATUS, DO_LOG, DO_AUDIT, DO_WATCH, DO_VIEW, DO_RECOVER, DO_PASS, DO_OPERATIONS, COMMANDS };
 
 /* What the words say. A text that isn't given is null. */
 struct given {
@@ -57,9 +57,10 @@ struct path {
     struct text text; /* its words and signs, with a space between two */
 };
 
-/* A store that is open. */
+/* A store that is open, or whose files are read. */
 struct shared {
     wanzoche_store *store;
+    struct reader *reader; /* null unless the files may only be read */
     struct declared declared;
     const char *path;
     bool has_fault; /* a line isn't owed, or nobody knows what is on the disk */
@@ -156,6 +157,18 @@ bool open_shared(struct shared *shared, const struct given *given);
 bool close_shared(struct shared *shared);
 bool is_refused(struct shared *shared, wanzoche_answer answer);
 
+/* beside.c, reading.c: where the files may only be read */
+bool is_gone_beside(int file, uint32_t worker);
+uint64_t process_beside(int file, uint32_t worker);
+void count_beside(int file, uint32_t counts[WANZOCHE_MOST_OPERATIONS]);
+uint64_t stamp_beside(int file);
+struct reader *new_reader(const char *path, const struct declared *declared);
+void close_reader(struct reader *reader);
+bool look(struct reader *reader, struct text *text, bool *is_again);
+uint64_t stamp_of(const struct reader *reader);
+void add_report(struct reader *reader, struct text *text);
+void count_at(const struct reader *reader, uint32_t counts[WANZOCHE_MOST_OPERATIONS]);
+
 /* report.c */
 bool ask_report(struct shared *shared, int64_t limit, struct report *report);
 void read_report(struct report *report, struct declared *declared);
@@ -205,7 +218,7 @@ bool find_due(struct shared *shared, uint64_t activation, int64_t seconds, bool 
 int pass_by_hand(struct shared *shared, const struct given *given);
 int recover(struct shared *shared, const struct given *given);
 int audit(struct shared *shared);
-bool read_journal(struct shared *shared, struct text *text);
+bool read_new(struct shared *shared, size_t *written, struct text *text);
 int write_log(struct shared *shared);
 int write_status(struct shared *shared, const struct given *given);
 int watch_log(struct shared *shared);

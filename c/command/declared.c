@@ -48,9 +48,9 @@ static bool find_stored(const char *file, struct text *text) {
 /* The declaration in the file that the words name, else the store's own, which has to be there but for `exec` with a file. */
 bool find_declaration(const struct given *given, struct text *text) {
     bool is_given = given->declaration != NULL;
-    if (is_given && (given->store == NULL || given->command == EXEC)) return read_file(given->declaration, text);
+    if (is_given && (given->store == NULL || given->command == DO_EXEC)) return read_file(given->declaration, text);
     if (given->store == NULL) return fails("--store or --declaration is wanted");
-    if (!find_stored(given->store, text) && !(is_given && given->command == OPERATIONS && is_forbidden())) return false;
+    if (!find_stored(given->store, text) && !(is_given && given->command == DO_OPERATIONS && is_forbidden())) return false;
     if (!is_given) return true;
     clear_text(text);
     return read_file(given->declaration, text);

@@ -66,11 +66,7 @@ static bool pass_later(struct execution *execution, uint32_t operation, const ch
 
 /* Keeps the fault with what it means for the pass. */
 static bool fails_to_pass(const char *name) {
-    char *why = strdup(fault());
-    if (why == NULL) end_without_memory();
-    fails("%s wasn't passed: %s; `wanzoche pass` makes up for it", name, why);
-    free(why);
-    return false;
+    return fails("%s wasn't passed: %s; `wanzoche pass` makes up for it", name, fault());
 }
 
 /*

@@ -25,7 +25,7 @@ static const char *const help_of[COMMANDS] = {
         "options:\n"
         "  -h, --help  show this help message and exit\n"
         "  --version   print the version\n",
-    [EXEC] =
+    [DO_EXEC] =
         "usage: wanzoche exec [-h] --store FILE [--name NAME] [--declaration FILE]\n"
         "                     [--timeout SECONDS] [--nonblock] [--conflict-status N]\n"
         "                     [--token-env NAME] [--every DURATION]\n"
@@ -67,7 +67,7 @@ static const char *const help_of[COMMANDS] = {
         "                       is dead: it is finished, or kept until `recover` (what\n"
         "                       a log has; finish)\n"
         "  --no-sync            don't wait for the disk\n",
-    [STATUS] =
+    [DO_STATUS] =
         "usage: wanzoche status [-h] --store FILE [--name NAME] [--declaration FILE]\n"
         "                       [--json] [--watch [SECONDS]]\n"
         "\n"
@@ -84,7 +84,7 @@ static const char *const help_of[COMMANDS] = {
         "  --json              as one line of JSON\n"
         "  --watch [SECONDS]   go on, and say it again when it has changed; look for\n"
         "                      what has died at least each so many seconds (1)\n",
-    [LOG] =
+    [DO_LOG] =
         "usage: wanzoche log [-h] --store FILE [--name NAME] [--declaration FILE]\n"
         "\n"
         "Write the lines of the journal.\n"
@@ -96,7 +96,7 @@ static const char *const help_of[COMMANDS] = {
         "  --name NAME         the name of the log, of a store in PostgreSQL\n"
         "  --declaration FILE  the file of the declaration, for a store that isn't\n"
         "                      there yet; else it has to be the store's\n",
-    [AUDIT] =
+    [DO_AUDIT] =
         "usage: wanzoche audit [-h] --store FILE [--name NAME] [--declaration FILE]\n"
         "\n"
         "Say whether each reply in the journal was owed.\n"
@@ -108,7 +108,7 @@ static const char *const help_of[COMMANDS] = {
         "  --name NAME         the name of the log, of a store in PostgreSQL\n"
         "  --declaration FILE  the file of the declaration, for a store that isn't\n"
         "                      there yet; else it has to be the store's\n",
-    [WATCH] =
+    [DO_WATCH] =
         "usage: wanzoche watch [-h] --store FILE [--name NAME] [--declaration FILE]\n"
         "\n"
         "Write the lines of the journal as they come.\n"
@@ -120,7 +120,7 @@ static const char *const help_of[COMMANDS] = {
         "  --name NAME         the name of the log, of a store in PostgreSQL\n"
         "  --declaration FILE  the file of the declaration, for a store that isn't\n"
         "                      there yet; else it has to be the store's\n",
-    [VIEW] =
+    [DO_VIEW] =
         "usage: wanzoche view [-h] --store FILE [--name NAME] [--declaration FILE]\n"
         "                     [--port N] [--open]\n"
         "\n"
@@ -137,7 +137,7 @@ static const char *const help_of[COMMANDS] = {
         "  --port N            the port of 127.0.0.1 on which it is served; else a free\n"
         "                      one\n"
         "  --open              open the page in a browser\n",
-    [RECOVER] =
+    [DO_RECOVER] =
         "usage: wanzoche recover [-h] --store FILE [--name NAME] [--declaration FILE]\n"
         "                        [--even-alive]\n"
         "                        WORKER\n"
@@ -155,7 +155,7 @@ static const char *const help_of[COMMANDS] = {
         "  --declaration FILE  the file of the declaration, for a store that isn't\n"
         "                      there yet; else it has to be the store's\n"
         "  --even-alive        also if it is alive: then it loses what it has\n",
-    [PASS] =
+    [DO_PASS] =
         "usage: wanzoche pass [-h] --store FILE [--name NAME] [--declaration FILE]\n"
         "                     [--timeout SECONDS]\n"
         "                     OPERATION\n"
@@ -175,7 +175,7 @@ static const char *const help_of[COMMANDS] = {
         "                      there yet; else it has to be the store's\n"
         "  --timeout SECONDS   wait so long for the operation's turn; else it is passed\n"
         "                      now or not at all\n",
-    [OPERATIONS] =
+    [DO_OPERATIONS] =
         "usage: wanzoche operations [-h] [--store FILE] [--name NAME]\n"
         "                           [--declaration FILE]\n"
         "\n"

@@ -38,7 +38,7 @@ int recover(struct shared *shared, const struct given *given) {
 }
 
 /* All lines of the journal so far. */
-bool read_journal(struct shared *shared, struct text *text) {
+static bool read_journal(struct shared *shared, struct text *text) {
     wanzoche_answer answer = wanzoche_store_journal(shared->store, NULL, 0, -1);
     while (answer.code == WANZOCHE_TOO_SMALL) {
         size_t size = (size_t)answer.number + 4096; /* for lines that come meanwhile */
@@ -52,16 +52,32 @@ bool read_journal(struct shared *shared, struct text *text) {
     return true;
 }
 
+/* Reads the lines of the journal behind so many bytes of all of them, and counts these, too. The text is empty before. */
+bool read_new(struct shared *shared, size_t *written, struct text *text) {
+    bool is_whole = true, is_read = shared->reader == NULL ? read_journal(shared, text) : look(shared->reader, text, &is_whole);
+    size_t known = is_whole ? *written : 0;
+    if (!is_read) return false;
+    *written = is_whole ? text->length : *written + text->length;
+    if (text->length < known) known = text->length;
+    if (known > 0) memmove(text->at, text->at + known, text->length - known);
+    text->length -= known;
+    return true;
+}
+
 int write_log(struct shared *shared) {
     struct text journal = {NULL, 0, 0};
-    int status = read_journal(shared, &journal) ? tell(&journal) : end_with_fault();
+    size_t written = 0;
+    int status = read_new(shared, &written, &journal) ? tell(&journal) : end_with_fault();
     clear_text(&journal);
     return status;
 }
 
 /* Whether each reply in the journal was owed. Which line is meant is said of those in the file, of which the head is the first. */
 int audit(struct shared *shared) {
-    wanzoche_answer answer = wanzoche_store_audit(shared->store, -1);
+    bool is_again;
+    wanzoche_answer answer = {WANZOCHE_SOUND, 0};
+    if (shared->reader == NULL) answer = wanzoche_store_audit(shared->store, -1);
+    else if (!look(shared->reader, NULL, &is_again)) return is_corrupt() ? (end_with_fault(), IS_WRONG_LINE) : end_with_fault();
     if (answer.code == WANZOCHE_SOUND) return tell(&(struct text){(char *)"sound\n", 6, 0});
     if (answer.code != WANZOCHE_CORRUPT) return is_refused(shared, answer) ? 0 : end_with_fault();
     say("%s in line %llu: its reply isn't owed", shared->path, (unsigned long long)answer.number);

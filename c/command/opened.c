@@ -40,7 +40,7 @@ bool is_refused(struct shared *shared, wanzoche_answer answer) {
 /* Opens it, or makes it for `exec`. What the dead have in progress stays, but for an `exec` that wasn't told to keep it. */
 bool open_shared(struct shared *shared, const struct given *given) {
     char why[WANZOCHE_STORE_MESSAGE];
-    bool is_run = given->command == EXEC;
+    bool is_run = given->command == DO_EXEC;
     wanzoche_store_options options = {
         .no_sync = is_run && given->no_sync,
         .keep_lost = !is_run || (given->lost != NULL && strcmp(given->lost, "keep") == 0),

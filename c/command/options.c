@@ -33,26 +33,26 @@ static const struct option options[] = {
     {"--store", TEXT, ALL, AT(store)},
     {"--name", TEXT, ALL, AT(name)},
     {"--declaration", TEXT, ALL, AT(declaration)},
-    {"--timeout", NUMBER_OF_SECONDS, OF(EXEC) | OF(PASS), AT(timeout)},
-    {"--nonblock", SETS, OF(EXEC), AT(nonblock)},
-    {"--conflict-status", WHOLE, OF(EXEC), AT(conflict_status)},
-    {"--token-env", TEXT, OF(EXEC), AT(token_env)},
-    {"--every", DURATION, OF(EXEC), AT(every)},
-    {"--passed", TEXT, OF(EXEC), AT(passed)},
-    {"--failed", TEXT, OF(EXEC), AT(failed)},
-    {"--quiet", SETS, OF(EXEC), AT(quiet)},
-    {"--lost", LOST, OF(EXEC), AT(lost)},
-    {"--no-sync", SETS, OF(EXEC), AT(no_sync)},
-    {"--json", SETS, OF(STATUS), AT(json)},
-    {"--watch", MAY_HAVE_SECONDS, OF(STATUS), AT(watch)},
-    {"--port", PORT, OF(VIEW), AT(port)},
-    {"--open", SETS, OF(VIEW), AT(opens)},
-    {"--even-alive", SETS, OF(RECOVER), AT(even_alive)},
+    {"--timeout", NUMBER_OF_SECONDS, OF(DO_EXEC) | OF(DO_PASS), AT(timeout)},
+    {"--nonblock", SETS, OF(DO_EXEC), AT(nonblock)},
+    {"--conflict-status", WHOLE, OF(DO_EXEC), AT(conflict_status)},
+    {"--token-env", TEXT, OF(DO_EXEC), AT(token_env)},
+    {"--every", DURATION, OF(DO_EXEC), AT(every)},
+    {"--passed", TEXT, OF(DO_EXEC), AT(passed)},
+    {"--failed", TEXT, OF(DO_EXEC), AT(failed)},
+    {"--quiet", SETS, OF(DO_EXEC), AT(quiet)},
+    {"--lost", LOST, OF(DO_EXEC), AT(lost)},
+    {"--no-sync", SETS, OF(DO_EXEC), AT(no_sync)},
+    {"--json", SETS, OF(DO_STATUS), AT(json)},
+    {"--watch", MAY_HAVE_SECONDS, OF(DO_STATUS), AT(watch)},
+    {"--port", PORT, OF(DO_VIEW), AT(port)},
+    {"--open", SETS, OF(DO_VIEW), AT(opens)},
+    {"--even-alive", SETS, OF(DO_RECOVER), AT(even_alive)},
 };
 #define COUNT (sizeof options / sizeof *options)
 
 /* The other word that each command takes, which has to be there. */
-static const char *const operands[COMMANDS] = {[EXEC] = "OPERATION, -- COMMAND ..", [RECOVER] = "WORKER", [PASS] = "OPERATION"};
+static const char *const operands[COMMANDS] = {[DO_EXEC] = "OPERATION, -- COMMAND ..", [DO_RECOVER] = "WORKER", [DO_PASS] = "OPERATION"};
 
 /* What is read, and which of it isn't anything. */
 struct reading {
@@ -197,7 +197,7 @@ static bool read_next(struct reading *reading, char ***words) {
         if (operands[command] != NULL && reading->operand == NULL) reading->operand = word;
         else add(&reading->unknown, " %s", word);
         ++*words;
-        return command == EXEC;
+        return command == DO_EXEC;
     }
     return false;
 }
@@ -206,7 +206,7 @@ static bool read_next(struct reading *reading, char ***words) {
 static void check_whole(const struct reading *reading) {
     const struct given *given = reading->given;
     struct text said = {NULL, 0, 0};
-    bool has_store = given->store != NULL || given->command == OPERATIONS;
+    bool has_store = given->store != NULL || given->command == DO_OPERATIONS;
     bool has_operand = operands[given->command] == NULL || reading->operand != NULL;
     if (!has_store || !has_operand) {
         add(&said, "the following arguments are required: %s%s%s", has_store ? "" : "--store", has_store || has_operand ? "" : ", ",
@@ -233,13 +233,13 @@ static char **read_command(struct reading *reading, char **words) {
     }
     if (*words != NULL && strcmp(*words, "--") == 0) words++;
     if (*words == NULL) end_with(NO_COMMAND, "the following arguments are required: COMMAND");
-    for (enum command command = EXEC; command < COMMANDS; command++)
+    for (enum command command = DO_EXEC; command < COMMANDS; command++)
         if (strcmp(names_of_commands[command], *words) == 0) reading->given->command = command;
     if (reading->given->command != NO_COMMAND) return words;
     add(&said, "argument COMMAND: invalid choice: ");
     add_quoted(&said, *words);
-    for (enum command command = EXEC; command < COMMANDS; command++)
-        add(&said, "%s'%s'", command == EXEC ? " (choose from " : ", ", names_of_commands[command]);
+    for (enum command command = DO_EXEC; command < COMMANDS; command++)
+        add(&said, "%s'%s'", command == DO_EXEC ? " (choose from " : ", ", names_of_commands[command]);
     add(&said, ")");
     end_with(NO_COMMAND, said.at);
 }

@@ -83,10 +83,20 @@ void close_report(struct report *report) {
     report->live = NULL;
 }
 
+/* The same where the files are read. */
+static bool read_report_of(struct shared *shared, struct report *report) {
+    bool is_again;
+    if (!look(shared->reader, NULL, &is_again)) return false;
+    add_report(shared->reader, &report->text);
+    read_report(report, &shared->declared);
+    return true;
+}
+
 /* Asks for a report; with a limit in milliseconds, -1 for none. */
 bool ask_report(struct shared *shared, int64_t limit, struct report *report) {
     wanzoche_answer answer = {WANZOCHE_TOO_SMALL, 4000};
     *report = (struct report){.is_frozen = false};
+    if (shared->reader != NULL) return read_report_of(shared, report);
     while (answer.code == WANZOCHE_TOO_SMALL) {
         size_t size = (size_t)answer.number + 4096;
         clear_text(&report->text);
@@ -103,8 +113,14 @@ bool ask_report(struct shared *shared, int64_t limit, struct report *report) {
 /* How many wait for each operation, in all processes that are alive. */
 bool count_waiting(struct shared *shared, uint32_t counts[WANZOCHE_MOST_OPERATIONS]) {
     size_t room = 64;
-    wanzoche_store_waiter *waiting = take_memory(room, sizeof *waiting);
-    wanzoche_answer answer = wanzoche_store_list_waiting(shared->store, waiting, room, -1);
+    wanzoche_store_waiter *waiting;
+    wanzoche_answer answer;
+    if (shared->reader != NULL) {
+        count_at(shared->reader, counts);
+        return true;
+    }
+    waiting = take_memory(room, sizeof *waiting);
+    answer = wanzoche_store_list_waiting(shared->store, waiting, room, -1);
     memset(counts, 0, WANZOCHE_MOST_OPERATIONS * sizeof *counts);
     while (answer.code == WANZOCHE_COUNTED && answer.number > room) {
         room = (size_t)answer.number + 64;

@@ -39,27 +39,30 @@ static void pause_for(int milliseconds) {
     if (poll(&output, 1, milliseconds < 1 ? 1 : milliseconds) > 0) exit(OF_SIGNAL + SIGPIPE);
 }
 
+/* What is another number when something has changed. */
+static uint64_t stamp_now(struct shared *shared) {
+    return shared->reader == NULL ? wanzoche_store_stamp(shared->store) : stamp_of(shared->reader);
+}
+
 /* Waits until something has changed since the stamp was taken, or so many seconds are over, and not at once. */
 static void wait_for_change(struct shared *shared, uint64_t stamp, double seconds) {
     double until = now() + seconds;
     do {
         double left = (until - now()) * 1000;
         pause_for(left < LOOKS ? (int)left : LOOKS);
-    } while (now() < until && wanzoche_store_stamp(shared->store) == stamp);
+    } while (now() < until && stamp_now(shared) == stamp);
 }
 
 /* Writes the lines of the journal as they come, until a signal ends it. Returns only with a fault: the status. */
 int watch_log(struct shared *shared) {
     size_t written = 0;
-    for (;;) {
-        struct text journal = {NULL, 0, 0};
-        uint64_t stamp = wanzoche_store_stamp(shared->store); /* before the journal is read, so that a change between the two is found */
-        bool is_told = read_journal(shared, &journal);
-        if (is_told && journal.length > written) is_told = write_out(journal.at + written, journal.length - written);
-        written = journal.length;
-        clear_text(&journal);
-        if (!is_told) break;
-        wait_for_change(shared, stamp, INFINITY);
+    bool is_told = true;
+    while (is_told) {
+        struct text lines = {NULL, 0, 0};
+        uint64_t stamp = stamp_now(shared); /* before the journal is read, so that a change between the two is found */
+        is_told = read_new(shared, &written, &lines) && write_text(&lines);
+        clear_text(&lines);
+        if (is_told) wait_for_change(shared, stamp, INFINITY);
     }
     say("%s", fault());
     return IS_FAULT;
@@ -151,7 +154,7 @@ int watch_status(struct shared *shared, const struct given *given) {
     end_by(SIGTERM);
     if (is_table) signal(SIGCONT, note_stop);
     while (is_told) {
-        uint64_t stamp = wanzoche_store_stamp(shared->store);
+        uint64_t stamp = stamp_now(shared);
         struct text told = {NULL, 0, 0};
         is_told = ask_told(shared, given, is_table, &told);
         if (goes_on_behind_stop) table.count = 0; /* others may have written there */

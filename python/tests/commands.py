@@ -12,8 +12,10 @@ from .declarations import BOOK
 from .limits import LONGEST
 from .stores import InFolder
 
-COMMAND = shlex.split(os.environ.get("WANZOCHE_COMMAND", "")) or [sys.executable, "-m", "wanzoche"]
-"""The words that run the command: another program's, if the variable names one."""
+IS_ANOTHER = bool(os.environ.get("WANZOCHE_COMMAND"))
+"""Whether the variable names another program than the package's."""
+COMMAND = shlex.split(os.environ["WANZOCHE_COMMAND"]) if IS_ANOTHER else [sys.executable, "-m", "wanzoche"]
+"""The words that run the command."""
 DELIVERY = """resource delivery cell
 operation build, built, broken, deploy
 path build ; ((built ; deploy) , broken) end

@@ -9,7 +9,7 @@ import unittest
 
 from wanzoche import _command
 
-from .commands import OnCommand
+from .commands import COMMAND, IS_ANOTHER, OnCommand
 from .declarations import BOOK
 from .stores import ANOTHER
 
@@ -35,7 +35,10 @@ class Reading(OnCommand, unittest.TestCase):
                 os.setgroups([])
                 os.setgid(ANOTHER)
                 os.setuid(ANOTHER)
-                os._exit(_command.main([command, "--store", self.file, *self.declared, *words]))
+                given = [command, "--store", self.file, *self.declared, *words]
+                if IS_ANOTHER:
+                    os.execvp(COMMAND[0], [*COMMAND, *given])
+                os._exit(_command.main(given))
             finally:
                 os._exit(99)
         for _, into in pipes:
