@@ -69,12 +69,13 @@ static bool is_of_store(const struct given *given, const struct declared *declar
 
 /* The same as a command over an open store that only looks, where its files may only be read. */
 static int run_reading(const struct given *given) {
-    struct shared shared = {.path = whole_path(given->store)};
+    static struct shared shared;
     struct text text = {NULL, 0, 0};
     int status;
     bool is_found = find_readable(given, &text) && open_declared(&shared.declared, text.at, text.length) && is_of_store(given, &shared.declared);
     clear_text(&text);
     if (!is_found) return end_with_fault(given);
+    shared.path = whole_path(given->store);
     shared.reader = new_reader(shared.path, &shared.declared);
     status = do_command(&shared, given);
     close_reader(shared.reader);
@@ -84,7 +85,7 @@ static int run_reading(const struct given *given) {
 
 /* Opens the store, and does the command. */
 static int run(const struct given *given) {
-    struct shared shared = {.store = NULL};
+    static struct shared shared;
     struct text text = {NULL, 0, 0};
     int status;
     bool is_declared = find_declaration(given, &text);

@@ -9,22 +9,22 @@
 #define PATIENCE 30000 /* so many milliseconds an opening waits for another that makes the store or mends it */
 #define CLOSING 1000   /* and so many a close for its turn; then others finish what is in progress */
 
-/* The path of a file without links in it, as far as that can be found: of one that isn't there, too. It is kept to the end of the program. */
+/* The path of a file without links in it, as far as that can be found: of one that isn't there, too. It counts until the next call. */
 const char *whole_path(const char *file) {
-    char *found = realpath(file, NULL), *folder, *name;
-    struct text path = {NULL, 0, 0};
-    if (found != NULL) return found;
-    add(&path, "%s", file);
-    name = strrchr(path.at, '/');
-    if (name != NULL) *name = 0;
-    folder = realpath(name == NULL ? "." : path.at[0] == 0 ? "/" : path.at, NULL);
-    if (folder == NULL) return file;
-    name = name == NULL ? path.at : name + 1;
-    found = take_memory(strlen(folder) + strlen(name) + 2, 1);
-    sprintf(found, "%s/%s", strcmp(folder, "/") == 0 ? "" : folder, name);
+    static struct text whole;
+    char *found = realpath(file, NULL), *folder;
+    const char *slash = strrchr(file, '/');
+    clear_text(&whole);
+    if (found != NULL) add(&whole, "%s", found);
+    free(found);
+    if (found != NULL) return whole.at;
+    add(&whole, "%.*s", slash == NULL ? 1 : slash == file ? 1 : (int)(slash - file), slash == NULL ? "." : file);
+    folder = realpath(whole.at, NULL);
+    clear_text(&whole);
+    if (folder == NULL) add(&whole, "%s", file);
+    else add(&whole, "%s/%s", strcmp(folder, "/") == 0 ? "" : folder, slash == NULL ? file : slash + 1);
     free(folder);
-    clear_text(&path);
-    return found;
+    return whole.at;
 }
 
 /* Keeps why the store has answered so. Always false. */

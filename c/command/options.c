@@ -127,14 +127,14 @@ static bool is_like_option(const char *word) {
     return *at != 0 || !isdigit((unsigned char)at[-1]);
 }
 
-static void end_with_value(enum command command, const struct option *option, const char *format, const char *value) __attribute__((noreturn));
+static void end_with_value(enum command command, const struct option *option, const char *wrong, const char *value) __attribute__((noreturn));
 
-/* The format has a place for the value. */
-static void end_with_value(enum command command, const struct option *option, const char *before, const char *value) {
+/* Says what is wrong with the value of an option, and behind that which it is: where the library that says so in Python quotes it, too. */
+static void end_with_value(enum command command, const struct option *option, const char *wrong, const char *value) {
     struct text said = {NULL, 0, 0};
-    bool is_shown = strncmp(before, "invalid ", 8) == 0;
-    add(&said, "argument %s: %s", option->name, before);
-    if (is_shown) add_quoted(&said, value);
+    bool is_quoted = strncmp(wrong, "invalid ", 8) == 0 || strncmp(wrong, "ignored ", 8) == 0;
+    add(&said, "argument %s: %s", option->name, wrong);
+    if (is_quoted) add_quoted(&said, value);
     else add(&said, "%s", value);
     if (option->kind == LOST) add(&said, " (choose from 'finish', 'keep')");
     end_with(command, said.at);
