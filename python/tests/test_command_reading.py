@@ -4,6 +4,7 @@ import contextlib
 import json
 import os
 import re
+import shutil
 import signal
 import unittest
 
@@ -21,6 +22,8 @@ class Reading(OnCommand, unittest.TestCase):
         os.chmod(self.folder, 0o755)
         self.paths = self.open(BOOK)
         self.declared = ["--declaration", self.declaration]
+        if IS_ANOTHER:
+            self.program = shutil.copy(shutil.which(COMMAND[0]), os.path.join(self.folder, "program"))  # where another user finds it
 
     @contextlib.contextmanager
     def begun(self, command, *words):
@@ -37,7 +40,7 @@ class Reading(OnCommand, unittest.TestCase):
                 os.setuid(ANOTHER)
                 given = [command, "--store", self.file, *self.declared, *words]
                 if IS_ANOTHER:
-                    os.execvp(COMMAND[0], [*COMMAND, *given])
+                    os.execv(self.program, [*COMMAND, *given])
                 os._exit(_command.main(given))
             finally:
                 os._exit(99)
