@@ -1,7 +1,7 @@
-# Builds the program and the C library from the generated assembly in dist/: a C compiler with its binutils and make are all it takes.
+# Builds the programs and the C library from the generated assembly in dist/: a C compiler with its binutils and make are all it takes.
 #
-#   make              the program, the C library (static and shared) and wanzoche.pc, in out/
-#   make example      the program alone, and then runs a stored example
+#   make              the programs pathsys and wanzoche, the C library (static and shared) and wanzoche.pc, in out/
+#   make example      pathsys alone, and then runs a stored example
 #   make test         the cases, the examples and the tests of the program, the C library, what is installed, the Python package, the web
 #                     page, the JavaScript package and the Go module; with WANZOCHE_TESTS=all in each Python that is here, under
 #                     sanitizers and over PostgreSQL, too
@@ -35,6 +35,7 @@ bin := $(OUT)/bin
 lib := $(OUT)/lib
 work := $(OUT)/work
 program := $(bin)/pathsys
+command := $(bin)/wanzoche
 static_library := $(lib)/libwanzoche.a
 shared_library := $(lib)/libwanzoche.so.0
 headers := $(addprefix $(OUT)/,$(wildcard include/*.h include/*.hpp include/wanzoche/*.hpp))
@@ -61,7 +62,7 @@ ifneq ($(if $(cannot),$(filter-out clean uninstall prove test_page,$(or $(MAKECM
 $(error $(cannot))
 endif
 
-all: $(program) library
+all: $(program) $(command) library
 
 library: $(library)
 
@@ -100,6 +101,14 @@ $(static_library): $(work)/wanzoche.o $(work)/store.o
 	@mkdir -p $(@D)
 	rm -f $@
 	$(AR) rcsD $@ $^
+
+$(work)/command/%.o: c/command/%.c $(wildcard c/command/*.h) include/wanzoche.h include/wanzoche_store.h
+	@mkdir -p $(@D)
+	$(CC) $(c_flags) -D_GNU_SOURCE -pthread -c $< -o $@
+
+$(command): $(patsubst c/command/%.c,$(work)/command/%.o,$(wildcard c/command/*.c)) $(static_library)
+	@mkdir -p $(@D)
+	$(CC) $(CFLAGS) $(LDFLAGS) $(static) -Wl,--gc-sections $^ -lpthread -o $@
 
 $(shared_library): $(work)/wanzoche.o $(work)/store.o
 	@mkdir -p $(@D)
@@ -168,9 +177,10 @@ test_program: $(program) library
 	WANZOCHE_LIBRARY=$(realpath $(shared_library)) examples/lasting_test $(realpath $(program)) follow examples/slot/declaration \
 	    --room 1048576 --journal FILE
 
-test_library: library
+test_library: $(command) library
 	c/tests/run $(OUT)
 	c/tests/run_cpp $(OUT)
+	c/tests/run_command $(OUT)
 	c/model/run
 
 test_install: all
@@ -195,27 +205,27 @@ prove:
 
 to := $(DESTDIR)$(PREFIX)
 pages := $(wildcard docs/*.md)
-# The command wanzoche is the Python package's, so pip brings it with its man page and completions (python/packing.py).
-installed := bin/pathsys \
+# pip brings the command wanzoche of the Python package, with the same man page and completions (python/packing.py).
+installed := bin/pathsys bin/wanzoche \
     $(LIBDIR)/libwanzoche.a $(LIBDIR)/libwanzoche.so.0 $(LIBDIR)/libwanzoche.so $(LIBDIR)/pkgconfig/wanzoche.pc \
     $(patsubst $(lib)/%,$(LIBDIR)/%,$(cmake_files)) $(patsubst $(OUT)/%,%,$(headers)) \
-    share/man/man1/pathsys.1 share/man/man3/wanzoche.3 \
-    share/bash-completion/completions/pathsys share/zsh/site-functions/_pathsys share/fish/vendor_completions.d/pathsys.fish
+    share/man/man1/pathsys.1 share/man/man1/wanzoche.1 share/man/man3/wanzoche.3 \
+    $(foreach name,pathsys wanzoche,share/bash-completion/completions/$(name) share/zsh/site-functions/_$(name) share/fish/vendor_completions.d/$(name).fish)
 
 install: all
 	$(INSTALL) -d $(addprefix $(to)/,$(sort $(dir $(installed)))) $(to)/share/doc/wanzoche
-	$(INSTALL) -m 755 $(program) $(to)/bin/
+	$(INSTALL) -m 755 $(program) $(command) $(to)/bin/
 	$(INSTALL) -m 644 $(static_library) $(shared_library) $(to)/$(LIBDIR)/
 	ln -sf libwanzoche.so.0 $(to)/$(LIBDIR)/libwanzoche.so
 	printenv pc_of_prefix > $(to)/$(LIBDIR)/pkgconfig/wanzoche.pc
 	for file in $(notdir $(cmake_files)); do $(call filled,$(LIBDIR)) packaging/cmake/$$file > $(to)/$(LIBDIR)/cmake/wanzoche/$$file || exit 1; done
 	$(INSTALL) -m 644 $(wildcard include/*.h include/*.hpp) $(to)/include/
 	$(INSTALL) -m 644 $(wildcard include/wanzoche/*.hpp) $(to)/include/wanzoche/
-	$(INSTALL) -m 644 man/pathsys.1 $(to)/share/man/man1/
+	$(INSTALL) -m 644 man/pathsys.1 man/wanzoche.1 $(to)/share/man/man1/
 	$(INSTALL) -m 644 man/wanzoche.3 $(to)/share/man/man3/
-	$(INSTALL) -m 644 completions/pathsys.bash $(to)/share/bash-completion/completions/pathsys
-	$(INSTALL) -m 644 completions/_pathsys $(to)/share/zsh/site-functions/
-	$(INSTALL) -m 644 completions/pathsys.fish $(to)/share/fish/vendor_completions.d/
+	for name in pathsys wanzoche; do $(INSTALL) -m 644 completions/$$name.bash $(to)/share/bash-completion/completions/$$name || exit 1; done
+	$(INSTALL) -m 644 completions/_pathsys completions/_wanzoche $(to)/share/zsh/site-functions/
+	$(INSTALL) -m 644 completions/pathsys.fish completions/wanzoche.fish $(to)/share/fish/vendor_completions.d/
 	$(INSTALL) -m 644 README.md CHANGELOG.md dist/NOTICE $(pages) docs/page.png $(to)/share/doc/wanzoche/
 
 uninstall:

@@ -132,6 +132,24 @@ wanzoche_answer wanzoche_store_open(wanzoche_store **store, const char *file, co
                                     const wanzoche_store_options *options, int64_t limit, char *message, size_t size);
 
 /*
+** Write the text of the declaration of a store that is there, as its processes
+** have it: what wanzoche_store_open wants, where a program doesn't know it. The
+** store isn't opened for that, and nothing of it changes; the right to read
+** FILE.shared will do.
+**
+** WANZOCHE_WRITTEN, WANZOCHE_TOO_SMALL
+**                      as of wanzoche_declaration
+** WANZOCHE_SYSTEM      the system refuses something: ENOENT if there is no
+**                      FILE.shared
+** WANZOCHE_NOT_A_STORE what lies there isn't what lies beside a journal
+** WANZOCHE_OUT_OF_MEMORY
+**
+** The message is as of wanzoche_store_open. WANZOCHE_TOO_SMALL has none.
+*/
+WANZOCHE_CHECKED
+wanzoche_answer wanzoche_store_declaration(const char *file, char *buffer, size_t size, char *message, size_t message_size);
+
+/*
 ** End an opening: finishes what it has in progress, in all threads, and gives
 ** everything back. Others see it as gone. A null store is none.
 **

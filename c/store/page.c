@@ -42,21 +42,26 @@ static bool refuse_declaration(store *s, const char *found) {
                   (int)(word > 60 ? 60 : word > 0 ? word - 1 : 0), given + (word > 60 ? word - 61 : 0), found + word, given + word);
 }
 
-/* Whether the declaration in the file is the one that is given. */
-static bool has_declaration(store *s, int file, const struct head *head) {
+/* The declaration in the file, without a line feed at its end: null if it can't be read. The caller frees it. */
+static char *declaration_in(store *s, int file, const struct head *head) {
     size_t length = head->declaration;
     uint64_t place = head->version == PAGE_VERSION_OF_PYTHON ? PLACE_OF_PYTHON : sizeof(struct page);
-    char *found;
-    bool is_same;
-    if (length > (size_t)1 << 20) return refuse(s, WANZOCHE_NOT_A_STORE, 0, "%.300s.shared isn't whole", s->path);
-    found = calloc(1, length + 1);
-    if (found == NULL) return refuse_for_memory(s);
-    if (read_at(file, found, length, place) < 0) {
+    char *found = NULL;
+    if (length > (size_t)1 << 20) refuse(s, WANZOCHE_NOT_A_STORE, 0, "%.300s.shared isn't whole", s->path);
+    else if ((found = calloc(1, length + 1)) == NULL) refuse_for_memory(s);
+    else if (read_at(file, found, length, place) < 0) {
+        refuse_by_system(s, "can't be opened");
         free(found);
-        return refuse_by_system(s, "can't be opened");
+        found = NULL;
     }
-    for (size_t end = length; end > 0 && found[end - 1] == '\n'; end--) found[end - 1] = 0;
-    is_same = strcmp(found, s->declaration) == 0 || refuse_declaration(s, found);
+    for (size_t end = length; found != NULL && end > 0 && found[end - 1] == '\n'; end--) found[end - 1] = 0;
+    return found;
+}
+
+/* Whether the declaration in the file is the one that is given. */
+static bool has_declaration(store *s, int file, const struct head *head) {
+    char *found = declaration_in(s, file, head);
+    bool is_same = found != NULL && (strcmp(found, s->declaration) == 0 || refuse_declaration(s, found));
     free(found);
     return is_same;
 }
@@ -115,6 +120,21 @@ static bool read_page_head(store *s, int file, struct head *head) {
     if (head->version == PAGE_VERSION && (uint64_t)state.st_size < sizeof(struct page) + head->declaration)
         return refuse(s, WANZOCHE_NOT_A_STORE, 0, "%.300s.shared is cut off: remove it when no process has the store open", s->path);
     return true;
+}
+
+/* Without an opening: the declaration of the store whose file was found, which the caller frees. Null if there is none to be read. */
+char *stored_declaration(store *s) {
+    struct head head;
+    char *found = NULL;
+    int error, file = open_beside_others(s->folder, s->beside_name, O_RDONLY, 0);
+    if (file < 0) {
+        error = errno;
+        refuse(s, WANZOCHE_SYSTEM, (uint64_t)error, "%.300s.shared can't be opened: %s", s->path, strerror(error));
+        return NULL;
+    }
+    if (read_page_head(s, file, &head)) found = declaration_in(s, file, &head);
+    close(file);
+    return found;
 }
 
 static bool refuse_python(store *s) {

@@ -142,6 +142,7 @@ void let_go(struct lines *file);
 
 /* page.c: the file beside the journal. */
 bool open_page(store *s, uint64_t until);
+char *stored_declaration(store *s);
 uint64_t place_of_process(const store *s, uint32_t worker);
 
 /* journal.c: following lines. */

@@ -250,6 +250,34 @@ static void modes(void) {
     }
 }
 
+/* The declaration of a store, whose text is empty if it can't be told. */
+static uint32_t declaration_of(const char *name, char text[256]) {
+    wanzoche_answer size = wanzoche_store_declaration(name, NULL, 0, why, sizeof why), a;
+    text[0] = 0;
+    if (size.code != WANZOCHE_TOO_SMALL) return size.code == WANZOCHE_SYSTEM ? (uint32_t)size.number + 1000 : size.code;
+    CHECK(why[0] == 0 && wanzoche_store_declaration(name, text, (size_t)size.number, NULL, 0).code == WANZOCHE_TOO_SMALL && text[0] == 0);
+    a = wanzoche_store_declaration(name, text, (size_t)size.number + 1, why, sizeof why);
+    CHECK(a.number == size.number && strlen(text) == size.number);
+    return a.code;
+}
+
+/* It is told of a store that is open, of one that isn't, and by another name; and nothing of it changes. */
+static void declarations(void) {
+    char text[256], link[128];
+    begin_anew();
+    CHECK(declaration_of(file, text) == 1000 + ENOENT && strstr(why, ".shared can't be opened: No such file") != NULL && access(file, F_OK) != 0);
+    CHECK(declaration_of(NULL, text) == 1000 + EFAULT && declaration_of("/none/none", text) == 1000 + ENOENT);
+    mine = opened(NULL);
+    CHECK(left(mine, entered(mine, READ)));
+    CHECK(declaration_of(file, text) == WANZOCHE_WRITTEN && strcmp(text, "resource book cell operation read, write path { read }, write end end\n") == 0);
+    CHECK(wanzoche_store_worker(mine) == 1 && is_closed(mine) && chmod(beside(".shared"), 0400) == 0);
+    snprintf(link, sizeof link, "%s.link", file);
+    CHECK(symlink(file, link) == 0 && declaration_of(link, text) == WANZOCHE_WRITTEN && strncmp(text, BOOK, 30) == 0);
+    CHECK(chmod(beside(".shared"), 0600) == 0 && code_of(file) == WANZOCHE_OPENED);
+    put(beside(".shared"), "xanzoche", 0);
+    CHECK(declaration_of(file, text) == WANZOCHE_NOT_A_STORE && strstr(why, "isn't the file that a store has beside its journal") != NULL);
+}
+
 /* The page of the Python package, which nobody has open or somebody has. */
 static void other_page(const char *declaration, bool is_open, uint32_t code) {
     struct flock lock = {.l_type = F_WRLCK, .l_whence = SEEK_SET, .l_start = (INT64_C(1) << 41) + 1, .l_len = 1};
@@ -283,6 +311,7 @@ int main(void) {
     forks();
     full();
     modes();
+    declarations();
     other_page("resource book cell operation read, write path { read }, write end end", false, WANZOCHE_OPENED);
     other_page("resource book cell operation read, write path { read }, write end end", true, WANZOCHE_IN_USE);
     other_page("resource book cell operation read, write path read, write end end", false, WANZOCHE_OTHER_DECLARATION);

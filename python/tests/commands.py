@@ -3,6 +3,7 @@
 import contextlib
 import os
 import resource
+import shlex
 import subprocess
 import sys
 import threading
@@ -11,7 +12,10 @@ from .declarations import BOOK
 from .limits import LONGEST
 from .stores import InFolder
 
-
+IS_ANOTHER = bool(os.environ.get("WANZOCHE_COMMAND"))
+"""Whether the variable names another program than the package's."""
+COMMAND = shlex.split(os.environ["WANZOCHE_COMMAND"]) if IS_ANOTHER else [sys.executable, "-m", "wanzoche"]
+"""The words that run the command."""
 DELIVERY = """resource delivery cell
 operation build, built, broken, deploy
 path build ; ((built ; deploy) , broken) end
@@ -57,7 +61,7 @@ class OnCommand(InFolder):
             file.write(self.DECLARATION)
 
     def words(self, command, *words):
-        return [sys.executable, "-m", "wanzoche", command, "--store", self.file] + list(words)
+        return [*COMMAND, command, "--store", self.file, *words]
 
     def runs(self, command, *words):
         """What it writes, what it writes on standard error, and its status."""

@@ -1,6 +1,7 @@
 """The command `wanzoche`, as a shell runs it."""
 
 import os
+import re
 import signal
 import subprocess
 import sys
@@ -11,7 +12,7 @@ from wanzoche import Paths, _native
 from wanzoche._beside import Beside
 from wanzoche._executing import TELLS
 
-from .commands import OnCommand, running
+from .commands import COMMAND, OnCommand, running
 from .declarations import BOOK, SLOT
 from .limits import LONGEST
 
@@ -77,11 +78,12 @@ class Commands(OnCommand, unittest.TestCase):
                 self.assertRegex(told.decode(), why.format(os.getpid()))
                 entry.leave()
                 self.assertEqual((process.stdout.read(), process.wait(LONGEST)), (b"hello\n", 0))
-            with subprocess.Popen(words, stdin=subprocess.DEVNULL, stdout=subprocess.PIPE, stderr=subprocess.PIPE) as process:
-                with paths("write"):
-                    self.until(paths.waiting)
-                    time.sleep(1.5 * TELLS)
-                self.assertEqual((process.stdout.read(), process.stderr.read()), (b"hello\n", b""))
+        entry = paths.enter("write")
+        with subprocess.Popen(words, stdin=subprocess.DEVNULL, stdout=subprocess.PIPE, stderr=subprocess.PIPE) as process:
+            self.until(paths.waiting)
+            time.sleep(1.5 * TELLS)
+            entry.leave()
+            self.assertEqual((process.stdout.read(), process.stderr.read()), (b"hello\n", b""))
 
     def test_signals_are_handed_on(self):
         ready = "trap 'echo caught; exit 3' TERM; echo ready; while :; do sleep 0.05; done"
@@ -91,6 +93,51 @@ class Commands(OnCommand, unittest.TestCase):
             process.send_signal(signal.SIGTERM)
             self.assertEqual((process.stdout.read(), process.wait(LONGEST)), (b"caught\n", 3))
         self.assertEqual(self.open(BOOK).report().live, ())
+
+    def test_what_a_command_begins_with(self):
+        """The mask of who runs it and the usual signals, but for an ignored SIGHUP; and of the store one file alone, by which it counts as alive."""
+        words = self.words("exec", "--declaration", self.declaration, "write", "--")
+
+        def blocks():
+            signal.pthread_sigmask(signal.SIG_SETMASK, [signal.SIGUSR1, signal.SIGWINCH])
+            signal.signal(signal.SIGHUP, signal.SIG_IGN)
+
+        def told(*command):
+            with open(os.devnull) as nothing:
+                return subprocess.run(words + list(command), stdin=nothing, stdout=subprocess.PIPE, preexec_fn=blocks, timeout=LONGEST).stdout.decode()
+
+        found = re.findall(r"^Sig(?:Blk|Ign):\s*(\w+)", told("cat", "/proc/self/status"), re.M)
+        kept = [1 << number - 1 for number in (signal.SIGUSR1, signal.SIGWINCH, signal.SIGHUP)]
+        self.assertEqual([int(each, 16) & 0x7FFFFFFF for each in found], [kept[0] | kept[1], kept[2]])  # the C library keeps others for itself
+        self.assertEqual(re.findall("-> ({}.*)".format(re.escape(self.folder)), told("ls", "-l", "/proc/self/fd")), [self.file + ".shared"])
+
+    def test_signals_to_who_waits(self):
+        """An interrupt ends the wait with a status, and another signal ends the process: then nobody waits any more, and nothing was run."""
+        paths = self.open(BOOK)
+        with paths("write"):
+            for number, status in ((signal.SIGINT, 128 + signal.SIGINT), (signal.SIGTERM, -signal.SIGTERM), (signal.SIGHUP, -signal.SIGHUP)):
+                words = self.words("exec", "read", "--", "echo", "hello")
+                with running(words, stdin=subprocess.DEVNULL, stdout=subprocess.PIPE, stderr=subprocess.PIPE) as process:
+                    self.until(paths.waiting)
+                    process.send_signal(number)
+                    self.assertEqual((process.stdout.read(), process.stderr.read(), process.wait(LONGEST)), (b"", b"", status))
+                self.until(lambda: not paths.waiting())
+
+    def test_a_stop_while_it_runs(self):
+        """Who is stopped goes on where it was, and has the signals that came meanwhile."""
+        ready = "trap 'exit 3' TERM; echo ready; while :; do sleep 0.05; done"
+        words = self.words("exec", "--declaration", self.declaration, "write", "--", "sh", "-c", ready)
+        with running(words, stdin=subprocess.DEVNULL, stdout=subprocess.PIPE) as process:
+            self.assertEqual(process.stdout.readline(), b"ready\n")
+            process.send_signal(signal.SIGSTOP)
+            self.until(lambda: self.is_stopped(process.pid))
+            process.send_signal(signal.SIGTERM)
+            process.send_signal(signal.SIGCONT)
+            self.assertEqual(process.wait(LONGEST), 3)
+
+    def is_stopped(self, process):
+        with open("/proc/{}/stat".format(process)) as file:
+            return file.read().rpartition(")")[2].split()[0] == "T"
 
     def test_a_command_outlives_who_runs_it(self):
         """Then its operation is in progress until it ends, too."""
@@ -215,13 +262,13 @@ class Commands(OnCommand, unittest.TestCase):
 
     def test_operations(self):
         """Of a declaration or of a store, which isn't opened for that: no number is given."""
-        words = [sys.executable, "-m", "wanzoche", "operations", "--declaration", self.declaration]
+        words = [*COMMAND, "operations", "--declaration", self.declaration]
         self.assertEqual(subprocess.run(words, stdout=subprocess.PIPE, timeout=LONGEST, check=True).stdout, b"read\nwrite\n")
         self.assertEqual(os.listdir(self.folder), ["declaration.path"])
         self.open(BOOK)
         self.assertEqual(self.runs("operations"), ("read\nwrite\n", "", 0))
         self.assertEqual(self.open(BOOK).worker, "process 2")
-        told = subprocess.run(words[:4], stderr=subprocess.PIPE, timeout=LONGEST)
+        told = subprocess.run([*COMMAND, "operations"], stderr=subprocess.PIPE, timeout=LONGEST)
         self.assertEqual((told.stderr, told.returncode), (b"wanzoche: --store or --declaration is wanted\n", 1))
         with open(self.declaration, "w") as file:
             file.write("resource")

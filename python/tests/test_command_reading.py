@@ -4,12 +4,13 @@ import contextlib
 import json
 import os
 import re
+import shutil
 import signal
 import unittest
 
 from wanzoche import _command
 
-from .commands import OnCommand
+from .commands import COMMAND, IS_ANOTHER, OnCommand
 from .declarations import BOOK
 from .stores import ANOTHER
 
@@ -21,6 +22,8 @@ class Reading(OnCommand, unittest.TestCase):
         os.chmod(self.folder, 0o755)
         self.paths = self.open(BOOK)
         self.declared = ["--declaration", self.declaration]
+        if IS_ANOTHER:
+            self.program = shutil.copy(shutil.which(COMMAND[0]), os.path.join(self.folder, "program"))  # where another user finds it
 
     @contextlib.contextmanager
     def begun(self, command, *words):
@@ -35,7 +38,10 @@ class Reading(OnCommand, unittest.TestCase):
                 os.setgroups([])
                 os.setgid(ANOTHER)
                 os.setuid(ANOTHER)
-                os._exit(_command.main([command, "--store", self.file, *self.declared, *words]))
+                given = [command, "--store", self.file, *self.declared, *words]
+                if IS_ANOTHER:
+                    os.execv(self.program, [*COMMAND, *given])
+                os._exit(_command.main(given))
             finally:
                 os._exit(99)
         for _, into in pipes:

@@ -1,0 +1,121 @@
+/* The command `wanzoche`: operations from the shell, over a store. */
+#include <errno.h>
+#include <signal.h>
+#include <stdio.h>
+#include <stdlib.h>
+#include <string.h>
+#include <unistd.h>
+
+#include "command.h"
+
+/* Writes the names of the operations. The store isn't opened, so nothing of it changes. */
+static int write_operations(const struct declared *declared) {
+    struct text names = {NULL, 0, 0};
+    bool is_told;
+    for (uint32_t k = 0; k < declared->count; k++) add(&names, "%s\n", declared->names[k]);
+    is_told = write_text(&names);
+    clear_text(&names);
+    if (!is_told) say("%s", fault());
+    return is_told ? 0 : IS_FAULT;
+}
+
+/* What a command does with an open store: the status. */
+static int do_command(struct shared *shared, const struct given *given) {
+    switch (given->command) {
+    case DO_EXEC: return execute(shared, given);
+    case DO_PASS: return pass_by_hand(shared, given);
+    case DO_RECOVER: return recover(shared, given);
+    case DO_AUDIT: return audit(shared);
+    case DO_LOG: return write_log(shared);
+    case DO_WATCH: return watch_log(shared);
+    default: return given->watches ? watch_status(shared, given) : write_status(shared, given);
+    }
+}
+
+/* Says the fault: the status of that. */
+static int end_with_fault(const struct given *given) {
+    say("%s", fault());
+    if (given->command == DO_AUDIT && is_corrupt()) return IS_WRONG_LINE;
+    return given->command == DO_EXEC ? IS_OWN_FAULT : IS_FAULT;
+}
+
+/* Whether a command only looks. */
+static bool looks(const struct given *given) {
+    return given->command == DO_STATUS || given->command == DO_LOG || given->command == DO_AUDIT || given->command == DO_WATCH;
+}
+
+/* Finds the declaration where the files may only be read. */
+static bool find_readable(const struct given *given, struct text *text) {
+    const char *path = whole_path(given->store);
+    clear_text(text);
+    if (given->declaration != NULL) return read_file(given->declaration, text);
+    if (find_declaration(given, text)) return true;
+    if (is_forbidden() && access(path, R_OK) != 0) return fails("%s can't be opened: %s", path, strerror(errno));
+    return fails("%s: who may read the journal alone names its declaration by --declaration", fault());
+}
+
+/* Whether the declaration that is given is the store's, as far as this user may know that. */
+static bool is_of_store(const struct given *given, const struct declared *declared) {
+    struct given without = *given;
+    struct declared own = {.text = NULL};
+    struct text text = {NULL, 0, 0};
+    bool is_same;
+    without.declaration = NULL;
+    is_same = !find_declaration(&without, &text) || !open_declared(&own, text.at, text.length) || strcmp(own.text, declared->text) == 0;
+    clear_text(&text);
+    if (own.text != NULL) close_declared(&own);
+    return is_same || fails("%s is of another declaration", whole_path(given->store));
+}
+
+/* The same as a command over an open store that only looks, where its files may only be read. */
+static int run_reading(const struct given *given) {
+    static struct shared shared;
+    struct text text = {NULL, 0, 0};
+    int status;
+    bool is_found = find_readable(given, &text) && open_declared(&shared.declared, text.at, text.length) && is_of_store(given, &shared.declared);
+    clear_text(&text);
+    if (!is_found) return end_with_fault(given);
+    shared.path = whole_path(given->store);
+    shared.reader = new_reader(shared.path, &shared.declared);
+    status = do_command(&shared, given);
+    close_reader(shared.reader);
+    close_declared(&shared.declared);
+    return status;
+}
+
+/* Opens the store, and does the command. */
+static int run(const struct given *given) {
+    static struct shared shared;
+    struct text text = {NULL, 0, 0};
+    int status;
+    bool is_declared = find_declaration(given, &text);
+    if (!is_declared && looks(given) && is_forbidden()) return run_reading(given);
+    is_declared = is_declared && open_declared(&shared.declared, text.at, text.length);
+    clear_text(&text);
+    if (!is_declared || (given->command == DO_EXEC && !check_words(&shared.declared, given))) return end_with_fault(given);
+    if (given->command == DO_OPERATIONS) return write_operations(&shared.declared);
+    if (!open_shared(&shared, given)) return looks(given) && is_forbidden() ? run_reading(given) : end_with_fault(given);
+    status = do_command(&shared, given);
+    if (!close_shared(&shared)) return end_with_fault(given);
+    close_declared(&shared.declared);
+    return status;
+}
+
+int main(int count, char **words) {
+    struct given given;
+    take_closed_streams();
+    keep_signals();
+    end_by(SIGINT);
+    read_words(&given, words + (count > 0));
+    if (!is_open_stream(1) && given.command != DO_EXEC) {
+        say("standard output is closed");
+        return IS_FAULT;
+    }
+    if (given.command == DO_VIEW) return hand_to_python(words + 1, "`view`", IS_FAULT);
+    if (is_served(&given)) return hand_to_python(words + 1, "a store in PostgreSQL", status_without_memory);
+    if (given.name != NULL && given.store != NULL) {
+        fails("--name is wanted for a store in PostgreSQL, and for no other");
+        return end_with_fault(&given);
+    }
+    return run(&given);
+}
