@@ -825,7 +825,7 @@ class Clerk:
         self._flight = batch
         given: Dict[str, Any] = {"before": batch.before, "is_stepped": batch.is_stepped, "starting": batch.starting}
         given["looks"] = self._looks_with(batch)
-        is_in, taken, number = self.log.append(batch.text(), batch.wishes, **given)
+        is_in, taken, begun = self.log.append(batch.text(), batch.wishes, **given)
         self._flight, self._outage = None, None
         self._note_slots(batch.wishes, is_in or not batch.lines)
         self._looked()
@@ -833,7 +833,7 @@ class Clerk:
             self._finished(batch.finishes[number], number, number in taken)
         if is_in:
             self._beaten = 0
-            self._confirm(batch if number is None else batch.with_number(number))
+            self._confirm(batch if begun is None else batch.with_number(begun))
         elif batch.lines:
             self._beaten += 1
             self._passes.update(batch.wishes.wakes)

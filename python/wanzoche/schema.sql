@@ -554,8 +554,8 @@ end $$;
 -- who are first for the operations `wakes`.
 --
 -- Returns its number, or null if it wasn't appended, and the lines from n on, its own among them; null stands for its own and no other. Who
--- waits is told if it `asks` and hasn't named all of them in `passes`, and if somebody stands before it, which has the priority `prior` and
--- the ticket `arrived`. With WZ003, as of `lines`, nothing was done.
+-- waits is told if it wasn't appended, or if it `asks` and there are some who aren't among `passes`. It has the priority `prior` and the
+-- ticket `arrived`. With WZ003, as of `lines`, nothing was done.
 create or replace function wanzoche.start(l int, w int, n bigint, known bigint, named text, number bigint, touches text[], ends text[],
     rivals int[], passes bigint[], prior bigint, arrived bigint, wakes int[], leaves int[], asks boolean,
     out started bigint, out news text, out final bigint, out mark bigint, out waiters text)
@@ -582,7 +582,6 @@ begin
             end if;
         else
             started := null;  -- nobody but who waits is in its way
-            asks := true;
         end if;
         exit when started is null;
     end loop;
@@ -598,8 +597,8 @@ begin
             perform wanzoche.wake(l, w, wakes);
         end if;
     end if;
-    if asks and (started is null or exists (select from wanzoche.waiter x
-        where x.log = l and x.worker <> w and x.since is not null and x.ticket <> all (passes)))
+    if started is null or asks and exists (select from wanzoche.waiter x
+        where x.log = l and x.worker <> w and x.since is not null and x.ticket <> all (passes))
     then
         waiters := wanzoche.who_waits(l, w);
     end if;
