@@ -715,8 +715,8 @@ class Disturbed(Round):
 
     worker = Enters
 
-    def __init__(self, fault, **named):
-        super().__init__(BOOK, 5, 1, server=the_server(), disturb=self.disturbs, grace=LONGEST, **named)
+    def __init__(self, fault, text=BOOK, **named):
+        super().__init__(text, 5, 1, server=the_server(), disturb=self.disturbs, grace=LONGEST, **named)
         self.fault = fault
 
     def disturbs(self, over, chance, noted, round):

@@ -25,6 +25,8 @@ ANSWER = 30.0
 """So many seconds a call waits for its answer. Then the session is given up, and another asks again."""
 MOST = 20000
 """So many lines the server gives at once."""
+COMPANY = 16
+"""For so many calls who has found lines of others takes it that others append."""
 BEHIND = 1000
 """A start is appended behind so many lines at most that its process hasn't read."""
 BESIDE = ("23505", "42P06", "42P07", "42710", "XX000")
@@ -195,8 +197,7 @@ class Log:
         self._grace = b""
         self._log = b""
         self._listens = False
-        self.has_company = False
-        """Whether others have appended lately."""
+        self._company = 0  # so many calls it is taken that others append
         self._commits = b"on"  # how the server commits what has to last
         self._answer = ANSWER  # so many seconds a call waits for its answer
         self.is_removed = False
@@ -579,8 +580,12 @@ class Log:
         if self.replica.lines != int(final) + 1:
             raise self.broken(if_others, self.replica.lines)
         self.place = Place(self.replica.lines, mark)
-        self.has_company = self.replica.lines > before + 1
+        self._company = COMPANY if self.replica.lines > before + 1 else max(self._company - 1, 0)
         return self.replica.lines - before
+
+    def has_company(self) -> bool:
+        """Whether others have appended lately."""
+        return self._company > 0
 
     def _take_over(self, text: bytes) -> None:
         marked = text.find(b"\n+") + 1 if b"+" in text and not text.startswith(b"+") else 0

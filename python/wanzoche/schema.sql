@@ -380,7 +380,7 @@ end $$;
 -- it asks.
 create or replace function wanzoche.wake(l int, w int, operations int[]) returns void
 language plpgsql set search_path = pg_catalog, pg_temp as $$
-declare x record; woken int[] := '{}'; channels text[] := '{}'; behind bigint; waiters text := ''; news text := '';
+declare x record; woken int[] := '{}'; channels text[] := '{}'; reads bigint[] := '{}'; waiters text := ''; news text := '';
 begin
     for x in select y.operation, y.worker, y.slot, y.reads, z.channel, y.worker = w or wanzoche.is_locked(z.lock) as is_alive,
             E'\n' || y.ticket || case when y.worker = w or wanzoche.is_locked(z.lock) then ' 1 ' else ' 0 ' end
@@ -396,18 +396,20 @@ begin
         else
             woken := woken || x.operation;
             channels := channels || case when x.worker = w then null else x.channel end;
-            behind := least(behind, case when x.worker = w then null else x.reads end);
+            reads := reads || case when x.worker = w then null else x.reads end;
         end if;
     end loop;
-    if behind is not null then
+    if array_remove(reads, null) <> '{}' then
         select min(z.place) || ' ' || (array_agg(z.stamp))[1] || E'\n' || string_agg(z.line, E'\n' order by z.place) || E'\n\n'
                 || wanzoche.microseconds(clock_timestamp()) || waiters into news
-            from (select y.* from wanzoche.line y where y.log = l and y.place >= behind order by y.place desc limit 100) z
+            from (select y.* from wanzoche.line y where y.log = l and y.place >= (select min(r) from unnest(reads) r)
+                order by y.place desc limit 100) z
             having max(z.place) = min(z.place) + count(*) - 1;
     end if;
     for place in 1..cardinality(woken) loop
         if channels[place] is not null then
-            perform pg_notify(channels[place], woken[place] || case when octet_length(news) between 1 and 7900 then ' ' || news else '' end);
+            perform pg_notify(channels[place],
+                woken[place] || case when reads[place] is not null and octet_length(news) between 1 and 7900 then ' ' || news else '' end);
         end if;
     end loop;
     if exists (select from wanzoche.waiting y where y.log = l and y.since is not null) then
