@@ -220,7 +220,7 @@ class Refusals(Faulty, unittest.TestCase):
         call = session.call
 
         def failing(calls, until):
-            if calls[0].name not in (b"finish", b"append"):
+            if calls[0].name not in (b"put_finish", b"finish", b"append"):
                 return call(calls, until)
             finishes.append(calls[0].name)
             if len(finishes) == 1:
@@ -299,9 +299,9 @@ class Refusals(Faulty, unittest.TestCase):
         for code in (CANCELLED, CUT):
             self.a.enter("read").leave()
             entry, names = self.statements_behind(code, lambda: self.a.enter("write", timeout=LONGEST))
-            self.assertTrue(names & {b"lasts", b"start_lasts"}, names)
+            self.assertTrue(names & {b"lasts", b"line_lasts"}, names)
             _, names = self.statements_behind(code, entry.leave)
-            self.assertTrue(names & {b"lasts", b"start_lasts"}, names)
+            self.assertTrue(names & {b"lasts", b"line_lasts"}, names)
 
     def test_a_session_that_is_cut_as_well(self):
         for behind in PLACES[1:]:

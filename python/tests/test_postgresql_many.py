@@ -314,7 +314,7 @@ class WrongStores(unittest.TestCase):
         self.server = Server(wal_writer_delay="10s")
         self.addCleanup(self.server.end)
         message, statements = "pg_logical_emit_message(true, 'wanzoche', '')", _log.STATEMENTS
-        patched = {name: statements[name].replace(message, "pg_current_xact_id()") for name in (b"lasts", b"start_lasts")}
+        patched = {name: statements[name].replace(message, "pg_current_xact_id()") for name in (b"lasts", b"line_lasts")}
         self.found(mock.patch.dict(_log.STATEMENTS, patched), disturb=restarts(self.server, 3), grace=10.0)
 
     def test_it_wakes_nobody(self):

@@ -63,7 +63,7 @@ class Counting(OnServer):
 
 @needs_server
 class Starts(Counting, unittest.TestCase):
-    ONE_TRIP = [["start", "start_lasts"]]
+    ONE_TRIP = [["start", "line_lasts"]]
 
     def test_behind_lines_of_other_paths(self):
         """Starts, finishes and uses: its number is higher by the starts."""
@@ -240,8 +240,9 @@ class Woken(OnLog, Counting, unittest.TestCase):
         for _ in range(60):
             c.enter("look").leave()
         trips = self.calls_of(b)
-        entry.leave()
-        waits.join(LONGEST)
+        with mock.patch.object(b._served._log, "forget", side_effect=AssertionError("it is read anew")):
+            entry.leave()
+            waits.join(LONGEST)
         self.assertEqual([trip[0] for trip in trips], ["lines_and_waiters", "start", "finish"])
 
     def test_readers_wake_one_another(self):
@@ -284,7 +285,7 @@ class Woken(OnLog, Counting, unittest.TestCase):
         self.assertEqual(len(self.lines()), 1)
         entry.leave()
         waits.join(LONGEST)
-        self.assertEqual(b.worker, "process 2")
+        self.assertEqual(self.lines()[1:], ["1 finish 0: finished", "2 start write: started 1", "2 finish 1: finished"])
         self.assertTrue(a.audit() and b.audit())
 
     def test_one_that_tells_too_late_who_waits(self):

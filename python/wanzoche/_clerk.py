@@ -654,7 +654,7 @@ class Clerk:
         """What the server is told of a start that is owed now, as this activation."""
         op, known = start.held._op, self.log.line.known
         rivals, touches, ends = self._rivals[op], None, b"{}"
-        live = self.log.replica.few_live(FEW) if self.log.has_company() and self._touches[op] is not None else None
+        live = None if self._touches[op] is None else self.log.replica.few_live(FEW)
         if live is not None:
             touches, ends = self._touches[op], array([each.number for each in live if each.operation in rivals])
         return Starting(self._names[op], number, touches, ends, tuple(rivals), known, start.priority, start.ticket)

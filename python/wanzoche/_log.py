@@ -35,6 +35,19 @@ HAS_SCHEMA = (
     "select exists (select from pg_class c join pg_namespace n on n.oid = relnamespace where nspname = 'wanzoche' and relname = 'schema')"
 )
 """Asked in this way since `to_regclass` may not see yet what another session has made."""
+PUT = (
+    "insert into wanzoche.line (log, place, line, by) select $1::int, $3::bigint, $5, $2::int "
+    "from (select from wanzoche.turn where log = $1::int for update) turn "
+    "where (select x.place = $3::bigint - 1 and x.stamp = $4::bigint from wanzoche.line x where x.log = $1::int "
+    "order by x.place desc limit 1){} on conflict do nothing returning stamp{}"
+)
+"""Appends one line, if its place is the next one: then there is a row. Not for the first line of a log."""
+MAY_PASS = (
+    " and not exists (select from wanzoche.waiter w where w.log = $1::int and w.worker <> $2::int and w.since is not null "
+    "and w.shuts <= clock_timestamp() and w.operation = any ($6::int[]) and w.ticket <> all ($7::bigint[]) "
+    "and (w.priority > $8::bigint or w.priority = $8::bigint and w.ticket < $9::bigint))"
+)
+"""Nobody stands before a start in whose way it might be, but for those that are known and that it may pass."""
 COPY = (
     "select min(x.place), max(x.place), count(*), string_agg(x.line, E'\\n' order by x.place) || E'\\n' from "
     "(select y.place, y.line from wanzoche.line y where y.log = $1 and y.place >= $2 order by y.place limit $3) x"
@@ -65,13 +78,15 @@ STATEMENTS = {
     b"leave": "select wanzoche.leave($1, $2)",
     b"lines": "select * from wanzoche.lines($1, $2, $3)",
     b"lines_and_waiters": "select x.*, wanzoche.who_waits($1, $4) from wanzoche.lines($1, $2, $3) x",
+    b"put_start": PUT.format(MAY_PASS, ""),
+    b"put_finish": PUT.format("", ", wanzoche.wake($1::int, $2::int, $6::int[])"),
     b"start": "select * from wanzoche.start($1, $2, $3, $4, $5, $6, $7, $8, $9, $10, $11, $12, $13, $14, $15)",
     b"finish": "select * from wanzoche.finish($1, $2, $3, $4, $5, $6)",
     b"listen": "select wanzoche.listen($1, $2)",
     b"stand": "select * from wanzoche.stand($1, $2, $3, $4, $5, $6, $7, $8, $9)",
     b"waiters": "select wanzoche.who_waits($1, $2)",
     b"lasts": LASTS,
-    b"start_lasts": LASTS + " where exists (select from wanzoche.line where log = $2 and place >= $3 and by = $4)",
+    b"line_lasts": LASTS + " where exists (select from wanzoche.line where log = $2 and place >= $3 and by = $4)",
     b"append": "select * from wanzoche.append($1, $2, $3, $4, $5, $6, $7, '{}', '{}', false, $8)",
     b"turn": "select x.*, wanzoche.who_waits($1, $4) from wanzoche.turn($1, $2, $3) x",
     b"copy": COPY,
@@ -355,10 +370,13 @@ class Log:
             if text is None and not (over or wakes or leaves or is_stepped):
                 self.look(waits)
                 return Appended(False)
-            if starting is not None and not over:
-                return self._start(starting, wishes, before, looks)
+            if starting is not None and text is not None and not over:
+                is_alone = not (looks or self.has_company() or any(wishes))
+                quick = self._put_start(starting, text, before) if is_alone else None
+                return quick or self._start(starting, wishes, before, looks)
             if text is None and len(over) == 1 and not (waits or leaves or looks or is_stepped):
-                return self._finish(over[0], wakes, before)
+                quick = None if self.has_company() else self._put_finish(over[0], wakes, before)
+                return quick or self._finish(over[0], wakes, before)
             return self._append(text, wishes, before, is_stepped, looks)
         except Moved as error:
             if is_stepped:
@@ -396,6 +414,29 @@ class Log:
             self.look(waits)
         return Appended(is_in, {int(each) for each in (taken or b"{}")[1:-1].split(b",") if each})
 
+    def _put_start(self, starting: Starting, line: bytes, before: Place) -> Optional[Appended]:
+        """Appends a start in a quicker way, if its place is the next one; None if it isn't."""
+        given = array(starting.rivals), starting.known, b"%d" % starting.priority, b"%d" % starting.ticket
+        return Appended(True, set(), starting.number) if self._put(b"put_start", line, before, given) else None
+
+    def _put_finish(self, activation: int, wakes: Sequence[int], before: Place) -> Optional[Appended]:
+        """A finish likewise."""
+        line = b"%d finish %d: finished" % (self.worker, activation)
+        return Appended(False) if self._put(b"put_finish", line, before, (array(wakes),)) else None
+
+    def _put(self, name: bytes, line: bytes, before: Place, given: Row) -> bool:
+        """Appends a line by a statement, which is quicker than a function where nobody else appends: whether it was the next one."""
+        place, worker = b"%d" % before.lines, b"%d" % self.worker
+        calls = [Call(name, (self._log, worker, place, before.stamp, line, *given))]
+        if self._sync:
+            calls.append(Call(b"line_lasts", (self._commits, self._log, place, worker)))
+        rows = self._call(*calls)[0] if before.lines > 0 else []
+        if rows:
+            self._take((line, place, rows[0][0]))
+        else:
+            self._company = COMPANY
+        return bool(rows)
+
     def _finish(self, activation: int, wakes: Sequence[int], before: Place) -> Appended:
         """Appends a finish, behind whatever lines there are."""
         given: Row = (self._log, b"%d" % self.worker, b"%d" % before.lines, before.stamp, b"%d" % activation, array(wakes))
@@ -414,7 +455,7 @@ class Log:
         given = (*given, array(rivals), known, b"%d" % priority, b"%d" % ticket, array(wakes), array(leaves), asks)
         calls = [Call(b"start", given)]
         if self._sync:
-            calls.append(Call(b"start_lasts", (self._commits, self._log, place, worker)))
+            calls.append(Call(b"line_lasts", (self._commits, self._log, place, worker)))
         found = self._call(*calls, *self._stands(waits))
         self._listens = self._listens or bool(waits)
         begun, *row, waiters = found[0][0]
