@@ -246,14 +246,23 @@ class Woken(OnLog, Counting, unittest.TestCase):
         self.assertEqual([trip[0] for trip in trips], ["lines_and_waiters", "start", "finish"])
 
     def test_readers_wake_one_another(self):
-        """All that waited begin, and each of them once a finish has woken the first."""
+        """A finish wakes the first, and all of them are in at once."""
         a, openings = self.strict(BOOK), [self.strict(BOOK) for _ in range(4)]
+
+        def reads(paths, inside):
+            with paths("read", timeout=LONGEST):
+                inside.wait()
+
         for _ in range(3):
-            entry = a.enter("write")
-            readers = [self.waits(each, "read") for each in openings]
+            entry, inside, readers = a.enter("write"), threading.Barrier(4, timeout=LONGEST), []
+            for each in openings:
+                readers.append(threading.Thread(target=reads, args=(each, inside)))
+                readers[-1].start()
+                self.until(lambda: len(self.rows()) == len(readers))
             entry.leave()
             for each in readers:
                 each.join(LONGEST)
+            self.assertEqual([line.split()[1] for line in self.lines()[-8:]], 4 * ["start"] + 4 * ["finish"])
         self.assertTrue(a.audit())
 
     def forged(self, paths, told):

@@ -383,12 +383,11 @@ language plpgsql set search_path = pg_catalog, pg_temp as $$
 declare x record; woken int[] := '{}'; channels text[] := '{}'; reads bigint[] := '{}'; waiters text := ''; news text := '';
 begin
     for x in select y.operation, y.worker, y.slot, y.reads, z.channel, y.worker = w or wanzoche.is_locked(z.lock) as is_alive,
-            E'\n' || y.ticket || case when y.worker = w or wanzoche.is_locked(z.lock) then ' 1 ' else ' 0 ' end
-            || coalesce(y.told, wanzoche.told_of(y)) as told
+            y.ticket, coalesce(y.told, wanzoche.told_of(y)) as told
         from wanzoche.waiter y left join wanzoche.worker z on z.log = y.log and z.worker = y.worker
         where y.log = l and y.since is not null order by y.priority desc, y.ticket
     loop
-        waiters := waiters || x.told;
+        waiters := waiters || E'\n' || x.ticket || case when x.is_alive then ' 1 ' else ' 0 ' end || x.told;
         if x.operation <> all (operations) or x.operation = any (woken) then
             continue;
         elsif not x.is_alive then
