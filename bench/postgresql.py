@@ -1,11 +1,12 @@
 #!/usr/bin/env python3
 """What paths over a log in PostgreSQL take: enter and leave beside two bare transactions, waking beside a bare NOTIFY, and many processes
-beside PostgreSQL's own advisory locks.
+beside PostgreSQL's own advisory locks, and beside as many that insert two rows for each entry.
 
     WANZOCHE_CORE=out/python/_core.abi3.so WANZOCHE_LIBRARY=out/lib/libwanzoche.so PYTHONPATH=python \\
-        python3 bench/postgresql.py URL [ROUNDS [opening]]
+        python3 bench/postgresql.py URL [ROUNDS [opening | many]]
 
-All is measured in turn, at a server that has what it came with. With `opening` only that is, which is best done in a database without logs.
+All is measured in turn, at a server that has what it came with. With `opening` only that is, which is best done in a database without logs;
+with `many` only what many processes do.
 """
 
 import os
@@ -20,6 +21,8 @@ from wanzoche import Paths, audit
 
 BOOK = "resource book cell operation read, write path { read } , write end end"
 SLOT = "resource slot cell operation deposit, remove path deposit ; remove end end"
+OWN = "resource r cell operation {} {} end".format(", ".join("o%d" % n for n in range(32)), " ".join("path o%d end" % n for n in range(32)))
+"""Each process has an operation that no other wants."""
 LINE = "1 start write: started 17"
 
 
@@ -122,12 +125,30 @@ def many(url, processes, seconds, text, sync, threads=1):
         time.sleep(max(begin - time.monotonic(), 0))
         while time.monotonic() < end:
             n += 1
-            operation = paths.operations[n % 2] if text == BOOK else paths.operations[number % 2]
+            operation = paths.operations[(n if text == BOOK else number) % len(paths.operations)]
             try:
                 with paths(operation, timeout=2):
                     count += 1
             except TimeoutError:
                 break
+        return count
+
+    return sum(in_processes(processes, work, seconds)) / seconds
+
+
+def inserts(url, processes, seconds):
+    """The same of two bare inserts, each of which waits for the disk."""
+    with connected(url) as connection:
+        connection.execute("create table if not exists bare (log int, place bigint, line text, primary key (log, place))")
+        connection.execute("truncate bare")
+
+    def work(number, begin, end):
+        connection, count = connected(url), 0
+        time.sleep(max(begin - time.monotonic(), 0))
+        while time.monotonic() < end:
+            for place in (2 * count, 2 * count + 1):
+                connection.execute("insert into bare values (%s, %s, %s)", (number, place, LINE))
+            count += 1
         return count
 
     return sum(in_processes(processes, work, seconds)) / seconds
@@ -276,10 +297,21 @@ def opening(url, lines, rounds):
 
 
 def main(url, rounds, only):
+    if only == "many":
+        each_count(url, rounds)
+        return
     if only != "opening":
         calls(url, rounds)
     for lines in (100000, 1000000):
         opening(url, lines, rounds)
+
+
+def each_count(url, rounds):
+    """Entries a second of many processes with a sync: at a book, each at an operation of its own, and of inserts by hand."""
+    for processes in (2, 8, 32):
+        found = [(many(url, processes, 2, BOOK, True), many(url, processes, 2, OWN, True), inserts(url, processes, 2)) for _ in range(rounds)]
+        told = "{} processes, sync: {:.0f} entries a second at a book, {:.0f} each of its own, {:.0f} of two inserts"
+        print(told.format(processes, *map(statistics.median, zip(*found))), flush=True)
 
 
 def calls(url, rounds):

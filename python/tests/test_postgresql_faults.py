@@ -220,7 +220,7 @@ class Refusals(Faulty, unittest.TestCase):
         call = session.call
 
         def failing(calls, until):
-            if calls[0].name not in (b"put", b"put_and_wake", b"append"):
+            if calls[0].name not in (b"put_finish", b"finish", b"append"):
                 return call(calls, until)
             finishes.append(calls[0].name)
             if len(finishes) == 1:
@@ -325,13 +325,13 @@ class Rights(Faulty, unittest.TestCase):
         self.a = self.open(BOOK, store=self.server.url.replace("postgres@", "app@"), outage=4 * LONGEST)
 
     def test_a_call_behind_the_line(self):
-        """The line is there, and what is called behind it is refused: nobody holds what was started."""
+        """The line is there, and what is called behind it is refused, or to read what others have appended: nobody holds what was started."""
         for function in ("pg_logical_emit_message(boolean, text, text)", "wanzoche.lines(int, bigint, bigint)"):
             with self.subTest(function):
                 self.server.run("revoke execute on function {} from public".format(function))
                 try:
                     for _ in range(3):
-                        self.a._served._log._has_company = True  # so it looks behind its line, too
+                        self.all_enter(self.b)
                         with self.assertRaisesRegex(StoreError, "permission denied for function"):
                             self.a.enter("write")
                 finally:
@@ -715,8 +715,8 @@ class Disturbed(Round):
 
     worker = Enters
 
-    def __init__(self, fault, **named):
-        super().__init__(BOOK, 5, 1, server=the_server(), disturb=self.disturbs, grace=LONGEST, **named)
+    def __init__(self, fault, text=BOOK, **named):
+        super().__init__(text, 5, 1, server=the_server(), disturb=self.disturbs, grace=LONGEST, **named)
         self.fault = fault
 
     def disturbs(self, over, chance, noted, round):

@@ -289,9 +289,11 @@ class WrongStores(unittest.TestCase):
         self.found(mock.patch.object(_clerk, "CHECK", 0.02), sql=dead + "$$ select unnest(workers) $$")
 
     def test_it_appends_without_the_place(self):
-        put = _log.PUT.replace("$3::bigint, $5", "coalesce((select max(place) + 1 from wanzoche.line where log = $1::int), 0), $5")
-        patched = {name: text.replace(_log.PUT, put) for name, text in _log.STATEMENTS.items()}
-        self.found(mock.patch.dict(_log.STATEMENTS, patched))
+        """A start goes behind whatever there is."""
+        told = self.server.run("select pg_get_functiondef('wanzoche.starts_among'::regproc)")[0][0]
+        wrong = told.replace("touches is null", "false").replace("found[1] = any (touches) or found[2] = any (ends)", "false")
+        self.assertEqual(wrong.count("false"), 2)
+        self.found(sql=wrong)
 
     def test_it_has_no_unique_finish(self):
         told = self.server.run("select pg_get_functiondef('wanzoche.put_finishes'::regproc)")[0][0]

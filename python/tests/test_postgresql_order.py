@@ -273,7 +273,7 @@ class Patience(OnLog, unittest.TestCase):
         entry = a.enter("read")
         writer = self.waits(b, "write")
         c.enter("read", timeout=LONGEST).leave()
-        self.server.run("update wanzoche.waiter set shuts = since where since is not null")  # as if it had waited for so long
+        self.server.run("update wanzoche.waiter set shuts = since, told = null where since is not null")  # as if it had waited for so long
         self.assertIsNone(self.strict().try_enter("read"))
         entry.leave()
         writer.join(LONGEST)

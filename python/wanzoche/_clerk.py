@@ -19,9 +19,9 @@ from typing import Any, Callable, Deque, Dict, List, Optional, Sequence, Set, Tu
 
 from . import _native as native
 from ._errors import Closed, CorruptStore, StoreError
-from ._log import Gone, Log, Passing, Wait, Wishes, may_pass
+from ._log import Gone, Log, Starting, Wait, Wishes, may_pass
 from ._order import NEVER, Told
-from ._postgresql import Cut, Slow
+from ._postgresql import Cut, Slow, array
 from ._requests import Batch, Bell, Finish, Held, Nobody, Question, Request, Start, Use, wake_nobody
 from ._served_order import LAST, Here, Standing
 from ._texts import Path
@@ -38,6 +38,8 @@ CONNECTING = 10.0
 """So many seconds one attempt to connect may take."""
 CLOSING = 2.0
 """So many seconds a close tries to tell the server what it has to."""
+FEW = 64
+"""Of more that is in progress it isn't told what shares a path with a start, so that start goes behind no line that isn't read."""
 SPARE = 0.1
 """So many seconds behind its time limit a caller waits for an answer."""
 PAUSE, LONGEST_PAUSE = 0.01, 1.0
@@ -84,6 +86,7 @@ class Clerk:
         self._names = {op: name.encode() for name, op in numbers.items()}
         self._ops = {b"%d" % op: op for op in numbers.values()}  # as a notification says them
         self._rivals = _rivals(paths, numbers)
+        self._touches = [_touches(rivals, self._names) for rivals in self._rivals]
         self._finishes_lost, self._longest_outage = finishes_lost, outage
         self._inbox: Deque[Request] = deque()
         self._bell = Bell()
@@ -110,6 +113,7 @@ class Clerk:
         self._passes: Set[int] = set()  # the operations of which the next waiter has yet to be woken
         self._beaten = 0
         self._alone: Set[int] = set()  # the operations of which two were never admitted at once
+        self._beside: List[Set[int]] = [set() for _ in self._rivals]  # of each operation those that were admitted behind its start
         self._is_stale = False
         self._has_moved = False  # whether the last step moved lines: then the next one does something else first
         self._is_unsure = False  # whether something was given up that may have been done
@@ -305,7 +309,8 @@ class Clerk:
             answer = log.replica.owed_start(log.worker, request.held._op)
             if answer.code == native.STARTED and self._withheld_for(request) is None:
                 line = self._start_line(request.held._op, answer.number)
-                return Batch(((request, line),), {}, Wishes(), log.place, False, self._passing(request))
+                wishes = Wishes((), tuple(self._may_go_on_behind(request)))
+                return Batch(((request, line),), {}, wishes, log.place, False, self._starting(request, answer.number))
         elif isinstance(request, Finish):
             held = request.held
             if held._live and self.held.get(held._number) is held and not self._is_lost(held._number):
@@ -518,12 +523,12 @@ class Clerk:
         notices = self.log.session.notices
         if not notices:
             return
-        for notice in notices:
-            op = self._ops.get(notice)  # a hint at most: whoever may use the database may notify, and say anything
+        while notices:
+            notice = notices.pop(0)
+            op = self._ops.get(notice.partition(b"\n")[0].partition(b" ")[0])
             if op is not None and not any(each.is_ready() for each in self._starts.get(op, ())):
                 self._passes.add(op)  # nobody here wants it any more
-        self._is_stale = True
-        notices.clear()
+            self._is_stale = not self.log.take_notice(notice) or self._is_stale
 
     def _append(self) -> bool:
         """What is wanted now, in one append. False if nothing is."""
@@ -539,8 +544,8 @@ class Clerk:
         looks = self._uses or any(not (each.waits or each.has_looked) for queue in self._starts.values() for each in queue)
         if not (wanted or looks or any(wishes)):
             return False
-        passing = self._passing(first) if isinstance(first, Start) else None
-        self._send(Batch(tuple(wanted), finishes, wishes, self.log.place, False, passing))
+        starting = self._starting(first, _number_of(wanted[0][1])) if isinstance(first, Start) else None
+        self._send(Batch(tuple(wanted), finishes, wishes, self.log.place, False, starting))
         return True
 
     def _wishes(self, finishes: Dict[int, Finish], first: Optional[Request]) -> Wishes:
@@ -549,6 +554,8 @@ class Clerk:
         wakes |= {op for op in self._passes if self.log.replica.can_start(op)}
         self._passes.clear()
         begins = [] if first is None else [first]
+        if isinstance(first, Start):
+            wakes |= self._may_go_on_behind(first)
         waits, leaves = self._waits(begins), self._leaves(begins)
         return Wishes(tuple(finishes), tuple(wakes | self._freed(leaves, begins)), waits, leaves)
 
@@ -626,7 +633,8 @@ class Clerk:
 
     def _withheld_for(self, start: Start) -> Optional[Standing]:
         """For whom a start is withheld that no path forbids now. If it waits, it asks again when that one's door opens."""
-        if not self.log.line.others and not self._has_waiters():
+        others = self.log.line.others
+        if (not others or start.key() < others[0].key()) and self._is_only(start):
             return None
         now = time.monotonic_ns()
         ahead = self.log.line.withheld_for(self._standing(start), self._own(), now)
@@ -634,17 +642,36 @@ class Clerk:
             self._opens_at = min(self._opens_at, ahead.opens_at(now) * 1e-9)
         return ahead
 
+    def _is_only(self, start: Start) -> bool:
+        """Whether nobody else wants a start here."""
+        return all(each is start for queue in self._starts.values() for each in queue)
+
     def _is_held_back(self, start: Start) -> bool:
         """Whether a path forbids it, or it is withheld."""
         return not self.log.replica.can_start(start.held._op) or self._withheld_for(start) is not None
 
-    def _passing(self, start: Start) -> Passing:
-        return Passing(tuple(self._rivals[start.held._op]), self.log.line.known, start.priority, start.ticket)
+    def _starting(self, start: Start, number: int) -> Starting:
+        """What the server is told of a start that is owed now, as this activation."""
+        op, known = start.held._op, self.log.line.known
+        rivals, touches, ends = self._rivals[op], None, b"{}"
+        live = None if self._touches[op] is None else self.log.replica.few_live(FEW)
+        if live is not None:
+            touches, ends = self._touches[op], array([each.number for each in live if each.operation in rivals])
+        return Starting(self._names[op], number, touches, ends, tuple(rivals), known, start.priority, start.ticket)
 
-    def _pass_on(self) -> None:
+    def _may_go_on_behind(self, start: Start) -> Set[int]:
+        """The operations for which others wait who may go on as soon as this one is in, as far as it was so before."""
+        beside = self._beside[start.held._op]
+        return beside and {each.operation for each in self.log.line.others if each.operation in beside}
+
+    def _pass_on(self, batch: Batch, is_in: bool) -> None:
         """Behind what may let others go on of which no finish tells them: they are to be woken."""
         if self.log.line.others:
-            self._passes |= self.log.line.may_go_on(self._own(), time.monotonic_ns())
+            able = self.log.line.may_go_on(self._own(), time.monotonic_ns())
+            self._passes |= able.difference(batch.wishes.wakes) if is_in else able
+            for request, _ in batch.lines if is_in else ():
+                if isinstance(request, Start):
+                    self._beside[request.held._op] = able
 
     def _taken_finishes(self) -> Dict[int, Finish]:
         """What is to be finished: those of which the log doesn't say that they are over."""
@@ -796,9 +823,9 @@ class Clerk:
         """Appends, and replies. If the session is cut meanwhile, the batch is sent again by the next one. If the server refuses something,
         the batch is on its way until the log says whether its lines are there."""
         self._flight = batch
-        given: Dict[str, Any] = {"before": batch.before, "is_stepped": batch.is_stepped, "passing": batch.passing}
+        given: Dict[str, Any] = {"before": batch.before, "is_stepped": batch.is_stepped, "starting": batch.starting}
         given["looks"] = self._looks_with(batch)
-        is_in, taken = self.log.append(batch.text(), batch.wishes, **given)
+        is_in, taken, begun = self.log.append(batch.text(), batch.wishes, **given)
         self._flight, self._outage = None, None
         self._note_slots(batch.wishes, is_in or not batch.lines)
         self._looked()
@@ -806,7 +833,7 @@ class Clerk:
             self._finished(batch.finishes[number], number, number in taken)
         if is_in:
             self._beaten = 0
-            self._confirm(batch)
+            self._confirm(batch if begun is None else batch.with_number(begun))
         elif batch.lines:
             self._beaten += 1
             self._passes.update(batch.wishes.wakes)
@@ -814,7 +841,7 @@ class Clerk:
             if batch.is_stepped:
                 self._begin_anew()
         if is_in or any(each.holds for each in batch.wishes.waits):
-            self._pass_on()
+            self._pass_on(batch, is_in)
         self._reply_blocked()
 
     def _looks_with(self, batch: Batch) -> bool:
@@ -873,11 +900,11 @@ class Clerk:
         """Its lines are in the log."""
         for request, line in batch.lines:
             if isinstance(request, Start):
-                self._started(request, int(line.rsplit(b" ", 1)[1]))
+                self._started(request, _number_of(line))
             elif isinstance(request, Use):
                 if request in self._uses:
                     self._uses.remove(request)
-                request.number = int(line.rsplit(b" ", 1)[1])
+                request.number = _number_of(line)
                 request.reply(native.USED)
             elif isinstance(request, Finish):
                 self._finished(request, int(line.split(b" ")[2][:-1]), False)
@@ -1150,14 +1177,15 @@ class Clerk:
         self._follow()
         flight, own = self._flight, {each.number for each in self.log.replica.live() if each.worker == self.log.worker}
         text = None if flight is None else flight.text()
-        is_in = flight is not None and text is not None and self.log.has(text, flight.before.lines)
+        number = None if flight is None or flight.starting is None else self.log.begun(flight.starting, flight.before.lines)
+        is_in = number is not None or flight is not None and text is not None and self.log.has(text, flight.before.lines)
         gone = sorted(set(self.held) - own)
         ended = self.log.own_finishes(gone)
         if is_in or ended:
             self.log.make_last()
         if flight is not None and is_in:
             self._flight = flight._replace(lines=())
-            self._confirm(flight)
+            self._confirm(flight if number is None else flight.with_number(number))
         self._take_flight_back()
         for number in gone:
             held = self.held.pop(number, None)  # and whoever leaves it is told so
@@ -1199,6 +1227,16 @@ def _firsts(queue: Sequence[Start]) -> List[Start]:
 
 def _requests_of(batch: Optional[Batch]) -> List[Request]:
     return [] if batch is None else [*(each for each, _ in batch.lines), *batch.finishes.values()]
+
+
+def _number_of(line: bytes) -> int:
+    """What the reply of a line has at its end."""
+    return int(line.rsplit(b" ", 1)[1])
+
+
+def _touches(rivals: Set[int], names: Dict[int, bytes]) -> Optional[bytes]:
+    """The names of these operations, as an array; None if they are all that there are, as nothing goes behind a line of theirs."""
+    return None if len(rivals) == len(names) else b"{%b}" % b",".join(b'"%b"' % names[op] for op in sorted(rivals))
 
 
 def _rivals(paths: Sequence[Path], numbers: Dict[str, int]) -> List[Set[int]]:

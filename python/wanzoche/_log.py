@@ -12,10 +12,10 @@ from . import _native as native
 from ._errors import CorruptStore, OtherDeclaration, StoreError
 from ._postgresql import AGAIN, CANCELLED, HEARTBEAT, Call, Complaint, Cut, Row, Session, Slow, array
 from ._replica import ROOM, Replica
-from ._served_order import LEAVE, MAY_PASS, WAIT, WAITERS, ServedLine
+from ._served_order import ServedLine
 from ._store import difference
 
-SCHEMA = 5
+SCHEMA = 6
 """The number of the schema that this package knows. It brings one of an earlier number there."""
 MOST_IN_SEGMENT = native.MOST_LINES - ROOM
 """So many may: what is in progress behind them has room in a journal, too."""
@@ -25,22 +25,29 @@ ANSWER = 30.0
 """So many seconds a call waits for its answer. Then the session is given up, and another asks again."""
 MOST = 20000
 """So many lines the server gives at once."""
+COMPANY = 16
+"""For so many calls who has found lines of others takes it that others append."""
+BEHIND = 1000
+"""A start is appended behind so many lines at most that its process hasn't read."""
 BESIDE = ("23505", "42P06", "42P07", "42710", "XX000")
 """What the server may say of a schema that another makes at once."""
 HAS_SCHEMA = (
     "select exists (select from pg_class c join pg_namespace n on n.oid = relnamespace where nspname = 'wanzoche' and relname = 'schema')"
 )
 """Asked in this way since `to_regclass` may not see yet what another session has made."""
-PUT_IF = (
+PUT = (
     "insert into wanzoche.line (log, place, line, by) select $1::int, $3::bigint, $5, $2::int "
     "from (select from wanzoche.turn where log = $1::int for update) turn "
     "where (select x.place = $3::bigint - 1 and x.stamp = $4::bigint from wanzoche.line x where x.log = $1::int "
-    "order by x.place desc limit 1){} on conflict do nothing returning stamp"
+    "order by x.place desc limit 1){} on conflict do nothing returning stamp{}"
 )
-PUT = PUT_IF.format("")
 """Appends one line, if its place is the next one: then there is a row. Not for the first line of a log."""
-PUT_START = PUT_IF.format(MAY_PASS)
-"""The same of a start, if it also keeps to the order of those who wait."""
+MAY_PASS = (
+    " and not exists (select from wanzoche.waiter w where w.log = $1::int and w.worker <> $2::int and w.since is not null "
+    "and w.shuts <= clock_timestamp() and w.operation = any ($6::int[]) and w.ticket <> all ($7::bigint[]) "
+    "and (w.priority > $8::bigint or w.priority = $8::bigint and w.ticket < $9::bigint))"
+)
+"""Nobody stands before a start in whose way it might be, but for those that are known and that it may pass."""
 COPY = (
     "select min(x.place), max(x.place), count(*), string_agg(x.line, E'\\n' order by x.place) || E'\\n' from "
     "(select y.place, y.line from wanzoche.line y where y.log = $1 and y.place >= $2 order by y.place limit $3) x"
@@ -70,18 +77,18 @@ STATEMENTS = {
     b"hold": "select wanzoche.hold($1, $2)",
     b"leave": "select wanzoche.leave($1, $2)",
     b"lines": "select * from wanzoche.lines($1, $2, $3)",
-    b"put": PUT,
-    b"put_and_wake": PUT + ", wanzoche.wake($1::int, $2::int, $6::int[])",
-    b"put_start": PUT_START,
-    b"put_start_and_wake": PUT_START + ", wanzoche.wake($1::int, $2::int, $10::int[])",
+    b"lines_and_waiters": "select x.*, wanzoche.who_waits($1, $4) from wanzoche.lines($1, $2, $3) x",
+    b"put_start": PUT.format(MAY_PASS, ""),
+    b"put_finish": PUT.format("", ", wanzoche.wake($1::int, $2::int, $6::int[])"),
+    b"start": "select * from wanzoche.start($1, $2, $3, $4, $5, $6, $7, $8, $9, $10, $11, $12, $13, $14, $15)",
+    b"finish": "select * from wanzoche.finish($1, $2, $3, $4, $5, $6)",
     b"listen": "select wanzoche.listen($1, $2)",
-    b"wait": WAIT,
-    b"leave_slots": LEAVE,
-    b"waiters": WAITERS,
+    b"stand": "select * from wanzoche.stand($1, $2, $3, $4, $5, $6, $7, $8, $9)",
+    b"waiters": "select wanzoche.who_waits($1, $2)",
     b"lasts": LASTS,
-    b"line_lasts": LASTS + " from wanzoche.line where log = $2 and place = $3 and line = $4",
+    b"line_lasts": LASTS + " where exists (select from wanzoche.line where log = $2 and place >= $3 and by = $4)",
     b"append": "select * from wanzoche.append($1, $2, $3, $4, $5, $6, $7, '{}', '{}', false, $8)",
-    b"turn": "select * from wanzoche.turn($1, $2, $3)",
+    b"turn": "select x.*, wanzoche.who_waits($1, $4) from wanzoche.turn($1, $2, $3) x",
     b"copy": COPY,
     b"segment": SEGMENT_AT,
     b"own": OWN,
@@ -132,13 +139,20 @@ class Wait(NamedTuple):
     """The activations that it has in progress."""
 
 
-class Passing(NamedTuple):
-    """Whom a start may pass of those who wait in other processes."""
+class Starting(NamedTuple):
+    """One start that is to be appended: it is owed where its process has read all lines."""
 
+    operation: bytes
+    number: int
+    """Which activation it begins there."""
+    touches: Optional[bytes]
+    """The names of the operations that share a path with it, as an array: it may go behind lines of others. None if it may not."""
+    ends: bytes
+    """The activations of those operations that are in progress there."""
     rivals: Sequence[int]
-    """The operations that share a path with it: who waits for another isn't in its way."""
-    known: Sequence[int]
-    """The tickets of those that it knows of, and that it isn't withheld for."""
+    """The numbers of those operations: who waits for another isn't in its way."""
+    known: bytes
+    """The tickets of those who wait that it knows of, and isn't withheld for: it may pass them."""
     priority: int
     ticket: int
 
@@ -153,6 +167,17 @@ class Wishes(NamedTuple):
     waits: Sequence[Wait] = ()
     leaves: Sequence[int] = ()
     """The slots in which nobody waits any more."""
+
+
+class Appended(NamedTuple):
+    """What became of an append."""
+
+    is_in: bool
+    """Whether its lines are in the log."""
+    taken: Set[int] = set()
+    """Which of the activations that were to be finished others have finished."""
+    number: Optional[int] = None
+    """Which activation a start has begun that may be behind lines of others."""
 
 
 class Place(NamedTuple):
@@ -187,7 +212,7 @@ class Log:
         self._grace = b""
         self._log = b""
         self._listens = False
-        self._has_company = False  # whether others have appended lately
+        self._company = 0  # so many calls it is taken that others append
         self._commits = b"on"  # how the server commits what has to last
         self._answer = ANSWER  # so many seconds a call waits for its answer
         self.is_removed = False
@@ -334,35 +359,34 @@ class Log:
         *,
         before: Place,
         is_stepped: bool,
-        passing: Optional[Passing] = None,
+        starting: Optional[Starting] = None,
         looks: bool = False,
-    ) -> Tuple[bool, Set[int]]:
-        """Appends lines if their place is the next one, and finishes, and takes over what has come: whether the lines are in the log, and
-        which of the finishes are others'. With `is_stepped` the replica has taken these lines already, in a turn, which ends. One line that
-        is a start is appended if it is `passing` nobody else who waits; with `looks` it is known then who waits."""
+    ) -> Appended:
+        """Appends lines if their place is the next one, and finishes, and takes over what has come. With `is_stepped` the replica has taken
+        these lines already, in a turn, which ends. One line that is `starting` something may go behind lines of others; with `looks` it is
+        known then who waits."""
         over, wakes, waits, leaves = wishes
-        is_one = len(over) + (text is not None) == 1 and (text is None or b"\n" not in text) and before.lines > 0
         try:
             if text is None and not (over or wakes or leaves or is_stepped):
                 self.look(waits)
-                return False, set()
-            if not is_one or is_stepped or leaves and over:
-                return self._append(text, wishes, before, is_stepped, looks)
-            line = b"%d finish %d: finished" % (self.worker, over[0]) if text is None else text
-            is_put, is_there = self._put(line, wishes, before, passing, looks)
-            if text is not None or is_put:
-                return is_there and text is not None, set()
+                return Appended(False)
+            if starting is not None and text is not None and not over:
+                is_alone = not (looks or self.has_company() or any(wishes))
+                quick = self._put_start(starting, text, before) if is_alone else None
+                return quick or self._start(starting, wishes, before, looks)
+            if text is None and len(over) == 1 and not (waits or leaves or looks or is_stepped):
+                quick = None if self.has_company() else self._put_finish(over[0], wakes, before)
+                return quick or self._finish(over[0], wakes, before)
+            return self._append(text, wishes, before, is_stepped, looks)
         except Moved as error:
             if is_stepped:
                 raise Gone(str(error)) from error  # of a turn that was cut off: all is read anew, since the replica is ahead
             self.follow()
-        return self._append_rest(text, wishes, before, looks)
+        return self._append_rest(text, wishes, before, starting, looks)
 
-    def _append(
-        self, text: Optional[bytes], wishes: Wishes, before: Place, is_stepped: bool, looks: bool
-    ) -> Tuple[bool, Set[int]]:
-        """The same in one call, whatever it is; who waits from now on does so by another. Raises `Moved` if nothing was done since what
-        follows `before` was moved."""
+    def _append(self, text: Optional[bytes], wishes: Wishes, before: Place, is_stepped: bool, looks: bool) -> Appended:
+        """The same of lines that go nowhere else, and finishes; who waits from now on does so by another call. Raises `Moved` if nothing was
+        done since what follows `before` was moved."""
         over, wakes, waits, leaves = wishes
         given = (self._log, b"%d" % self.worker, b"%d" % before.lines, before.stamp, text, array(over), array(wakes), array(leaves))
         calls = [Call(b"append", given)]
@@ -385,15 +409,93 @@ class Log:
             if self._take((news, final, mark)) >= MOST:
                 self.follow()
         if asks:
-            self._know_waiters(found[-1])
+            self._know_waiters(found[-1][0][0])
         elif waits:
             self.look(waits)
-        return is_in, {int(each) for each in (taken or b"{}")[1:-1].split(b",") if each}
+        return Appended(is_in, {int(each) for each in (taken or b"{}")[1:-1].split(b",") if each})
 
-    def _append_rest(self, text: Optional[bytes], wishes: Wishes, before: Place, looks: bool) -> Tuple[bool, Set[int]]:
-        """The same when others were quicker, and all is taken over that they have appended: what isn't done yet is done behind it. What the
-        log doesn't know as live is over."""
-        is_in = text is not None and self.has(text, before.lines)
+    def _put_start(self, starting: Starting, line: bytes, before: Place) -> Optional[Appended]:
+        """Appends a start in a quicker way, if its place is the next one; None if it isn't."""
+        given = array(starting.rivals), starting.known, b"%d" % starting.priority, b"%d" % starting.ticket
+        return Appended(True, set(), starting.number) if self._put(b"put_start", line, before, given) else None
+
+    def _put_finish(self, activation: int, wakes: Sequence[int], before: Place) -> Optional[Appended]:
+        """A finish likewise."""
+        line = b"%d finish %d: finished" % (self.worker, activation)
+        return Appended(False) if self._put(b"put_finish", line, before, (array(wakes),)) else None
+
+    def _put(self, name: bytes, line: bytes, before: Place, given: Row) -> bool:
+        """Appends a line by a statement, which is quicker than a function where nobody else appends: whether it was the next one."""
+        place, worker = b"%d" % before.lines, b"%d" % self.worker
+        calls = [Call(name, (self._log, worker, place, before.stamp, line, *given))]
+        if self._sync:
+            calls.append(Call(b"line_lasts", (self._commits, self._log, place, worker)))
+        rows = self._call(*calls)[0] if before.lines > 0 else []
+        if rows:
+            self._take((line, place, rows[0][0]))
+        else:
+            self._company = COMPANY
+        return bool(rows)
+
+    def _finish(self, activation: int, wakes: Sequence[int], before: Place) -> Appended:
+        """Appends a finish, behind whatever lines there are."""
+        given: Row = (self._log, b"%d" % self.worker, b"%d" % before.lines, before.stamp, b"%d" % activation, array(wakes))
+        calls = [Call(b"finish", given)] + [self._lasts()] * self._sync
+        news, final, mark, is_taken = self._call(*calls)[0][0]
+        if self._take((news or b"%d finish %d: finished" % (self.worker, activation), final, mark)) >= MOST:
+            self.follow()
+        return Appended(False, {activation} if is_taken == b"t" else set())
+
+    def _start(self, starting: Starting, wishes: Wishes, before: Place, looks: bool) -> Appended:
+        """Appends a start. If it is in the log, nobody waits in the slots that are left any more."""
+        _, wakes, waits, leaves = wishes
+        place, worker, asks = b"%d" % before.lines, b"%d" % self.worker, b"t" if looks and not waits else b"f"
+        operation, number, touches, ends, rivals, known, priority, ticket = starting
+        given: Row = (self._log, worker, place, before.stamp, operation, b"%d" % number, touches, ends)
+        given = (*given, array(rivals), known, b"%d" % priority, b"%d" % ticket, array(wakes), array(leaves), asks)
+        calls = [Call(b"start", given)]
+        if self._sync:
+            calls.append(Call(b"line_lasts", (self._commits, self._log, place, worker)))
+        found = self._call(*calls, *self._stands(waits))
+        self._listens = self._listens or bool(waits)
+        begun, *row, waiters = found[0][0]
+        if waits:
+            *row, waiters = found[-1][0]
+        news, final, mark = row
+        if news is None and begun is not None:
+            news = self._line_of(starting) + begun
+        is_begun = self._begun(starting, news or b"") if begun is None else int(begun)
+        if self._take((news, final, mark)) >= MOST:
+            self.follow()
+        if waiters is not None:
+            self._know_waiters(waiters)
+        return Appended(is_begun is not None, set(), is_begun)
+
+    def _line_of(self, starting: Starting) -> bytes:
+        """Its line, up to its number."""
+        return b"%d start %b: started " % (self.worker, starting.operation)
+
+    def _begun(self, starting: Starting, text: bytes) -> Optional[int]:
+        """Which activation a start has begun, if its line is among these. No other start of this worker is."""
+        begin = (b"\n" + text).find(b"\n" + self._line_of(starting))
+        return None if begin < 0 else int(text[begin:].split(b"\n", 1)[0].rsplit(b" ", 1)[1])
+
+    def begun(self, starting: Starting, place: int) -> Optional[int]:
+        """The same of the lines that stand in the log from this place on."""
+        found, lines = b"", 0
+        for part in self.texts(place, BEHIND + 1):
+            found, lines = found + part, lines + part.count(b"\n")
+            if lines > BEHIND:
+                break
+        return self._begun(starting, found)
+
+    def _append_rest(
+        self, text: Optional[bytes], wishes: Wishes, before: Place, starting: Optional[Starting], looks: bool
+    ) -> Appended:
+        """The same when the next line was moved, and all is taken over that is there: what isn't done yet is done behind it. What the log
+        doesn't know as live is over."""
+        number = None if starting is None else self.begun(starting, before.lines)
+        is_in = number is not None if starting is not None else text is not None and self.has(text, before.lines)
         left = tuple(each for each in wishes.over if self.replica.has_live(self.worker, each))
         ended = set(wishes.over).difference(left)
         taken = ended - self.own_finishes(sorted(ended))
@@ -402,76 +504,57 @@ class Log:
             self.make_last()
         try:
             if any(rest):
-                taken |= self._append(None, rest, self.place, False, looks)[1]
+                taken |= self._append(None, rest, self.place, False, looks).taken
         except Moved:
             self.follow()
-            return self._append_rest(text, wishes, before, looks)
-        return is_in, taken
+            return self._append_rest(text, wishes, before, starting, looks)
+        return Appended(is_in, taken, number)
 
     def look(self, waits: Sequence[Wait] = ()) -> None:
         """Takes over what is new, and who waits. These wait from now on."""
+        calls = self._stands(waits) or [Call(b"lines_and_waiters", (*self._known(), b"%d" % self.worker))]
         try:
-            found = self._call(*self._waits(waits), Call(b"lines", self._known()), self._who_waits())
-            self._listens = self._listens or bool(waits)
-            if self._take(found[-2][0]) >= MOST:
-                self.follow()
-            self._know_waiters(found[-1])
-        except Moved:  # those who were to wait do
-            self._listens = self._listens or bool(waits)
+            *row, waiters = self._call(*calls)[-1][0]
+        except Moved:
             self.follow()
-            self._know_waiters(self._call(self._who_waits())[0])
+            return self.look(waits)
+        self._listens = self._listens or bool(waits)
+        if self._take(row) >= MOST:
+            self.follow()
+        self._know_waiters(waiters)
 
-    def _waits(self, waits: Sequence[Wait]) -> List[Call]:
-        """What has these wait; the session listens before."""
+    def _stands(self, waits: Sequence[Wait]) -> List[Call]:
+        """What has these wait, and tells what is new, and who waits; the session listens before."""
         if not waits:
             return []
         columns = zip(*((each.slot, each.operation, each.priority) for each in waits))
         holds = b"{%b}" % b",".join(b'"%b"' % array(each.holds) for each in waits)
-        given: Row = (self._log, b"%d" % self.worker, *map(array, columns), holds, b"%f" % self.patience)
-        return [Call(b"listen", given[:2])] * (not self._listens) + [Call(b"wait", given)]
+        log, *known = self._known()
+        given: Row = (log, b"%d" % self.worker, *map(array, columns), holds, b"%f" % self.patience, *known)
+        return [Call(b"listen", given[:2])] * (not self._listens) + [Call(b"stand", given)]
 
     def _who_waits(self) -> Call:
         return Call(b"waiters", (self._log, b"%d" % self.worker))
 
-    def _know_waiters(self, rows: Sequence[Row]) -> None:
-        self.line.take(rows, self.worker, time.monotonic_ns())
+    def _know_waiters(self, told: Optional[bytes]) -> None:
+        self.line.take(told or b"0", self.worker, time.monotonic_ns())
 
-    def _put(
-        self, line: bytes, wishes: Wishes, before: Place, passing: Optional[Passing], looks: bool
-    ) -> Tuple[bool, bool]:
-        """Appends a line, if its place is the next one, and takes over what is new: whether it was appended, and whether it is there. If it
-        is, nobody waits in the slots that are left any more."""
-        _, wakes, waits, leaves = wishes
-        given: Row = (self._log, b"%d" % self.worker, b"%d" % before.lines, before.stamp, line)
-        calls = [_put_call(given, wakes, passing)]
-        if leaves:
-            calls.append(Call(b"leave_slots", (self._log, given[1], array(leaves), given[2], line)))
-        if self._sync:
-            calls.append(Call(b"line_lasts", (self._commits, self._log, given[2], line)))
-        calls += self._waits(waits)
-        looks, reads = looks or bool(waits), self._has_company or looks or bool(waits)
-        if reads:
-            calls.append(Call(b"lines", self._known()))
-        if looks:
-            calls.append(self._who_waits())
-        found = self._call(*calls)
-        self._listens = self._listens or bool(waits)
-        if found[0] and not reads:
-            self._take((line, b"%d" % before.lines, found[0][0][0]))
-            return True, True
-        if not found[0] and passing is not None and not looks:
-            found += self._call(Call(b"lines", self._known()), self._who_waits())
-            looks = True
-        elif not reads:
-            found += self._call(Call(b"lines", self._known()))
-        news = found[-2 if looks else -1][0]
-        is_there = news[0] is not None and (news[0] + b"\n").startswith(line + b"\n")
-        if self._take(news) >= MOST:
-            self.follow()
-        if looks:
-            self._know_waiters(found[-1])
-        self._has_company = not found[0] or self._has_company
-        return bool(found[0]), is_there
+    def take_notice(self, notice: bytes) -> bool:
+        """Takes over the lines that a notification brings, and who waits: False if it brings nothing new, or not all. Raises `Gone` if the
+        lines aren't owed, so that the log is read anew."""
+        head, _, told = notice.partition(b"\n")
+        text, _, waiters = told.partition(b"\n\n")
+        fields = head.split(b" ")
+        if len(fields) != 3 or not all(each.isdigit() and len(each) < 20 for each in fields):
+            return False
+        first, final = int(fields[1]), int(fields[1]) + text.count(b"\n")
+        if not first <= self.place.lines <= final or not self.line.take_sent(waiters, self.worker, time.monotonic_ns()):
+            return False
+        try:
+            self._take((_from(text, self.place.lines - first), b"%d" % final, fields[2]))
+        except CorruptStore as error:
+            raise Gone(str(error)) from error
+        return True
 
     def _lasts(self) -> Call:
         return Call(b"lasts", (self._commits,))
@@ -484,7 +567,7 @@ class Log:
     def turn(self) -> None:
         """Takes over what is new, and who waits. From now on nobody else appends or begins to wait, until `append` or `end_turn`."""
         try:
-            rows = self._call(Call(b"begin"), Call(b"turn", self._known()), self._who_waits())
+            *row, waiters = self._call(Call(b"begin"), Call(b"turn", (*self._known(), b"%d" % self.worker)))[1][0]
         except Gone:
             self.end_turn()
             raise
@@ -492,9 +575,9 @@ class Log:
             self.end_turn()
             self.follow()
             return self.turn()
-        if self._take(rows[1][0]) >= MOST:
+        if self._take(row) >= MOST:
             self.follow()
-        self._know_waiters(rows[2])
+        self._know_waiters(waiters)
 
     def end_turn(self) -> None:
         """Ends a turn without a line. Does nothing if there is none."""
@@ -538,8 +621,12 @@ class Log:
         if self.replica.lines != int(final) + 1:
             raise self.broken(if_others, self.replica.lines)
         self.place = Place(self.replica.lines, mark)
-        self._has_company = self.replica.lines > before + 1
+        self._company = COMPANY if self.replica.lines > before + 1 else max(self._company - 1, 0)
         return self.replica.lines - before
+
+    def has_company(self) -> bool:
+        """Whether others have appended lately."""
+        return self._company > 0
 
     def _take_over(self, text: bytes) -> None:
         marked = text.find(b"\n+") + 1 if b"+" in text and not text.startswith(b"+") else 0
@@ -663,15 +750,6 @@ class Log:
         if error.code == "WZ002":
             return self.broken("there is no line", int(error.detail))
         return StoreError("the log {}: {}".format(self.name, error.told))
-
-
-def _put_call(given: Row, wakes: Sequence[int], passing: Optional[Passing]) -> Call:
-    """What appends a line and, if it is appended, wakes those who wait for operations."""
-    name, others = b"put", [array(wakes)] if wakes else []
-    if passing is not None:
-        name, known = b"put_start", [array(passing.rivals), array(passing.known), b"%d" % passing.priority, b"%d" % passing.ticket]
-        others = known + others
-    return Call(name + b"_and_wake" if wakes else name, (*given, *others))
 
 
 def may_pass(error: BaseException) -> bool:

@@ -232,19 +232,29 @@ class Session:
     def run(self, script: str, until: float) -> List[List[Row]]:
         """The rows of the last statement of a script. Only before anything is prepared. Raises Cut and Complaint."""
         self.asked_at = time.monotonic()
-        self._connection.send_query(script.encode())
+        self._tell(lambda: self._connection.send_query(script.encode()))
         return self._answers(until)
 
     def prepare(self, statements: "dict[bytes, str]", until: float) -> None:
-        """Prepares statements by their names."""
+        """Prepares statements by their names. Raises Cut and Complaint."""
+        self._tell(lambda: self._send_statements(statements))
+        self._owed, self.asked_at = 1, time.monotonic()
+        self._answers(until)
+
+    def _send_statements(self, statements: "dict[bytes, str]") -> None:
         connection = self._connection
         connection.enter_pipeline_mode()
         self._is_in_pipeline = True
         for name, text in statements.items():
             connection.send_prepare(name, text.encode())
         connection.pipeline_sync()
-        self._owed, self.asked_at = 1, time.monotonic()
-        self._answers(until)
+
+    def _tell(self, send: Callable[[], Any]) -> None:
+        """Sends something. Raises Cut if the session has ended."""
+        try:
+            send()
+        except Exception as error:
+            raise self._cut(str(error)) from error
 
     def call(self, calls: Sequence[Call], until: float) -> List[List[Row]]:
         """The rows of each call, in one round trip. Raises `Cut`, `Slow`, and `Complaint` when the answers of all are read."""

@@ -117,7 +117,13 @@ class Replica:
 
     def live(self) -> List[native.Activation]:
         """What is in progress, in the order of the starts."""
+        return self.few_live(ROOM) or []
+
+    def few_live(self, most: int) -> Optional[List[native.Activation]]:
+        """The same, if it is so much at most; else None."""
         count = native.live(self.at)
+        if count > most:
+            return None
         found = (native.Activation * count)()
         return list(found[: native.list_live(self.at, found, count)])
 

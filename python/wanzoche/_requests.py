@@ -8,7 +8,7 @@ import socket
 import time
 from typing import Any, Callable, Dict, NamedTuple, Optional, Protocol, Tuple
 
-from ._log import Passing, Place, Wishes
+from ._log import Place, Starting, Wishes
 from ._served_order import LAST, Standing
 
 
@@ -146,12 +146,17 @@ class Batch(NamedTuple):
     wishes: Wishes
     before: Place
     is_stepped: bool
-    passing: Optional[Passing] = None
-    """Whom its line may pass, of one that is a start."""
+    starting: Optional[Starting] = None
+    """What its line is, of one that is a start."""
 
     def text(self) -> Optional[bytes]:
         """Its lines, as one text."""
         return b"\n".join(line for _, line in self.lines) if self.lines else None
+
+    def with_number(self, number: int) -> Batch:
+        """The same, of one start, which has begun this activation."""
+        request, line = self.lines[0]
+        return self._replace(lines=((request, line[: line.rindex(b" ") + 1] + b"%d" % number),))
 
 
 class Bell:

@@ -5,50 +5,28 @@ Here is who waits in other processes, as the server has last said. Who waits in 
 
 from __future__ import annotations
 
+import re
 import struct
-from typing import Callable, Dict, Iterable, List, NamedTuple, Optional, Sequence, Set, Tuple
+from typing import Callable, Dict, Iterable, List, NamedTuple, Optional, Sequence, Set, Tuple, TypeVar
 
 from . import _native as native
 from . import _order
 from ._order import NEVER, Told
-from ._postgresql import Row
 from ._replica import Replica
 
 LAST = 1 << 62
 """The ticket of who has none yet: it stands behind all that have one. Of several such the later one's is higher."""
 
+T = TypeVar("T")
+_ROW = re.compile(rb"\d{1,18} [01](?: \d{1,9}){3} -?\d{1,18} \d{1,18} -?\d{1,18} (?:\d{1,18}(?:,\d{1,18})*)?")
+"""What a notification says of one who waits."""
 _WAITER = struct.Struct("IIQQ")
 """As a `wanzoche_waiter` lies in memory."""
 
-WAITERS = (
-    "select x.worker, x.slot, x.operation, x.priority, x.ticket, floor(1e6 * extract(epoch from clock_timestamp() - x.since))::bigint, "
-    "case when x.shuts < 'infinity' then floor(1e6 * extract(epoch from x.shuts - x.since))::bigint end, x.holds, "
-    "x.worker = $2::int or not coalesce(pg_try_advisory_xact_lock_shared(y.lock), true) "
-    "from wanzoche.waiter x left join wanzoche.worker y on y.log = x.log and y.worker = x.worker "
-    "where x.log = $1::int and x.since is not null order by x.priority desc, x.ticket"
-)
-"""All who wait, and whether they seem to be alive: somebody has the lock of their worker."""
-WAIT = (
-    "insert into wanzoche.waiter (log, worker, slot, operation, priority, holds, since, shuts) "
-    "select $1::int, $2::int, o.slot, o.operation, o.priority, o.holds::bigint[], t.now, "
-    "case when $7::float8 < 'infinity' then t.now + make_interval(secs => $7::float8) else 'infinity' end "
-    "from (select clock_timestamp() as now from wanzoche.turn where log = $1::int for update) t, "
-    "unnest($3::int[], $4::int[], $5::bigint[], $6::text[]) with ordinality o (slot, operation, priority, holds, place) order by o.place "
-    "on conflict (log, worker, slot) do update set operation = excluded.operation, priority = excluded.priority, ticket = excluded.ticket, "
-    "since = excluded.since, shuts = excluded.shuts, holds = excluded.holds where waiter.since is null"
-)
-"""Waits from now on. In a turn, so that whoever appends behind it knows; what was appended before it is read then."""
-LEAVE = (
-    "update wanzoche.waiter set since = null where log = $1::int and worker = $2::int and slot = any ($3::int[]) "
-    "and exists (select from wanzoche.line x where x.log = $1::int and x.place = $4::bigint and x.line = $5)"
-)
-"""Waits no more, if a line was appended."""
-MAY_PASS = (
-    " and not exists (select from wanzoche.waiter w where w.log = $1::int and w.worker <> $2::int and w.since is not null "
-    "and w.shuts <= clock_timestamp() and w.operation = any ($6::int[]) and w.ticket <> all ($7::bigint[]) "
-    "and (w.priority > $8::bigint or w.priority = $8::bigint and w.ticket < $9::bigint))"
-)
-"""Nobody stands before a start in whose way it might be, but for those that are known and that it may pass."""
+LATEST = 1_000_000_000
+"""A notification that took longer than so many nanoseconds tells too little of who waits now: who gets it asks."""
+EARLIEST = -50_000_000
+"""Nor does one that seems to have come before it was sent: then one of the two clocks was set."""
 
 
 class Standing(NamedTuple):
@@ -106,17 +84,40 @@ class ServedLine:
     def __init__(self, replica: Replica) -> None:
         self._replica = replica
         self.others: List[Standing] = []
-        self.known: Tuple[int, ...] = ()
-        """The tickets of all that were told, also of those that seem to be dead."""
+        """Of each operation and priority the first of them."""
+        self.known = b"{}"
+        """The tickets of all that were told, also of those that seem to be dead, as an array for a call."""
         self.tickets: Dict[int, int] = {}
         """Those of this process, by their slots."""
+        self._rows: List[List[bytes]] = []
+        self._ahead_of_server = 0  # what the monotonic clock has more than the server's, in nanoseconds
+        self._holds: Set[int] = set()
 
-    def take(self, rows: Sequence[Row], worker: int, now: int) -> None:
-        """What the server says of all that wait."""
-        found = [_standing(row, now) for row in rows]
-        self.known = tuple(each.ticket for each in found if each.worker != worker)
-        self.tickets = {each.slot: each.ticket for each in found if each.worker == worker}
-        self.others = [each for each, row in zip(found, rows) if row[8] == b"t" and each.worker != worker]
+    def take(self, told: bytes, worker: int, now: int) -> None:
+        """What the server says of all that wait, to one who has asked."""
+        head, *lines = told.split(b"\n")
+        self._ahead_of_server = now - int(head) * 1000
+        self._keep([line.split(b" ") for line in lines], worker)
+
+    def take_sent(self, told: bytes, worker: int, now: int) -> bool:
+        """The same, to one who hasn't asked: False if that was too long ago, or can't be read."""
+        head, *lines = told.split(b"\n")
+        if not head.isdigit() or not EARLIEST <= now - int(head) * 1000 - self._ahead_of_server <= LATEST:
+            return False
+        if not all(map(_ROW.fullmatch, lines)):
+            return False
+        self._keep([line.split(b" ") for line in lines], worker)
+        return True
+
+    def _keep(self, rows: List[List[bytes]], worker: int) -> None:
+        server = self._ahead_of_server
+        own = b"%d" % worker
+        self._rows = [row for row in rows if row[2] != own]
+        self.known = b"{%b}" % b",".join(row[0] for row in self._rows)
+        self.tickets = {int(row[3]): int(row[0]) for row in rows if row[2] == own}
+        alive = [row for row in self._rows if row[1] == b"1"]
+        self.others = [_standing(row, server) for row in _first_of_each(alive, lambda row: (row[4], row[5]))]
+        self._holds = {int(each) for row in alive if row[8] for each in row[8].split(b",")}
 
     def withheld_for(self, asker: Standing, here: Here, now: int) -> Optional[Standing]:
         """For whom a start is withheld that no path forbids now; None if it isn't."""
@@ -131,39 +132,37 @@ class ServedLine:
 
     def may_go_on(self, here: Here, now: int) -> Set[int]:
         """The operations of which the first in another process may begin now."""
-        firsts = _first_of_each(self.others)
-        return {each.operation for each in firsts if self._replica.can_start(each.operation) and not self.withheld_for(each, here, now)}
+        able = [each for each in self.others if self._replica.can_start(each.operation)]
+        return {each.operation for each in able if not self.withheld_for(each, here, now)}
 
     def all(self, here: Sequence[Standing]) -> List[Standing]:
         """All who wait, in order, with these."""
-        return sorted([*self.others, *here], key=Standing.key)
+        others = [_standing(row, self._ahead_of_server) for row in self._rows if row[1] == b"1"]
+        return sorted([*others, *here], key=Standing.key)
 
     def _ahead(self, asker: Standing, here: Here) -> List[Standing]:
         """Those who stand before one who asks, in order, but of each operation and priority the first alone: the others can't begin before
         it. None of them is the one who asks: a signal handler may do so in the middle of its thread's wait, which can't go on before."""
         key, own = asker.key(), (asker.worker, asker.caller)
         ahead = [each for each in [*self.others, *here.firsts] if each.key() < key and (each.worker, each.caller) != own]
-        return _first_of_each(sorted(ahead, key=Standing.key))
+        return _first_of_each(sorted(ahead, key=Standing.key), lambda each: (each.operation, each.priority))
 
     def _running(self, asker: Standing, here: Here) -> List[int]:
         """The operations in progress of those who don't wait, and aren't who asks."""
-        resting = here.resting(asker.caller) | set(asker.holds)
-        for each in self.others:
-            resting.update(each.holds)
+        resting = here.resting(asker.caller) | set(asker.holds) | self._holds
         return [each.operation for each in self._replica.live() if each.number not in resting]
 
 
-def _first_of_each(waiting: Iterable[Standing]) -> List[Standing]:
-    """Of those who stand in order: the first of each operation and priority."""
-    firsts: Dict[Tuple[int, int], Standing] = {}
+def _first_of_each(waiting: Iterable[T], kind: Callable[[T], object]) -> List[T]:
+    """Of those who stand in order: the first of each kind."""
+    firsts: Dict[object, T] = {}
     for each in waiting:
-        firsts.setdefault((each.operation, each.priority), each)
+        firsts.setdefault(kind(each), each)
     return list(firsts.values())
 
 
-def _standing(row: Row, now: int) -> Standing:
-    """One row of what the server says."""
-    worker, slot, operation, priority, ticket, waited = (int(each or 0) for each in row[:6])
-    patience = NEVER if row[6] is None else int(row[6]) * 1000
-    holds = tuple(int(each) for each in (row[7] or b"{}")[1:-1].split(b",") if each)
-    return Standing(operation, priority, ticket, now - waited * 1000, patience, worker, 0, slot, holds)
+def _standing(row: Sequence[bytes], server: int) -> Standing:
+    """One who waits, as the server says, with what the monotonic clock has more than the server's."""
+    ticket, _, worker, slot, operation, priority, since, patience = map(int, row[:8])
+    holds = tuple(int(each) for each in row[8].split(b",") if each)
+    return Standing(operation, priority, ticket, since * 1000 + server, NEVER if patience < 0 else patience * 1000, worker, 0, slot, holds)

@@ -17,7 +17,9 @@
 --     `select pg_logical_emit_message(true, 'wanzoche', '')`, and tells nobody before.
 --   * Transactions are `read committed`. A finish that goes wherever its place is, by `append` or `bury`, is only asked for by who has read
 --     all up to line n - 1, and gives this n: if the finish may be in a segment by then, WZ003 says so.
---   * One line may also be appended without `append`, which is quicker, but for the first of a log. No row is returned if it wasn't:
+--   * A start may go behind lines that its starter hasn't read, if none of them touches one of its paths: `start` says how. It is owed there,
+--     with a number that is higher by the starts among them.
+--   * One line may also be appended by a statement, but for the first of a log. No row is returned if it wasn't:
 --
 --     insert into wanzoche.line (log, place, line, by) select :log, :place, :line, :worker
 --         from (select from wanzoche.turn where log = :log for update) turn
@@ -29,6 +31,8 @@
 --   * A start keeps to the order of those who wait (docs/waiting.md). Who waits has a row of wanzoche.waiter. A start that isn't appended
 --     in a turn, where all of them are known, names the tickets of those that it knows of and may pass: it isn't appended while a row with
 --     another ticket stands before it, for an operation that shares a path with its own, whose door is shut.
+--   * A notification may have lines in it, and who waits (`notify`). Who takes them over does so as with any line, only if they are owed; and
+--     whatever it appends behind them is only appended if they are the log's, since each call names the stamp of the last that it knows.
 --
 -- Whoever may connect to a database may take any advisory lock there, and send any notification. So neither of them says anything here:
 --
@@ -36,7 +40,8 @@
 --     table can lock a row of it. Behind it come rows of wanzoche.waiter and wanzoche.waiting, and before it those of wanzoche.worker.
 --   * A worker's session is one of the process and of the role that its row names, and has the advisory lock that its row names, a number
 --     that nobody could guess before. Another who has that lock, too, is of another role or another process.
---   * A worker is notified by a channel that only its row names, and looks by itself each second, too.
+--   * A worker is notified by a channel that only its row names, and that nobody but those who append may read there. It looks by itself
+--     each second, too.
 --
 -- Nothing here is looked for in a schema in which others may make functions or operators: each function has its own search_path, or was
 -- read under this one when it was made. A session sets it, too, before it calls anything.
@@ -50,11 +55,11 @@ do $$ begin
     if not exists (select from pg_namespace where nspname = 'wanzoche') then
         create schema wanzoche;
         create table wanzoche.schema (number int not null);
-        insert into wanzoche.schema values (5);
-    elsif (select number from wanzoche.schema) > 5 then
-        raise exception 'the schema wanzoche is number %, and this makes 5', (select number from wanzoche.schema);
+        insert into wanzoche.schema values (6);
+    elsif (select number from wanzoche.schema) > 6 then
+        raise exception 'the schema wanzoche is number %, and this makes 6', (select number from wanzoche.schema);
     end if;
-    update wanzoche.schema set number = 5;
+    update wanzoche.schema set number = 6;
 end $$;
 
 create table if not exists wanzoche.log (
@@ -134,8 +139,13 @@ create unlogged table if not exists wanzoche.waiter (
     since timestamptz,
     shuts timestamptz not null,  -- from then on starts that stand in its way are withheld for it
     holds bigint[] not null,  -- the activations that it has in progress
+    -- Null if its package knows a number below 6:
+    reads bigint,  -- its process knows all lines before this place
+    told text,  -- what `who_waits` says of it, behind its ticket and whether it is alive
     primary key (log, worker, slot)
 ) with (fillfactor = 50);
+alter table wanzoche.waiter add column if not exists reads bigint;
+alter table wanzoche.waiter add column if not exists told text;
 
 -- The same of packages of a number below 5, whose workers stand in no order: for which operation one waits, and since when.
 create unlogged table if not exists wanzoche.waiting (
@@ -328,26 +338,77 @@ begin
         where x.log = l and x.worker = w);
 end $$;
 
+-- A time as the server's clock has it, in microseconds.
+create or replace function wanzoche.microseconds(at timestamptz) returns bigint language sql immutable
+return (date_part('epoch', at at time zone 'utc') * 1000000)::bigint;
+
+-- Whether somebody has this advisory lock, as long as this transaction doesn't.
+create or replace function wanzoche.is_locked(lock bigint) returns boolean language sql
+return not coalesce(pg_try_advisory_xact_lock_shared(lock), true);
+
+-- What `stand` writes into `told`, of one whose package is of a number below 6.
+create or replace function wanzoche.told_of(x wanzoche.waiter) returns text
+language plpgsql set search_path = pg_catalog, pg_temp as $$
+begin
+    return concat_ws(' ', x.worker, x.slot, x.operation, x.priority, wanzoche.microseconds(x.since),
+        case when x.shuts < 'infinity' then wanzoche.microseconds(x.shuts) - wanzoche.microseconds(x.since) else -1 end,
+        array_to_string(x.holds, ','));
+end $$;
+
+-- Who waits: the server's time, and a line for each in their order: its ticket, 1 if somebody has the lock of its worker or 0, its worker,
+-- slot, operation and priority, since when it waits, how many microseconds its patience is (-1 if that has no end), and what it has in
+-- progress. The caller is worker w.
+create or replace function wanzoche.who_waits(l int, w int) returns text
+language plpgsql set search_path = pg_catalog, pg_temp as $$
+declare told text;
+begin
+    select string_agg(E'\n' || x.ticket || case when x.worker = w or wanzoche.is_locked(y.lock) then ' 1 ' else ' 0 ' end
+            || coalesce(x.told, wanzoche.told_of(x)),
+            '' order by x.priority desc, x.ticket)
+        into told
+        from wanzoche.waiter x left join wanzoche.worker y on y.log = x.log and y.worker = x.worker
+        where x.log = l and x.since is not null;
+    return wanzoche.microseconds(clock_timestamp()) || coalesce(told, '');
+end $$;
+
 -- Wakes who is first in order for each of these operations: a notification with the operation's number on the worker's channel. The caller
--- needs none. Who gets a notification looks, and trusts no text. One whose lock nobody has is dead, and doesn't wait any more. To find out
--- whose lock it is would take longer, while all others wait for their turn: `stop_dead` does so.
+-- needs none. One whose lock nobody has is dead, and doesn't wait any more. To find out whose lock it is would take longer, while all others
+-- wait for their turn: `stop_dead` does so.
+--
+-- Behind the number stands what the worker would be told if it asked, if there is room: the place of the first of these lines, the stamp of
+-- the last, the lines, and behind an empty line who waits (`who_waits`). They are a hundred at most. If it hasn't read one before the first,
+-- it asks.
 create or replace function wanzoche.wake(l int, w int, operations int[]) returns void
 language plpgsql set search_path = pg_catalog, pg_temp as $$
-declare x record; woken int[] := '{}';
+declare x record; woken int[] := '{}'; channels text[] := '{}'; reads bigint[] := '{}'; waiters text := ''; news text := '';
 begin
-    for x in select y.operation, y.worker, y.slot, z.channel, z.lock
+    for x in select y.operation, y.worker, y.slot, y.reads, z.channel, y.worker = w or wanzoche.is_locked(z.lock) as is_alive,
+            y.ticket, coalesce(y.told, wanzoche.told_of(y)) as told
         from wanzoche.waiter y left join wanzoche.worker z on z.log = y.log and z.worker = y.worker
-        where y.log = l and y.operation = any (operations) and y.since is not null order by y.priority desc, y.ticket
+        where y.log = l and y.since is not null order by y.priority desc, y.ticket
     loop
-        if x.operation = any (woken) then
+        waiters := waiters || E'\n' || x.ticket || case when x.is_alive then ' 1 ' else ' 0 ' end || x.told;
+        if x.operation <> all (operations) or x.operation = any (woken) then
             continue;
-        elsif x.worker = w then
-            woken := woken || x.operation;
-        elsif coalesce(pg_try_advisory_xact_lock_shared(x.lock), true) then
+        elsif not x.is_alive then
             update wanzoche.waiter y set since = null where y.log = l and y.worker = x.worker and y.slot = x.slot;
         else
-            perform pg_notify(x.channel, x.operation::text);
             woken := woken || x.operation;
+            channels := channels || case when x.worker = w then null else x.channel end;
+            reads := reads || case when x.worker = w then null else x.reads end;
+        end if;
+    end loop;
+    if array_remove(reads, null) <> '{}' then
+        select min(z.place) || ' ' || (array_agg(z.stamp))[1] || E'\n' || string_agg(z.line, E'\n' order by z.place) || E'\n\n'
+                || wanzoche.microseconds(clock_timestamp()) || waiters into news
+            from (select y.* from wanzoche.line y where y.log = l and y.place >= (select min(r) from unnest(reads) r)
+                order by y.place desc limit 100) z
+            having max(z.place) = min(z.place) + count(*) - 1;
+    end if;
+    for place in 1..cardinality(woken) loop
+        if channels[place] is not null then
+            perform pg_notify(channels[place],
+                woken[place] || case when reads[place] is not null and octet_length(news) between 1 and 7900 then ' ' || news else '' end);
         end if;
     end loop;
     if exists (select from wanzoche.waiting y where y.log = l and y.since is not null) then
@@ -464,6 +525,134 @@ begin
     if not is_next or final <> wanted then
         select x.news, x.final, x.mark into news, final, mark from wanzoche.lines(l, n, known) x;
         taken := array(select x.finishes from wanzoche.line x where x.log = l and x.finishes = any (over) and x.by <> w);
+    end if;
+end $$;
+
+-- How many starts are among these lines, if none of them starts an operation of `touches` or finishes an activation of `ends`; else null.
+create or replace function wanzoche.starts_among(news text, touches text[], ends text[]) returns bigint
+language plpgsql immutable set search_path = pg_catalog, pg_temp as $$
+declare x text; found text[]; starts bigint := 0;
+begin
+    if touches is null then
+        return null;
+    end if;
+    foreach x in array string_to_array(news, E'\n') loop
+        found := regexp_match(x, '^\d+ (?:start (\w+): started \d+|finish (\d+): finished|use \d+ (?:put|take|look|add)(?: \d+)?: used \d+)$');
+        if found is null or found[1] = any (touches) or found[2] = any (ends) then
+            return null;
+        elsif found[1] is not null then
+            starts := starts + 1;
+        end if;
+    end loop;
+    return starts;
+end $$;
+
+-- Appends a start of worker w that is owed behind line n - 1 with this number. If other lines stand there, it is appended behind all of them
+-- if they touch none of its paths: if they are 1,000 at most, and none starts one of the operations `touches`, which share a path with it, or
+-- finishes one of the activations `ends`, which are those of such operations that were in progress behind line n - 1. With null for
+-- `touches` only place n will do. It isn't appended while somebody stands before it who isn't among `passes` (see above): `rivals` are the
+-- numbers of the operations that share a path with it. If it is appended, nobody waits in the slots `leaves` any more, and those are woken
+-- who are first for the operations `wakes`.
+--
+-- Returns its number, or null if it wasn't appended, and the lines from n on, its own among them; null stands for its own and no other. Who
+-- waits is told if it wasn't appended, or if it `asks` and there are some who aren't among `passes`. It has the priority `prior` and the
+-- ticket `arrived`. With WZ003, as of `lines`, nothing was done.
+create or replace function wanzoche.start(l int, w int, n bigint, known bigint, named text, number bigint, touches text[], ends text[],
+    rivals int[], passes bigint[], prior bigint, arrived bigint, wakes int[], leaves int[], asks boolean,
+    out started bigint, out news text, out final bigint, out mark bigint, out waiters text)
+language plpgsql set search_path = pg_catalog, pg_temp as $$
+declare own text := w || ' start ' || named || ': started '; behind bigint := n - 1; fresh bigint := (random() * 9007199254740991)::bigint;
+begin
+    started := number;
+    mark := known;
+    for tries in 1..2 loop
+        insert into wanzoche.line (log, place, line, by, stamp) select l, behind + 1, own || started, w, fresh
+            from (select from wanzoche.turn x where x.log = l for update) turn
+            where coalesce((select x.place = behind and x.stamp = start.mark from wanzoche.line x where x.log = l order by x.place desc limit 1),
+                    behind < 0)
+                and not exists (select from wanzoche.waiter x where x.log = l and x.worker <> w and x.since is not null
+                    and x.shuts <= clock_timestamp() and x.operation = any (rivals) and x.ticket <> all (passes)
+                    and (x.priority > prior or x.priority = prior and x.ticket < arrived))
+            on conflict do nothing;
+        exit when found;
+        if tries = 1 then
+            perform from wanzoche.turn x where x.log = l for update;
+            select x.news, x.final, x.mark into news, behind, mark from wanzoche.lines(l, n, known) x;
+            if behind >= n then
+                started := case when behind < n + 1000 then number + wanzoche.starts_among(news, touches, ends) end;
+            end if;
+        else
+            started := null;  -- nobody but who waits is in its way
+        end if;
+        exit when started is null;
+    end loop;
+    final := behind;
+    if started is not null then
+        final := behind + 1;
+        mark := fresh;
+        news := news || E'\n' || own || started;
+        if leaves <> '{}' then
+            update wanzoche.waiter x set since = null where x.log = l and x.worker = w and x.slot = any (leaves);
+        end if;
+        if wakes <> '{}' then
+            perform wanzoche.wake(l, w, wakes);
+        end if;
+    end if;
+    if started is null or asks and exists (select from wanzoche.waiter x
+        where x.log = l and x.worker <> w and x.since is not null and x.ticket <> all (passes))
+    then
+        waiters := wanzoche.who_waits(l, w);
+    end if;
+end $$;
+
+-- From now on somebody waits in each of these slots of worker w, where nobody did: for this operation, with this priority and with these
+-- activations in progress, and so many seconds of patience. Nobody appends meanwhile, so whoever does so behind it knows. Returns the lines as
+-- of `lines`, and who waits. With WZ003, as of `lines`, nothing was done.
+create or replace function wanzoche.stand(l int, w int, slots int[], operations int[], priorities bigint[], activations text[], patience float8,
+    n bigint, known bigint, out news text, out final bigint, out mark bigint, out waiters text)
+language plpgsql set search_path = pg_catalog, pg_temp as $$
+declare now timestamptz; ends timestamptz := 'infinity';
+begin
+    perform from wanzoche.turn x where x.log = l for update;
+    select x.news, x.final, x.mark into news, final, mark from wanzoche.lines(l, n, known) x;
+    now := clock_timestamp();
+    if patience < 'infinity' then
+        ends := now + make_interval(secs => patience);
+    end if;
+    insert into wanzoche.waiter as y (log, worker, slot, operation, priority, holds, since, shuts, reads, told)
+        select l, w, x.slot, x.operation, x.priority, x.holds::bigint[], now, ends, stand.final + 1,
+            w || ' ' || x.slot || ' ' || x.operation || ' ' || x.priority || ' ' || wanzoche.microseconds(now) || ' '
+            || case when ends < 'infinity' then (patience * 1000000)::bigint else -1 end || ' ' || trim(x.holds, '{}')
+        from unnest(slots, operations, priorities, activations) with ordinality x(slot, operation, priority, holds, o) order by x.o
+        on conflict (log, worker, slot) do update set operation = excluded.operation, priority = excluded.priority, ticket = excluded.ticket,
+            since = excluded.since, shuts = excluded.shuts, holds = excluded.holds, reads = excluded.reads, told = excluded.told
+            where y.since is null;
+    waiters := wanzoche.who_waits(l, w);
+end $$;
+
+-- Appends the finish of an activation of worker w, behind whatever lines there are, and wakes who is first for the operations `wakes`. Returns
+-- the lines from n on as `append` does; `is_taken` if somebody else has finished it. With WZ003, as of `lines`, nothing was done.
+create or replace function wanzoche.finish(l int, w int, n bigint, known bigint, activation bigint, wakes int[],
+    out news text, out final bigint, out mark bigint, out is_taken boolean)
+language plpgsql set search_path = pg_catalog, pg_temp as $$
+declare own text := w || ' finish ' || activation || ': finished';
+begin
+    mark := (random() * 9007199254740991)::bigint;
+    insert into wanzoche.line (log, place, line, by, stamp) select l, n, own, w, finish.mark
+        from (select from wanzoche.turn x where x.log = l for update) turn
+        where (select x.place = n - 1 and x.stamp = known from wanzoche.line x where x.log = l order by x.place desc limit 1)
+        on conflict do nothing;
+    final := n;
+    is_taken := false;
+    if not found then
+        perform from wanzoche.turn x where x.log = l for update;
+        final := coalesce((select x.place from wanzoche.line x where x.log = l order by x.place desc limit 1), -1);
+        perform wanzoche.put_finishes(l, w, w, array[activation], final, mark);
+        select x.news, x.final, x.mark into news, final, mark from wanzoche.lines(l, n, known) x;
+        is_taken := exists (select from wanzoche.line x where x.log = l and x.finishes = activation and x.by <> w);
+    end if;
+    if wakes <> '{}' then
+        perform wanzoche.wake(l, w, wakes);
     end if;
 end $$;
 
