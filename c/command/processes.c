@@ -124,6 +124,12 @@ static struct place *sorted_places(const struct report *report) {
     return places;
 }
 
+static void copy_process(struct process *process, const struct process *from) {
+    *process = *from;
+    process->command = (struct text){NULL, 0, 0};
+    if (from->command.at != NULL) add_bytes(&process->command, from->command.at, from->command.length);
+}
+
 /* Finds the process of each operation in progress: each worker's is looked at once. */
 void find_processes(const struct report *report, struct process *processes, const char *beside) {
     static char host[256];
@@ -132,13 +138,10 @@ void find_processes(const struct report *report, struct process *processes, cons
     struct place *places = sorted_places(report);
     gethostname(host, sizeof host - 1);
     for (size_t k = 0; k < report->count; k++) {
-        struct process *process = &processes[places[k].at], *before = k == 0 ? NULL : &processes[places[k - 1].at];
-        if (k == 0 || places[k].worker != places[k - 1].worker) find_process(process, report->live[places[k].at].process, host, has_state ? &state : NULL);
-        else {
-            *process = *before;
-            process->command = (struct text){NULL, 0, 0};
-            if (before->command.at != NULL) add_bytes(&process->command, before->command.at, before->command.length);
-        }
+        size_t at = places[k].at;
+        bool is_first = k == 0 || places[k].worker != places[k - 1].worker;
+        if (is_first) find_process(&processes[at], report->live[at].process, host, has_state ? &state : NULL);
+        else copy_process(&processes[at], &processes[places[k - 1].at]);
     }
     free(places);
 }
