@@ -149,6 +149,7 @@ bool find_operation(struct declared *declared, const char *name, uint32_t *opera
 /* paths.c: what stands in a declaration */
 bool find_path(const char *declaration, uint32_t number, struct path *path);
 bool is_in_path(const struct path *path, const char *name);
+void add_difference(struct text *text, const char *found, const char *given);
 void find_device(const char *declaration, const char *name, char resource[33], char law[40]);
 
 /* opened.c */

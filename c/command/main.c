@@ -58,13 +58,18 @@ static bool find_readable(const struct given *given, struct text *text) {
 static bool is_of_store(const struct given *given, const struct declared *declared) {
     struct given without = *given;
     struct declared own = {.text = NULL};
-    struct text text = {NULL, 0, 0};
+    struct text text = {NULL, 0, 0}, where = {NULL, 0, 0};
     bool is_same;
     without.declaration = NULL;
     is_same = !find_declaration(&without, &text) || !open_declared(&own, text.at, text.length) || strcmp(own.text, declared->text) == 0;
+    if (!is_same) {
+        add_difference(&where, own.text, declared->text);
+        fails("%s is of another declaration: %s", whole_path(given->store), where.at);
+    }
     clear_text(&text);
+    clear_text(&where);
     if (own.text != NULL) close_declared(&own);
-    return is_same || fails("%s is of another declaration", whole_path(given->store));
+    return is_same;
 }
 
 /* The same as a command over an open store that only looks, where its files may only be read. */
@@ -95,6 +100,7 @@ static int run(const struct given *given) {
     if (!is_declared || (given->command == DO_EXEC && !check_words(&shared.declared, given))) return end_with_fault(given);
     if (given->command == DO_OPERATIONS) return write_operations(&shared.declared);
     if (!open_shared(&shared, given)) return looks(given) && is_forbidden() ? run_reading(given) : end_with_fault(given);
+    if (given->command == DO_WATCH) shared.reader = new_reader(shared.path, &shared.declared); /* it reads on where it was, and not all anew */
     status = do_command(&shared, given);
     if (!close_shared(&shared)) return end_with_fault(given);
     close_declared(&shared.declared);
