@@ -20,6 +20,11 @@ bool read_seconds(const char *text, double *seconds) {
     return end != text && *end == 0 && (has_only(text, "0123456789+-.eE \t\n") || !isfinite(*seconds));
 }
 
+/* Whether a number of seconds is a limit of time. */
+bool is_limit(double seconds) {
+    return !isnan(seconds) || fails("a limit of time is None or a number of seconds, not nan");
+}
+
 bool read_whole(const char *text, int *number) {
     char *end;
     long found;
