@@ -169,7 +169,10 @@ class Handing(InFolder, unittest.TestCase):
             self.assertEqual(ended(words, **told), ("|".join([what, *words, ""]), "", 3))
 
     def test_it_is_the_package_that_gets_them(self):
-        environment = {"env": {"WANZOCHE_PYTHON": sys.executable}}
+        """And not a module of this name in the folder in which it runs."""
+        with open(os.path.join(self.folder, "wanzoche.py"), "w") as file:
+            file.write("raise SystemExit('this is another one')\n")
+        environment = {"env": {"WANZOCHE_PYTHON": sys.executable, "PYTHONPATH": os.path.dirname(os.path.dirname(_command.__file__))}, "cwd": self.folder}
         words = ["status", "--store", "postgresql:///none?host={}".format(self.folder)]
         found = ended(words, **environment)
         self.assertEqual(found, of_package(words))
