@@ -51,10 +51,9 @@ bool read_worker(const char *text, uint32_t *worker) {
     unsigned long long number;
     while (length > 0 && isspace((unsigned char)text[length - 1])) length--;
     for (begin = length; begin > 0 && !isspace((unsigned char)text[begin - 1]);) begin--;
-    for (size_t at = begin; at < length; at++)
-        if (!isdigit((unsigned char)text[at])) return false;
+    if (begin == length || strspn(text + begin, "0123456789") != length - begin) return false;
     errno = 0;
-    number = begin == length ? ULLONG_MAX : strtoull(text + begin, NULL, 10);
+    number = strtoull(text + begin, NULL, 10);
     *worker = (uint32_t)number;
     return number <= UINT32_MAX && errno == 0;
 }

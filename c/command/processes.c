@@ -37,16 +37,21 @@ static bool has_open(uint64_t process, const struct stat *wanted) {
     return has;
 }
 
+/* Takes the spaces from both ends of a text. */
+static void trim(struct text *text) {
+    size_t begin = 0;
+    while (text->length > 0 && isspace((unsigned char)text->at[text->length - 1])) text->at[--text->length] = 0;
+    while (begin < text->length && isspace((unsigned char)text->at[begin])) begin++;
+    memmove(text->at, text->at + begin, text->length - begin + 1);
+    text->length -= begin;
+}
+
 /* The words of a process with a space between two; a null text if there are none. */
 static struct text words_of(uint64_t process) {
     struct text words = read_of(process, "cmdline");
-    size_t begin = 0;
     for (size_t k = 0; k < words.length; k++)
         if (words.at[k] == 0) words.at[k] = ' ';
-    while (words.length > 0 && isspace((unsigned char)words.at[words.length - 1])) words.at[--words.length] = 0;
-    while (begin < words.length && isspace((unsigned char)words.at[begin])) begin++;
-    if (begin > 0) memmove(words.at, words.at + begin, words.length - begin + 1);
-    words.length -= begin;
+    trim(&words);
     if (words.length == 0) clear_text(&words);
     return words;
 }
