@@ -247,7 +247,7 @@ static bool *find_firsts(const wanzoche_activation *live, uint32_t count) {
     while (mask < (size_t)count * 2) mask = mask * 2 + 1;
     told = take_memory(mask + 1, sizeof *told);
     for (uint32_t k = 0; k < count; k++) {
-        size_t at = live[k].worker * UINT32_C(2654435761) & mask;
+        size_t at = (size_t)(live[k].worker * UINT32_C(2654435761)) & mask;
         while (told[at] != 0 && live[told[at] - 1].worker != live[k].worker) at = (at + 1) & mask;
         firsts[k] = told[at] == 0;
         if (firsts[k]) told[at] = k + 1;
