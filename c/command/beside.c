@@ -1,4 +1,4 @@
-/* The file beside a store's journal (c/store/page.h), as who only looks on reads it. It asks for no more than the right to read, and takes no lock. */
+/* The file beside a store's journal (c/store/page.h), as who only looks on reads it: with the right to read alone, and without a lock. */
 #include <stdlib.h>
 #include <string.h>
 

@@ -28,6 +28,7 @@ enum command { NO_COMMAND, DO_EXEC, DO_STATUS, DO_LOG, DO_AUDIT, DO_WATCH, DO_VI
 struct given {
     enum command command;
     const char *store, *name, *declaration;
+    char *path;              /* that of the store's file, without links in it, as far as that can be found */
     const char *operation;   /* or the worker of `recover` */
     char **run;              /* the command with its words, of `exec` */
     bool has_timeout, nonblock, quiet, no_sync, json, watches, even_alive, opens;
@@ -117,6 +118,7 @@ bool fails_by_system(const char *what);
 const char *fault(void);
 bool is_forbidden(void);
 bool is_corrupt(void);
+bool is_other_declaration(void);
 
 /* streams.c */
 void take_closed_streams(void);
@@ -130,6 +132,7 @@ void read_words(struct given *given, char **words);
 
 /* numbers.c */
 bool read_seconds(const char *text, double *seconds);
+bool is_limit(double seconds);
 bool read_whole(const char *text, int *number);
 bool read_duration(const char *text, int64_t *seconds);
 bool read_worker(const char *text, uint32_t *worker);
@@ -149,10 +152,11 @@ bool find_operation(struct declared *declared, const char *name, uint32_t *opera
 /* paths.c: what stands in a declaration */
 bool find_path(const char *declaration, uint32_t number, struct path *path);
 bool is_in_path(const struct path *path, const char *name);
+void add_difference(struct text *text, const char *found, const char *given);
 void find_device(const char *declaration, const char *name, char resource[33], char law[40]);
 
 /* opened.c */
-const char *whole_path(const char *file);
+char *whole_path(const char *file);
 bool open_shared(struct shared *shared, const struct given *given);
 bool close_shared(struct shared *shared);
 bool is_refused(struct shared *shared, wanzoche_answer answer);

@@ -41,7 +41,7 @@ static bool find_stored(const char *file, struct text *text) {
     if (answer.code == WANZOCHE_OUT_OF_MEMORY) end_without_memory();
     if (answer.code == WANZOCHE_WRITTEN) return true;
     if (answer.code == WANZOCHE_SYSTEM && answer.number == ENOENT)
-        return fails("%s.shared isn't there: `wanzoche exec` with --declaration makes a store", whole_path(file));
+        return fails("%s.shared isn't there: `wanzoche exec` with --declaration makes a store", file);
     return fails_by_store(answer, "%s", why);
 }
 
@@ -50,7 +50,7 @@ bool find_declaration(const struct given *given, struct text *text) {
     bool is_given = given->declaration != NULL;
     if (is_given && (given->store == NULL || given->command == DO_EXEC)) return read_file(given->declaration, text);
     if (given->store == NULL) return fails("--store or --declaration is wanted");
-    if (!find_stored(given->store, text) && !(is_given && given->command == DO_OPERATIONS && is_forbidden())) return false;
+    if (!find_stored(given->path, text) && !(is_given && given->command == DO_OPERATIONS && is_forbidden())) return false;
     if (!is_given) return true;
     clear_text(text);
     return read_file(given->declaration, text);

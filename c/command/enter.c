@@ -6,7 +6,6 @@
 ** isn't admitted at once.
 */
 #include <errno.h>
-#include <math.h>
 #include <pthread.h>
 #include <signal.h>
 #include <time.h>
@@ -23,6 +22,9 @@ struct wait {
     struct shared *shared;
     uint32_t operation;
     wanzoche_store_record *record;
+    int64_t end;          /* when its time is over */
+    double seconds;       /* so long it waits at most, for messages; 0 without a limit */
+    enum entered over;    /* how it has ended, if that is said already */
     sigset_t stops;       /* the signals that end it; this process has them blocked, and OVER */
     bool tells;
     _Atomic int signal;   /* which one came; 0 for none */
@@ -88,22 +90,29 @@ static void *see_to_signals(void *given) {
     }
 }
 
-/* Keeps why it isn't in progress in time: false if nothing forbids it any more. */
-static bool is_late(struct shared *shared, uint32_t operation, wanzoche_answer known, const wanzoche_store_record *record, double after) {
-    const wanzoche_store_waiter *behind = known.code == WANZOCHE_WITHHELD ? &record->behind : NULL;
+/* Of one whose time is over: keeps why it isn't in progress. False if nothing forbids it any more. */
+static bool is_late(struct wait *wait, wanzoche_answer known) {
+    struct shared *shared = wait->shared;
+    const wanzoche_store_waiter *behind = known.code == WANZOCHE_WITHHELD ? &wait->record->behind : NULL;
     struct text why = {NULL, 0, 0};
     struct report report;
     bool is_blocked;
+    wait->over = IS_REFUSED;
     if (known.code == WANZOCHE_LATE) return !is_refused(shared, known);
     if (!ask_report(shared, TURN, &report)) return true;
-    is_blocked = behind != NULL || report.blocked_by[operation] >= 0;
+    wait->over = IS_NOT_IN_TIME;
+    is_blocked = behind != NULL || report.blocked_by[wait->operation] >= 0;
     if (is_blocked) {
-        add_why(&why, &shared->declared, operation, &report, behind, after);
+        add_why(&why, &shared->declared, wait->operation, &report, behind, wait->seconds);
         fails("%s", why.at);
     }
     clear_text(&why);
     close_report(&report);
     return is_blocked;
+}
+
+static bool is_conflict(wanzoche_answer answer) {
+    return answer.code == WANZOCHE_BLOCKED || answer.code == WANZOCHE_WITHHELD || answer.code == WANZOCHE_LATE;
 }
 
 /* How long it may sleep now, in whole milliseconds. */
@@ -114,31 +123,29 @@ static int64_t sleep_until(int64_t end) {
 }
 
 /* One that wasn't admitted at once: sleeps and asks again, until it is, its time is over, or a signal came. */
-static wanzoche_answer wait_for_turn(struct wait *wait, wanzoche_answer answer, int64_t end, double after, bool *has_told) {
-    struct shared *shared = wait->shared;
+static wanzoche_answer wait_for_turn(struct wait *wait, wanzoche_answer answer) {
+    wanzoche_store *store = wait->shared->store;
     wanzoche_answer known = answer;
-    while (wait->signal == 0 && (answer.code == WANZOCHE_BLOCKED || answer.code == WANZOCHE_WITHHELD || answer.code == WANZOCHE_LATE)) {
-        bool is_over = now() >= end;
+    while (wait->signal == 0 && is_conflict(answer)) {
+        bool is_over = now() >= wait->end;
         if (answer.code != WANZOCHE_LATE) known = answer;
-        if (is_over && is_late(shared, wait->operation, known, wait->record, after)) {
-            *has_told = true;
-            return answer;
-        }
-        if (!is_over && wait->record->is_waiting) (void)!wanzoche_store_wait(shared->store, wait->record, sleep_until(end)).code;
+        if (is_over && is_late(wait, known)) return answer;
+        wait->over = IS_IN_PROGRESS;
+        if (!is_over && wait->record->is_waiting) (void)!wanzoche_store_wait(store, wait->record, sleep_until(wait->end)).code;
         if (wait->signal == 0)
-            answer = wanzoche_store_begin(shared->store, wait->operation, 0, 0, now() >= end ? WANZOCHE_TRY : WANZOCHE_WAIT, wait->record, TURN);
+            answer = wanzoche_store_begin(store, wait->operation, 0, 0, now() >= wait->end ? WANZOCHE_TRY : WANZOCHE_WAIT, wait->record, TURN);
     }
     return answer;
 }
 
 /* The same beside the other thread. */
-static wanzoche_answer wait_beside(struct wait *wait, wanzoche_answer answer, int64_t end, double after, bool *has_told) {
+static wanzoche_answer wait_beside(struct wait *wait, wanzoche_answer answer) {
     sigset_t blocked = wait->stops, before;
     pthread_t thread;
     sigaddset(&blocked, OVER);
     pthread_sigmask(SIG_BLOCK, &blocked, &before);
     if (pthread_create(&thread, NULL, see_to_signals, wait) != 0) end_without_memory();
-    answer = wait_for_turn(wait, answer, end, after, has_told);
+    answer = wait_for_turn(wait, answer);
     pthread_mutex_lock(&wait->lock);
     wait->is_over = true;
     pthread_mutex_unlock(&wait->lock);
@@ -159,12 +166,13 @@ static bool refuse_start(struct shared *shared, uint32_t operation, wanzoche_ans
 }
 
 /* What an answer comes to. What is begun is on the disk then. */
-static enum entered entered_by(struct wait *wait, wanzoche_answer answer, bool has_told) {
+static enum entered entered_by(struct wait *wait, wanzoche_answer answer) {
     struct shared *shared = wait->shared;
-    bool is_conflict = answer.code == WANZOCHE_BLOCKED || answer.code == WANZOCHE_WITHHELD;
-    if (wait->signal != 0 || has_told) (void)!wanzoche_store_end(shared->store, wait->record, TURN).code;
-    if (wait->signal != 0) return IS_STOPPED;
-    if (has_told) return is_conflict ? IS_NOT_IN_TIME : IS_REFUSED;
+    if (wait->signal != 0) wait->over = IS_STOPPED;
+    if (wait->over != IS_IN_PROGRESS) {
+        (void)!wanzoche_store_end(shared->store, wait->record, TURN).code;
+        return wait->over;
+    }
     if (answer.code != WANZOCHE_STARTED) {
         refuse_start(shared, wait->operation, answer);
         return IS_REFUSED;
@@ -181,19 +189,15 @@ static enum entered entered_by(struct wait *wait, wanzoche_answer answer, bool h
 enum entered enter(struct shared *shared, uint32_t operation, const double *timeout, bool is_quiet, const sigset_t *stops,
                    wanzoche_store_record *record, int *signal) {
     struct wait wait = {.shared = shared, .operation = operation, .record = record, .stops = *stops, .lock = PTHREAD_MUTEX_INITIALIZER};
-    int64_t end;
-    bool has_told = false;
-    enum entered ended;
+    uint32_t waits = timeout == NULL || *timeout > 0 ? WANZOCHE_WAIT : WANZOCHE_TRY;
     wanzoche_answer answer;
-    if (timeout != NULL && isnan(*timeout)) return fails("a limit of time is None or a number of seconds, not nan") ? IS_REFUSED : IS_REFUSED;
-    end = end_of(timeout);
+    wait.end = end_of(timeout);
+    wait.seconds = timeout == NULL ? 0 : *timeout;
     wait.tells = !is_quiet && isatty(2);
-    answer = wanzoche_store_begin(shared->store, operation, 0, 0, timeout == NULL || *timeout > 0 ? WANZOCHE_WAIT : WANZOCHE_TRY, record, TURN);
-    if (answer.code == WANZOCHE_BLOCKED || answer.code == WANZOCHE_WITHHELD || answer.code == WANZOCHE_LATE)
-        answer = wait_beside(&wait, answer, end, timeout == NULL ? 0 : *timeout, &has_told);
-    ended = entered_by(&wait, answer, has_told);
+    answer = wanzoche_store_begin(shared->store, operation, 0, 0, waits, record, TURN);
+    if (is_conflict(answer)) answer = wait_beside(&wait, answer);
     *signal = wait.signal;
-    return ended;
+    return entered_by(&wait, answer);
 }
 
 /* Ends an operation in progress. */

@@ -39,8 +39,8 @@ bool check_every(struct declared *declared, uint32_t operation) {
     const char *name = declared->names[operation], *wrong = find_wrong(&declared->system, operation);
     find_device(declared->text, name, resource, law);
     if (strcmp(law, "cell") != 0) return fails("--every keeps a time in a cell, and %s is a %s", resource, law);
-    return wrong == NULL || fails("--every ends the operation also where it runs no command, and so wants one at a time, behind which nothing else is: "
-                                  "%s %s", name, wrong);
+    return wrong == NULL || fails("--every ends the operation also where it runs no command, and so wants one at a time, "
+                                  "behind which nothing else is: %s %s", name, wrong);
 }
 
 static uint64_t milliseconds_of_clock(void) {

@@ -134,7 +134,7 @@ int execute(struct shared *shared, const struct given *given) {
     int signal;
     enum entered ended;
     block_interrupt(&stops, &execution.before);
-    if (!find_operation(&shared->declared, given->operation, &operation)) ended = IS_REFUSED;
+    if (!find_operation(&shared->declared, given->operation, &operation) || !is_limit(given->timeout)) ended = IS_REFUSED;
     else ended = enter(shared, operation, execution.timeout, given->quiet, &stops, &execution.record, &signal);
     if (ended == IS_IN_PROGRESS && has_interrupt()) {
         if (!leave(shared, &execution.record)) say("%s", fault());

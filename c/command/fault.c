@@ -50,6 +50,11 @@ bool is_forbidden(void) {
     return told_by.code == WANZOCHE_SYSTEM && (told_by.number == EACCES || told_by.number == EPERM || told_by.number == EROFS);
 }
 
+/* Whether it was that the store was made with another declaration. */
+bool is_other_declaration(void) {
+    return told_by.code == WANZOCHE_OTHER_DECLARATION;
+}
+
 /* Whether it was that a line of the journal isn't owed. */
 bool is_corrupt(void) {
     return told_by.code == WANZOCHE_CORRUPT;

@@ -6,9 +6,10 @@
 
 #include "command.h"
 
-/* Behind it stand what wants the package, the status where it isn't there, and the words. */
+/* Behind it stand what wants the package, the status where it isn't there, and the words. No module comes from the folder in which it runs. */
 static const char PROGRAM[] =
     "import sys\n"
+    "sys.path = [each for each in sys.path if each]\n"
     "what, status = sys.argv.pop(1), int(sys.argv.pop(1))\n"
     "try:\n"
     "    from wanzoche._command import main\n"

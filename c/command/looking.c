@@ -25,6 +25,7 @@ int recover(struct shared *shared, const struct given *given) {
     if (!read_worker(given->operation, &worker)) {
         add_quoted(&told, given->operation);
         say("a worker is a number or `process NUMBER`, not %s", told.at);
+        clear_text(&told);
         return IS_FAULT;
     }
     answer = wanzoche_store_recover(shared->store, worker, given->even_alive, -1);

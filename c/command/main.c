@@ -46,11 +46,10 @@ static bool looks(const struct given *given) {
 
 /* Finds the declaration where the files may only be read. */
 static bool find_readable(const struct given *given, struct text *text) {
-    const char *path = whole_path(given->store);
     clear_text(text);
     if (given->declaration != NULL) return read_file(given->declaration, text);
     if (find_declaration(given, text)) return true;
-    if (is_forbidden() && access(path, R_OK) != 0) return fails("%s can't be opened: %s", path, strerror(errno));
+    if (is_forbidden() && access(given->path, R_OK) != 0) return fails("%s can't be opened: %s", given->path, strerror(errno));
     return fails("%s: who may read the journal alone names its declaration by --declaration", fault());
 }
 
@@ -58,13 +57,18 @@ static bool find_readable(const struct given *given, struct text *text) {
 static bool is_of_store(const struct given *given, const struct declared *declared) {
     struct given without = *given;
     struct declared own = {.text = NULL};
-    struct text text = {NULL, 0, 0};
+    struct text text = {NULL, 0, 0}, where = {NULL, 0, 0};
     bool is_same;
     without.declaration = NULL;
     is_same = !find_declaration(&without, &text) || !open_declared(&own, text.at, text.length) || strcmp(own.text, declared->text) == 0;
+    if (!is_same) {
+        add_difference(&where, own.text, declared->text);
+        fails("%s is of another declaration: %s", given->path, where.at);
+    }
     clear_text(&text);
+    clear_text(&where);
     if (own.text != NULL) close_declared(&own);
-    return is_same || fails("%s is of another declaration", whole_path(given->store));
+    return is_same;
 }
 
 /* The same as a command over an open store that only looks, where its files may only be read. */
@@ -75,7 +79,7 @@ static int run_reading(const struct given *given) {
     bool is_found = find_readable(given, &text) && open_declared(&shared.declared, text.at, text.length) && is_of_store(given, &shared.declared);
     clear_text(&text);
     if (!is_found) return end_with_fault(given);
-    shared.path = whole_path(given->store);
+    shared.path = given->path;
     shared.reader = new_reader(shared.path, &shared.declared);
     status = do_command(&shared, given);
     close_reader(shared.reader);
@@ -94,7 +98,12 @@ static int run(const struct given *given) {
     clear_text(&text);
     if (!is_declared || (given->command == DO_EXEC && !check_words(&shared.declared, given))) return end_with_fault(given);
     if (given->command == DO_OPERATIONS) return write_operations(&shared.declared);
-    if (!open_shared(&shared, given)) return looks(given) && is_forbidden() ? run_reading(given) : end_with_fault(given);
+    if (!open_shared(&shared, given)) {
+        if (looks(given) && is_forbidden()) return run_reading(given);
+        if (is_other_declaration()) (void)is_of_store(given, &shared.declared);
+        return end_with_fault(given);
+    }
+    if (given->command == DO_WATCH) shared.reader = new_reader(shared.path, &shared.declared); /* it reads on where it was, and not all anew */
     status = do_command(&shared, given);
     if (!close_shared(&shared)) return end_with_fault(given);
     close_declared(&shared.declared);
@@ -102,7 +111,7 @@ static int run(const struct given *given) {
 }
 
 int main(int count, char **words) {
-    struct given given;
+    static struct given given;
     take_closed_streams();
     keep_signals();
     end_by(SIGINT);
@@ -117,5 +126,6 @@ int main(int count, char **words) {
         fails("--name is wanted for a store in PostgreSQL, and for no other");
         return end_with_fault(&given);
     }
+    if (given.store != NULL) given.path = whole_path(given.store);
     return run(&given);
 }

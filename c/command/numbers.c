@@ -20,6 +20,11 @@ bool read_seconds(const char *text, double *seconds) {
     return end != text && *end == 0 && (has_only(text, "0123456789+-.eE \t\n") || !isfinite(*seconds));
 }
 
+/* Whether a number of seconds is a limit of time. */
+bool is_limit(double seconds) {
+    return !isnan(seconds) || fails("a limit of time is None or a number of seconds, not nan");
+}
+
 bool read_whole(const char *text, int *number) {
     char *end;
     long found;
@@ -46,10 +51,9 @@ bool read_worker(const char *text, uint32_t *worker) {
     unsigned long long number;
     while (length > 0 && isspace((unsigned char)text[length - 1])) length--;
     for (begin = length; begin > 0 && !isspace((unsigned char)text[begin - 1]);) begin--;
-    for (size_t at = begin; at < length; at++)
-        if (!isdigit((unsigned char)text[at])) return false;
+    if (begin == length || strspn(text + begin, "0123456789") != length - begin) return false;
     errno = 0;
-    number = begin == length ? ULLONG_MAX : strtoull(text + begin, NULL, 10);
+    number = strtoull(text + begin, NULL, 10);
     *worker = (uint32_t)number;
     return number <= UINT32_MAX && errno == 0;
 }

@@ -9,22 +9,19 @@
 #define PATIENCE 30000 /* so many milliseconds an opening waits for another that makes the store or mends it */
 #define CLOSING 1000   /* and so many a close for its turn; then others finish what is in progress */
 
-/* The path of a file without links in it, as far as that can be found: of one that isn't there, too. It counts until the next call. */
-const char *whole_path(const char *file) {
-    static struct text whole;
-    char *found = realpath(file, NULL), *folder;
+/* The path of a file without links in it, as far as that can be found, also of one that isn't there. The caller frees it. */
+char *whole_path(const char *file) {
     const char *slash = strrchr(file, '/');
-    clear_text(&whole);
-    if (found != NULL) add(&whole, "%s", found);
-    free(found);
-    if (found != NULL) return whole.at;
-    add(&whole, "%.*s", slash == NULL ? 1 : slash == file ? 1 : (int)(slash - file), slash == NULL ? "." : file);
-    folder = realpath(whole.at, NULL);
-    clear_text(&whole);
-    if (folder == NULL) add(&whole, "%s", file);
-    else add(&whole, "%s/%s", strcmp(folder, "/") == 0 ? "" : folder, slash == NULL ? file : slash + 1);
+    char *found = realpath(file, NULL), *folder;
+    struct text name = {NULL, 0, 0};
+    if (found != NULL) return found;
+    add(&name, "%.*s", slash == NULL || slash == file ? 1 : (int)(slash - file), slash == NULL ? "." : file);
+    folder = realpath(name.at, NULL);
+    clear_text(&name);
+    if (folder == NULL) add(&name, "%s", file);
+    else add(&name, "%s/%s", strcmp(folder, "/") == 0 ? "" : folder, slash == NULL ? file : slash + 1);
     free(folder);
-    return whole.at;
+    return name.at;
 }
 
 /* Keeps why the store has answered so. Always false. */
@@ -48,7 +45,7 @@ bool open_shared(struct shared *shared, const struct given *given) {
     };
     const char *text = shared->declared.text;
     wanzoche_answer answer;
-    shared->path = whole_path(given->store);
+    shared->path = given->path;
     answer = wanzoche_store_open(&shared->store, shared->path, text, strlen(text), &options, PATIENCE, why, sizeof why);
     if (answer.code == WANZOCHE_OPENED) return true;
     if (answer.code == WANZOCHE_OUT_OF_MEMORY || answer.code == WANZOCHE_LATE) return is_refused(shared, answer);

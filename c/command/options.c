@@ -219,29 +219,46 @@ static void check_whole(const struct reading *reading) {
     }
 }
 
-/* Reads the options before the command, and the name of that: where it stands. */
-static char **read_command(struct reading *reading, char **words) {
+static void end_with_version(void) __attribute__((noreturn));
+
+static void end_with_version(void) {
+    static const char version[] = "wanzoche " WANZOCHE_VERSION "\n";
+    if (is_open_stream(1) && !write_out(version, sizeof version - 1)) say("%s", fault());
+    exit(0);
+}
+
+/* The command of this name; NO_COMMAND if there is none. */
+static enum command find_command(const char *name) {
+    enum command command = COMMANDS - 1;
+    while (command > NO_COMMAND && strcmp(names_of_commands[command], name) != 0) command--;
+    return command;
+}
+
+static void end_as_no_command(const char *name) __attribute__((noreturn));
+
+static void end_as_no_command(const char *name) {
     struct text said = {NULL, 0, 0};
-    for (; *words != NULL && is_like_option(*words) && strcmp(*words, "--") != 0; words++) {
-        size_t length = strlen(*words);
-        if (strcmp(*words, "-h") == 0 || (length > 2 && strncmp("--help", *words, length) == 0)) end_with_help(NO_COMMAND);
-        if (length > 2 && strncmp("--version", *words, length) == 0) {
-            if (is_open_stream(1) && !write_out("wanzoche " WANZOCHE_VERSION "\n", sizeof "wanzoche " WANZOCHE_VERSION)) say("%s", fault());
-            exit(0);
-        }
-        add(&reading->unknown, " %s", *words);
-    }
-    if (*words != NULL && strcmp(*words, "--") == 0) words++;
-    if (*words == NULL) end_with(NO_COMMAND, "the following arguments are required: COMMAND");
-    for (enum command command = DO_EXEC; command < COMMANDS; command++)
-        if (strcmp(names_of_commands[command], *words) == 0) reading->given->command = command;
-    if (reading->given->command != NO_COMMAND) return words;
     add(&said, "argument COMMAND: invalid choice: ");
-    add_quoted(&said, *words);
+    add_quoted(&said, name);
     for (enum command command = DO_EXEC; command < COMMANDS; command++)
         add(&said, "%s'%s'", command == DO_EXEC ? " (choose from " : ", ", names_of_commands[command]);
     add(&said, ")");
     end_with(NO_COMMAND, said.at);
+}
+
+/* Reads the options before the command, and the name of that: where it stands. */
+static char **read_command(struct reading *reading, char **words) {
+    for (; *words != NULL && is_like_option(*words) && strcmp(*words, "--") != 0; words++) {
+        size_t length = strlen(*words);
+        if (strcmp(*words, "-h") == 0 || (length > 2 && strncmp("--help", *words, length) == 0)) end_with_help(NO_COMMAND);
+        if (length > 2 && strncmp("--version", *words, length) == 0) end_with_version();
+        add(&reading->unknown, " %s", *words);
+    }
+    if (*words != NULL && strcmp(*words, "--") == 0) words++;
+    if (*words == NULL) end_with(NO_COMMAND, "the following arguments are required: COMMAND");
+    reading->given->command = find_command(*words);
+    if (reading->given->command == NO_COMMAND) end_as_no_command(*words);
+    return words;
 }
 
 /* Reads the words behind the program's name. Ends the program with a message if they are wrong, and with what they ask for, as `--help`. */

@@ -66,13 +66,11 @@ static int pass_later(struct shared *shared, const struct given *given, uint32_t
 int pass_by_hand(struct shared *shared, const struct given *given) {
     uint32_t operation;
     wanzoche_answer answer;
-    double seconds = given->timeout;
-    if (!find_operation(&shared->declared, given->operation, &operation)) {
+    if (!find_operation(&shared->declared, given->operation, &operation) || !is_limit(given->timeout)) {
         say("%s", fault());
         return IS_FAULT;
     }
-    answer.code = WANZOCHE_BLOCKED;
-    if (seconds == seconds) answer = wanzoche_store_pass(shared->store, operation, NULL, -1);
+    answer = wanzoche_store_pass(shared->store, operation, NULL, -1);
     if (answer.code == WANZOCHE_STARTED) return tell_passed(answer.number);
     if (answer.code == WANZOCHE_BLOCKED || answer.code == WANZOCHE_WITHHELD || answer.code == WANZOCHE_LATE || answer.code == WANZOCHE_NO_ROOM)
         return pass_later(shared, given, operation);

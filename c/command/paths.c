@@ -52,3 +52,43 @@ void find_device(const char *declaration, const char *name, char resource[33], c
     }
     resource[0] = law[0] = 0;
 }
+
+#define SPACES " \n"
+
+/* Where the next word between spaces begins, and how long it is: 0 at the end of the text. */
+static const char *find_word(const char *at, size_t *length) {
+    at += strspn(at, SPACES);
+    *length = strcspn(at, SPACES);
+    return at;
+}
+
+/* Adds so many of the next words, or that there is none. */
+static void add_words(struct text *text, const char *at, size_t count, const char *none) {
+    size_t length;
+    at = find_word(at, &length);
+    if (length == 0 || count == 0) add(text, "%s", none);
+    for (size_t k = 0; k < count && length > 0; k++) {
+        add(text, "%s%.*s", k == 0 ? "" : " ", (int)length, at);
+        at = find_word(at + length, &length);
+    }
+}
+
+/* Adds where two declarations differ first: what stands before that, and what each has there. */
+void add_difference(struct text *text, const char *found, const char *given) {
+    const char *before[4] = {given, given, given, given};
+    size_t count = 0, ours, theirs;
+    for (;;) {
+        const char *here = find_word(found, &theirs), *there = find_word(given, &ours);
+        if (ours != theirs || ours == 0 || memcmp(here, there, ours) != 0) break;
+        before[count++ % 4] = there;
+        found = here + theirs;
+        given = there + ours;
+    }
+    add(text, "behind `");
+    add_words(text, before[count < 4 ? 0 : count % 4], count < 4 ? count : 4, "");
+    add(text, "` it has `");
+    add_words(text, found, 4, "the end");
+    add(text, "`, and this one `");
+    add_words(text, given, 4, "the end");
+    add(text, "`");
+}

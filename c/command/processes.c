@@ -37,16 +37,21 @@ static bool has_open(uint64_t process, const struct stat *wanted) {
     return has;
 }
 
+/* Takes the spaces from both ends of a text. */
+static void trim(struct text *text) {
+    size_t begin = 0;
+    while (text->length > 0 && isspace((unsigned char)text->at[text->length - 1])) text->at[--text->length] = 0;
+    while (begin < text->length && isspace((unsigned char)text->at[begin])) begin++;
+    memmove(text->at, text->at + begin, text->length - begin + 1);
+    text->length -= begin;
+}
+
 /* The words of a process with a space between two; a null text if there are none. */
 static struct text words_of(uint64_t process) {
     struct text words = read_of(process, "cmdline");
-    size_t begin = 0;
     for (size_t k = 0; k < words.length; k++)
         if (words.at[k] == 0) words.at[k] = ' ';
-    while (words.length > 0 && isspace((unsigned char)words.at[words.length - 1])) words.at[--words.length] = 0;
-    while (begin < words.length && isspace((unsigned char)words.at[begin])) begin++;
-    if (begin > 0) memmove(words.at, words.at + begin, words.length - begin + 1);
-    words.length -= begin;
+    trim(&words);
     if (words.length == 0) clear_text(&words);
     return words;
 }
@@ -124,6 +129,12 @@ static struct place *sorted_places(const struct report *report) {
     return places;
 }
 
+static void copy_process(struct process *process, const struct process *from) {
+    *process = *from;
+    process->command = (struct text){NULL, 0, 0};
+    if (from->command.at != NULL) add_bytes(&process->command, from->command.at, from->command.length);
+}
+
 /* Finds the process of each operation in progress: each worker's is looked at once. */
 void find_processes(const struct report *report, struct process *processes, const char *beside) {
     static char host[256];
@@ -132,13 +143,10 @@ void find_processes(const struct report *report, struct process *processes, cons
     struct place *places = sorted_places(report);
     gethostname(host, sizeof host - 1);
     for (size_t k = 0; k < report->count; k++) {
-        struct process *process = &processes[places[k].at], *before = k == 0 ? NULL : &processes[places[k - 1].at];
-        if (k == 0 || places[k].worker != places[k - 1].worker) find_process(process, report->live[places[k].at].process, host, has_state ? &state : NULL);
-        else {
-            *process = *before;
-            process->command = (struct text){NULL, 0, 0};
-            if (before->command.at != NULL) add_bytes(&process->command, before->command.at, before->command.length);
-        }
+        size_t at = places[k].at;
+        bool is_first = k == 0 || places[k].worker != places[k - 1].worker;
+        if (is_first) find_process(&processes[at], report->live[at].process, host, has_state ? &state : NULL);
+        else copy_process(&processes[at], &processes[places[k - 1].at]);
     }
     free(places);
 }

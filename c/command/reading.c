@@ -112,9 +112,10 @@ static bool read_head(struct reader *reader) {
     ssize_t found = pread(reader->file, head, sizeof head - 1, 0);
     if (found < 0) return fails_at(reader->path, "can't be read");
     head[found] = 0;
-    if (sscanf(head, "journal 3 room %7lu%n", &room, &behind) == 1 && head[behind] == '\n' && head[15] != '0') reader->at = (uint64_t)behind + 1;
-    else if (memchr(head, '\n', (size_t)found) != NULL || found == sizeof head - 1) return is_broken(reader, 1, "it has no head as `journal 3 room 1048576`");
-    return true;
+    if (sscanf(head, "journal 3 room %7lu%n", &room, &behind) == 1 && head[behind] == '\n' && head[sizeof "journal 3 room"] != '0')
+        reader->at = (uint64_t)behind + 1;
+    if (reader->at > 0 || (memchr(head, '\n', (size_t)found) == NULL && found < (ssize_t)sizeof head - 1)) return true;
+    return is_broken(reader, 1, "it has no head as `journal 3 room 1048576`");
 }
 
 /* Of lines that aren't taken over: which one it is, and what is owed. */
@@ -231,9 +232,11 @@ struct reader *new_reader(const char *path, const struct declared *declared) {
 /* A number that is another one when the files or who waits have changed. */
 uint64_t stamp_of(const struct reader *reader) {
     struct stat state = {0}, beside = {0};
+    uint64_t sum;
     (void)!stat(reader->path, &state);
     (void)!stat(reader->beside_path.at, &beside);
-    return ((uint64_t)state.st_size * 31 + (uint64_t)state.st_ino) * 31 + (uint64_t)beside.st_ino + (reader->beside < 0 ? 0 : stamp_beside(reader->beside));
+    sum = ((uint64_t)state.st_size * 31 + (uint64_t)state.st_ino) * 31 + (uint64_t)beside.st_ino;
+    return reader->beside < 0 ? sum : sum + stamp_beside(reader->beside);
 }
 
 /* Whether each operation in progress is the first of its worker's: which ones have told of it already is kept in a table by workers. */
@@ -244,7 +247,7 @@ static bool *find_firsts(const wanzoche_activation *live, uint32_t count) {
     while (mask < (size_t)count * 2) mask = mask * 2 + 1;
     told = take_memory(mask + 1, sizeof *told);
     for (uint32_t k = 0; k < count; k++) {
-        size_t at = live[k].worker * UINT32_C(2654435761) & mask;
+        size_t at = (size_t)(live[k].worker * UINT32_C(2654435761)) & mask;
         while (told[at] != 0 && live[told[at] - 1].worker != live[k].worker) at = (at + 1) & mask;
         firsts[k] = told[at] == 0;
         if (firsts[k]) told[at] = k + 1;

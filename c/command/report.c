@@ -59,6 +59,15 @@ static void mark_lost(struct report *report) {
     }
 }
 
+/* Gives each operation in progress the process of its worker, if that is known. */
+static void give_processes(struct report *report, struct known *known, size_t count) {
+    qsort(known, count, sizeof *known, by_worker);
+    for (size_t k = 0; k < report->count; k++) {
+        struct known wanted = {report->live[k].worker, 0}, *found = bsearch(&wanted, known, count, sizeof *known, by_worker);
+        if (found != NULL) report->live[k].process = found->process;
+    }
+}
+
 /* Reads the text of a report. */
 void read_report(struct report *report, struct declared *declared) {
     const char *text = report->text.at;
@@ -69,11 +78,7 @@ void read_report(struct report *report, struct declared *declared) {
     for (int k = 0; k < WANZOCHE_MOST_OPERATIONS; k++) report->blocked_by[k] = -1;
     for (const char *at = text; at != NULL; take_line(report, declared, line, known, &count)) at = take_copy(at, line);
     mark_lost(report);
-    qsort(known, count, sizeof *known, by_worker);
-    for (size_t k = 0; k < report->count; k++) {
-        struct known wanted = {report->live[k].worker, 0}, *found = bsearch(&wanted, known, count, sizeof *known, by_worker);
-        if (found != NULL) report->live[k].process = found->process;
-    }
+    give_processes(report, known, count);
     free(known);
 }
 

@@ -95,7 +95,7 @@ static int hand_on(pid_t child, const sigset_t *signals) {
 /* Runs the command to its end: its status, or that of one that can't be run. The mask is that with which this program began. */
 int run_command(struct shared *shared, char **words, const sigset_t *before) {
     sigset_t signals;
-    pid_t child;
+    pid_t child = 0;
     int error;
     sigemptyset(&signals);
     add_handed_on(&signals);

@@ -164,6 +164,8 @@ int watch_status(struct shared *shared, const struct given *given) {
         before = told;
         if (is_told) wait_for_change(shared, stamp, given->watch);
     }
+    clear_text(&before);
+    free(table.widths);
     say("%s", fault());
     return IS_FAULT;
 }

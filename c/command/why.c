@@ -49,7 +49,8 @@ void add_why(struct text *text, struct declared *declared, uint32_t operation, c
     if (after > 0) add(text, " for %g seconds", after);
     add(text, ":");
     if (behind != NULL)
-        add(text, " behind %s by process %u, which has waited %.1f s,", declared->names[behind->operation], behind->worker, (double)behind->waited / 1000);
+        add(text, " behind %s by process %u, which has waited %.1f s,", declared->names[behind->operation], behind->worker,
+            (double)behind->waited / 1000);
     add(text, " path %u of %s: %s; in progress: ", number, path.resource, path.text.at);
     if (add_running(text, declared, &path, report) == 0) {
         add(text, "nothing of it; may begin next: ");

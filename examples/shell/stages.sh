@@ -1,8 +1,8 @@
 #!/bin/sh
 # Stages of a delivery as commands that know nothing of each other. The paths say that the tests run behind a build that succeeded, and the
 # deployment behind tests that succeeded; behind a failure the next build begins. The stages are begun in the wrong order here, and the paths
-# put them into the right one: the first build fails, the tests of the second one do, and the third is deployed. `wanzoche` is the command of
-# the Python package; the variable WANZOCHE names another way to run it.
+# put them into the right one: the first build fails, the tests of the second one do, and the third is deployed. The variable
+# WANZOCHE names another way to run the command `wanzoche`.
 set -eu
 wanzoche=${WANZOCHE:-wanzoche}
 folder=$(mktemp -d)

@@ -112,6 +112,14 @@ class Stores(OnCommand, unittest.TestCase):
             for words in looks + [["pass", "built"], ["exec", "--timeout", "0.01", "build", "--", "true"], ["exec", "build"]]:
                 self.is_the_same(*words)
 
+    def test_another_declaration(self):
+        self.open(DELIVERY, lost="keep")
+        for text in (DELIVERY.replace("broken", "broke"), DELIVERY.replace(" end\nend", " end path deploy end\nend")):
+            with open(self.declaration, "w") as file:
+                file.write(text)
+            for words in (["status"], ["log"], ["exec", "build", "--", "true"], ["pass", "build"]):
+                self.is_the_same(words[0], "--declaration", self.declaration, *words[1:])
+
     def test_where_the_dead_have_something(self):
         self.open(DELIVERY, lost="keep")
         self.dies(lambda: setattr(self, "kept", Paths(DELIVERY, store=self.file).enter("build")))
@@ -161,7 +169,10 @@ class Handing(InFolder, unittest.TestCase):
             self.assertEqual(ended(words, **told), ("|".join([what, *words, ""]), "", 3))
 
     def test_it_is_the_package_that_gets_them(self):
-        environment = {"env": {"WANZOCHE_PYTHON": sys.executable}}
+        """And not a module of this name in the folder in which it runs."""
+        with open(os.path.join(self.folder, "wanzoche.py"), "w") as file:
+            file.write("raise SystemExit('this is another one')\n")
+        environment = {"env": {"WANZOCHE_PYTHON": sys.executable, "PYTHONPATH": os.path.dirname(os.path.dirname(_command.__file__))}, "cwd": self.folder}
         words = ["status", "--store", "postgresql:///none?host={}".format(self.folder)]
         found = ended(words, **environment)
         self.assertEqual(found, of_package(words))
