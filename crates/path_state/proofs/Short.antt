@@ -69,8 +69,7 @@ filling_short (alt l r) place progress stands =
 filling_short (burst bd t) place progress stands = filling_short t place progress stands
 
 pub each_standing_has_a_short_past : EachStandingHasAShortPast
-each_standing_has_a_short_past s wf progress stands c = (
-  filling s 0 progress stands,
-  filling_leads s wf progress stands c,
-  filling_short s 0 progress stands,
+each_standing_has_a_short_past = (
+  (λ s progress stands. filling s 0 progress stands),
+  λ s wf progress stands c. record { leads = filling_leads s wf progress stands c; few = filling_short s 0 progress stands },
 )

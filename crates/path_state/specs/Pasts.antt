@@ -54,8 +54,14 @@ names_in (seq l r) = names_in l + names_in r
 names_in (alt l r) = names_in l + names_in r
 names_in (burst bd t) = names_in t
 
--- it may be a short past: for each execution that is in progress or stands behind a `;`, at most one start of each name
+-- the history leads there, and for each execution that is in progress or stands behind a `;` it has at most one start of each name
+pub record IsShortPast (s : Tree) (progress : OpId → ℕ) (stands : List ℕ) (h : List Event) : Type 0 where
+  pub leads : LeadsTo s progress stands h
+  pub few : starts_in h ≤ in_all s 0 progress stands * names_in s
+
+-- wherever a path can stand, it can have come there by a short history
 abbrev pub EachStandingHasAShortPast : Type 0
 EachStandingHasAShortPast =
-    (s : Tree) → WellFormed s → (progress : OpId → ℕ) (stands : List ℕ) → CanStand s progress stands
-    → (h : List Event) × LeadsTo s progress stands h × (starts_in h ≤ in_all s 0 progress stands * names_in s)
+    (past : Tree → (OpId → ℕ) → List ℕ → List Event)
+    × ((s : Tree) → WellFormed s → (progress : OpId → ℕ) (stands : List ℕ) → CanStand s progress stands
+    → IsShortPast s progress stands (past s progress stands))

@@ -20,7 +20,8 @@ pub fn each_standing_has_a_past()
     ensures { EachStandingHasAPast }
 {}
 
-/// And the history may be short: for each execution that is in progress or stands behind a `;` it has at most one start of each name.
+/// Wherever a path can stand, it can have come there by a short history: for each execution that is in progress or stands behind a `;`, at
+/// most one start of each name.
 pub fn each_standing_has_a_short_past()
     ensures { EachStandingHasAShortPast }
 {}
