@@ -7,7 +7,7 @@ use Rattle.std.proofs.lemmas.Bool.{cases_lt}
 use Rattle.path_model.specs.declared.history.Event.{Event}
 use Rattle.path_model.specs.Trees.{Tree, op, WellFormed}
 use Rattle.path_model.specs.Projection.{LegalOn}
-use Rattle.path_model.specs.Machine.{semicolons, Values, opening}
+use Rattle.path_model.specs.Machine.{semicolons, braces, Values, opening}
 use Rattle.path_model.specs.AmongOthers.{values_among}
 use Rattle.path_model.specs.Guarantees.{PartsCount}
 use Rattle.path_model.specs.Legal as legal
@@ -47,13 +47,13 @@ module _ (g : Standing) (ss : List Tree) (paths : g.paths ≡ legal.numbered 0 s
   abbrev own : ℕ
   own = sum_by semaphores_in (take i ss)
 
-  at_site : (P : Sited → Type 0) → legal.Every P (kept_paths g.paths) → (first : ℕ) × P (record { tree = tree; own = 0 + own; first = first })
+  at_site : (P : Sited → Type 0) → legal.Every P (kept_paths g.paths) → P (record { tree = tree; own = 0 + own; first = 0 + sum_by braces (take i ss) })
   at_site P e = kept_here P base ss 0 0 0 [] i l refl apart (subst (λ xs. legal.Every P (kept_paths xs)) paths e)
 
   pub within : (own_is : ℕ) → own_is ≡ own → 0 < semicolons tree → own_is + 1 + semicolons tree ≤ length g.levels.semaphores
   within own_is same some =
       let placed = at_site (λ x. HasPlaces (length g.levels.semaphores) (length g.levels.counters) x) places in
-      let last = placed.1.semaphores (semicolons tree) (omega arith) (λ _. some) in
+      let last = placed.semaphores (semicolons tree) (omega arith) (λ _. some) in
       omega (arith, last, same)
 
   module _ (wf : WellFormed tree) (h : List Event) (legal_all : legal.Legal g.paths h) (at : IsAt g h) where
@@ -66,7 +66,7 @@ module _ (g : Standing) (ss : List Tree) (paths : g.paths ≡ legal.numbered 0 s
     value_at : (k : ℕ) → k < semicolons tree → get_or g.levels.semaphores (own + (k + 1)) 0 ≡ (values_among tree (opening tree) h).semaphore (1 + k)
     value_at k m =
         let shown = at_site (λ x. Shows g.levels (lean_among x.tree (opening x.tree) h) x) at.values in
-        let e = shown.1.semaphores (k + 1) (omega (arith, m)) (λ _. omega arith) in
+        let e = shown.semaphores (k + 1) (omega (arith, m)) (λ _. omega arith) in
         let t = (each_path_trims tree wf h).kept_values.semaphores (k + 1) (λ _. omega arith) in
         ap (λ q. get_or g.levels.semaphores q 0) (omega arith) ∙ e ∙ t ∙ ap (values_among tree (opening tree) h).semaphore (omega arith)
 

@@ -1,42 +1,18 @@
 //! How many executions stand behind each `;` of the paths.
 
-ghost use Rattle.std.specs.Prelude.{◌≡◌, ◌+◌, ◌<◌, ◌≤◌, ℕ, List, length, map, take, drop, IfOk, IfSome, IfNone, false};
+ghost use Rattle.std.specs.Prelude.{◌≡◌, ◌+◌, ◌<◌, ◌≤◌, List, length, map, take, drop, IfOk};
 ghost use Rattle.path_model.specs.declared.history.Event.{Event};
-ghost use Rattle.path_model.specs.Trees.{shape};
-ghost use Rattle.path_model.specs.Trimmed.{same_tree};
 ghost use Rattle.path_model.specs.Legal.{Legal};
 ghost use Rattle.path_model.specs.Declarations.{trees, paths_of};
 ghost use Rattle.path_gate.specs.Standings.{IsAt};
 ghost use Rattle.path_state.specs.Standings.{stands_after};
-ghost use Rattle.path_standings.specs.Told.{tree_at};
 
 use crate::parts::parts_of;
-use path_decl::{Decl, counts, is_same_tree, tree_of};
+use crate::trees::{same_before, tree_numbered};
+use path_decl::{Decl, counts};
 use path_gate::Gate;
-use path_model::{Expr, OutOfMemory, PathId};
+use path_model::OutOfMemory;
 use std::alloc::Allocator;
-
-/// The tree of a path.
-fn tree_numbered<A: Allocator + Copy>(decl: &Decl<A>, number: u32) -> &Expr<A>
-    requires { number < length decl.now.declaration.paths }
-    ensures { shape result.now ≡ tree_at decl.now.declaration number }
-{
-    tree_of(decl, PathId(number)).unwrap()
-}
-
-/// The first path before this one that has this tree.
-fn same_before<A: Allocator + Copy>(decl: &Decl<A>, tree: &Expr<A>, number: u32) -> Option<u32>
-    requires { number ≤ length decl.now.declaration.paths }
-    ensures some { IfSome result (λ i. (i < number) × (tree_at decl.now.declaration i ≡ shape tree.now)) }
-    ensures none { IfNone result ((i : ℕ) → i < number → same_tree (shape tree.now) (tree_at decl.now.declaration i) ≡ false) }
-{
-    for earlier in 0..number {
-        if is_same_tree(tree, tree_numbered(decl, earlier)) {
-            return Some(earlier);
-        }
-    }
-    None
-}
 
 /// So many values of a list, from this place on. Fails only if allocation fails.
 fn values_from<A: Allocator + Copy>(

@@ -4,6 +4,7 @@
 pub use Rattle.path_state.proofs.Standings.{standings_tell_what_may_follow}
 pub use Rattle.path_state.proofs.Values.{standings_tell_the_values}
 pub use Rattle.path_state.proofs.Fillings.{each_standing_has_a_past}
+pub use Rattle.path_state.proofs.Short.{each_standing_has_a_short_past}
 pub use Rattle.path_state.proofs.States.{states_owe_the_same}
 -- the numbers that stand behind each `;`, and how much is underway where they do
 pub use Rattle.path_state.proofs.Standings.{stands_long}

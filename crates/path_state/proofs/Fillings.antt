@@ -13,7 +13,8 @@ use Rattle.path_model.specs.Executions.{entered, left, TreeInProgress}
 use Rattle.path_model.specs.Guarantees.{FitsBound}
 use Rattle.path_model.specs.Refusals.{IsFull}
 use Rattle.path_model.proofs.CallerLemmas.{entered_parts_are_underway}
-use Rattle.path_state.specs.Pasts.{underway, BoundsFit, CanStand, Past, EachStandingHasAPast}
+use Rattle.path_state.specs.Standings.{LeadsTo}
+use Rattle.path_state.specs.Pasts.{underway, BoundsFit, CanStand, EachStandingHasAPast}
 use Rattle.path_state.proofs.Alike.{entered_step, left_began}
 use Rattle.path_state.proofs.Standings.{whole}
 use Rattle.path_state.proofs.Places.{StandAt, Counted, stand_only, underway_is, past_can_stand}
@@ -300,11 +301,9 @@ module _ (s : Tree) (wf : WellFormed s) where
         (filled t place n (flat_nests t f.0) (λ g i. (k g i).0) (λ g. IsFull bd t g ⊎ (E g × (entered t g ≤ left t g))) read fit.0 h l
         (within_quiet bd t place f.0 fit.1 k E h l quiet) (admits_within bd t place f.0 fit.1 k E h l quiet a))
 
-    can_stand_past : CanStand s progress stands → Past s progress stands
-    can_stand_past c = (
-      filling s 0 progress stands,
-      record { legal = a.legal; counted = a.counted; standing = stand_only s (filling s 0 progress stands) stands (keeps_parts s wf _ a.legal) c.places a.there },
-    )
+    pub filling_leads : CanStand s progress stands → LeadsTo s progress stands (filling s 0 progress stands)
+    filling_leads c =
+        record { legal = a.legal; counted = a.counted; standing = stand_only s (filling s 0 progress stands) stands (keeps_parts s wf _ a.legal) c.places a.there }
       where
         none : (entered s [] ≡ 0) × (left s [] ≡ 0)
         none = nothing_entered s
@@ -318,4 +317,7 @@ module _ (s : Tree) (wf : WellFormed s) where
         a = filled s 0 wf.names_once wf.not_nested (keeps_parts s wf) (λ g. TreeInProgress s g) (λ h a n x. x) c.bounds [] ([], ([], refl)) (omega (arith, none.0, none.1)) alone
 
 pub each_standing_has_a_past : EachStandingHasAPast
-each_standing_has_a_past s wf progress stands = (can_stand_past s wf progress stands, λ p. past_can_stand s wf progress stands p.0 p.1)
+each_standing_has_a_past s wf progress stands = (
+  (λ c. (filling s 0 progress stands, filling_leads s wf progress stands c)),
+  λ p. past_can_stand s wf progress stands p.0 p.1,
+)

@@ -6,6 +6,7 @@ pub mod Places
 pub mod Blocks
 pub mod Runs
 pub mod Fillings
+pub mod Short
 pub mod Values
 pub mod Examples
 pub mod CallerLemmas

@@ -20,7 +20,7 @@ use Rattle.path_standings.proofs.standings.stands.Goals.{in-Some+in_ok-row-in-So
 pub parts_of-parts-requires : goal.parts_of-parts-requires
 parts_of-parts-requires g c =
     let few = few_at c.args.decl.now.declaration c.args.decl.now.lawful c.loop-number.number (omega (arith, c.loop-number-test.true, c.counts-number-end.ensures.paths)) in
-    rw c.tree_numbered-tree.ensures (omega (arith, few))
+    rw c.tree_numbered-tree.ensures (omega (arith, few.0, few.1))
 
 pub overflow_add-own : goal.overflow_add-own
 overflow_add-own g c = let few = few_before c.args.decl.now.declaration c.args.decl.now.lawful c.loop-number.number in let own = c.loop-number.invariant.own in omega (arith, few, own)
@@ -31,7 +31,7 @@ overflow_add-own-in-loop-number-3 g c =
     let parts = few_at c.args.decl.now.declaration c.args.decl.now.lawful c.loop-number.number (omega (arith, c.loop-number-test.true, c.counts-number-end.ensures.paths)) in
     let semicolons = rw c.tree_numbered-tree.ensures at c.parts_of-parts.ensures.semicolons in
     let bounds = rw c.tree_numbered-tree.ensures at c.parts_of-parts.ensures.bounds in
-    omega (arith, few, parts, semicolons, bounds, c.loop-number.invariant.own)
+    omega (arith, few, parts.0, semicolons, bounds, c.loop-number.invariant.own)
 
 pub values_from-requires-in-None : goal.values_from-requires-in-None
 values_from-requires-in-None g c =
