@@ -109,14 +109,11 @@ class Starts(Counting, unittest.TestCase):
     def test_not_behind_more_than_it_is_told_of(self):
         """It comes later by a trip where much is in progress, or many lines were appended."""
         a, b = self.met(LIBRARY)
-        for fails in (lambda: [b.enter("look").leave() for _ in range(3)], lambda: [b.enter("note") for _ in range(2)]):
-            kept = a.enter("note")
-            with mock.patch.object(_clerk, "FEW", 0):
-                fails()
-                trips = self.calls_of(a)
-                a.enter("read").leave()
-            self.assertEqual([trip[0] for trip in trips], ["start", "start", "finish"])
-            kept.leave()
+        with a("note"), mock.patch.object(_clerk, "FEW", 0):
+            b.enter("look").leave()
+            trips = self.calls_of(a)
+            a.enter("read").leave()
+        self.assertEqual([trip[0] for trip in trips], ["start", "start", "finish", "finish"])
         for _ in range(501):
             b.enter("look").leave()
         trips = self.calls_of(a)
