@@ -504,7 +504,8 @@ class Clerk:
     def _is_idle(self, wakes_too: bool = False) -> bool:
         """Whether there is nothing to do, and nobody waits; or nothing but to wake others, which a finish does as well."""
         has_work = self._finishes or self._uses or self._questions or self._unknown or self._is_stale or self._slots
-        return not (has_work or self._passes and not wakes_too or self.log.session.notices or any(self._starts.values()) or self.log.place.lines >= self.log.due)
+        has_others = self._passes and not wakes_too or self.log.session.notices or any(self._starts.values())
+        return not (has_work or has_others or self.log.place.lines >= self.log.due)
 
     def _forget_unwanted(self) -> None:
         for op, queue in self._starts.items():
