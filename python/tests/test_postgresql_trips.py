@@ -10,7 +10,7 @@ from unittest import mock
 
 import psycopg
 
-from wanzoche import Lost, StoreError, _clerk, _log, _order, _postgresql, _served
+from wanzoche import Lost, StoreError, _clerk, _log, _order, _postgresql, _served, _served_order
 
 from .declarations import BOOK
 from .limits import LONGEST
@@ -200,9 +200,11 @@ class Woken(OnLog, Counting, unittest.TestCase):
 
     def setUp(self):
         super().setUp()
-        patch = mock.patch.object(_clerk, "CHECK", NOBODY_LOOKS)
-        patch.start()
-        self.addCleanup(patch.stop)
+        never = LONGEST * 1_000_000_000
+        for module, name, value in ((_clerk, "CHECK", NOBODY_LOOKS), (_served_order, "LATEST", never), (_served_order, "EARLIEST", -never)):
+            patch = mock.patch.object(module, name, value)
+            patch.start()
+            self.addCleanup(patch.stop)
 
     def test_it_begins_in_one_trip(self):
         a, b, c = self.strict(LIBRARY), self.strict(LIBRARY), self.strict(LIBRARY)
@@ -300,7 +302,7 @@ class Woken(OnLog, Counting, unittest.TestCase):
         entry = a.enter("write")
         waits = self.waits(b, "write")
         trips, told = self.calls_of(b), self.server.run("select pg_get_functiondef('wanzoche.wake'::regproc)")[0][0]
-        wrong = told.replace("wanzoche.microseconds(clock_timestamp())", "wanzoche.microseconds(clock_timestamp() - interval '2 seconds')")
+        wrong = told.replace("wanzoche.microseconds(clock_timestamp())", "wanzoche.microseconds(clock_timestamp() - interval '1 day')")
         self.assertNotEqual(wrong, told)
         self.addCleanup(self.server.run, told)
         self.server.run(wrong)
