@@ -326,7 +326,7 @@ class Rights(Faulty, unittest.TestCase):
 
     def test_a_call_behind_the_line(self):
         """The line is there, and what is called behind it is refused, or to read what others have appended: nobody holds what was started."""
-        for function in ("pg_logical_emit_message(boolean, text, text)", "wanzoche.lines(int, bigint, bigint)"):
+        for function in ("pg_logical_emit_message(boolean, text, text)", "wanzoche.since(int, bigint, bigint)"):
             with self.subTest(function):
                 self.server.run("revoke execute on function {} from public".format(function))
                 try:

@@ -578,13 +578,14 @@ class Inserts(Rotating, unittest.TestCase):
         self.enters(a, 2)
         b.report()
         place, stamp = self.asks(a, lambda: a._served._log.place)
-        # The same function, but that it is held up on its way to its turn.
-        told, holds = self.server.run("select pg_get_functiondef('wanzoche.start'::regproc)")[0][0], self.connection()
-        put = told.replace("from (select from", "from (select pg_advisory_xact_lock(4711) from").replace("start.", "late.").replace("e.start(", "e.late(")
-        self.server.run(put)
-        self.addCleanup(self.server.run, "drop function wanzoche.late")
+        # The same statement, but that it is held up on its way to its turn.
+        put, holds = _log.PUT.format("", "").replace("from (select from", "from (select pg_advisory_xact_lock(4711) from"), self.connection()
         holds.execute("select pg_advisory_lock(4711)")
-        late, found = self.put(a, place, stamp, "late")
+        connection, found = self.connection().pgconn, []
+        connection.prepare(b"put", put.encode())
+        log = a._served._log._log
+        given = [log, b"9", b"%d" % place, stamp, b"9 start read: started 2"]
+        late = threading.Thread(target=lambda: found.append(connection.exec_prepared(b"put", given).ntuples))
         late.start()
         self.until(lambda: self.server.run("select 1 from pg_locks where objid = 4711 and not granted"))
         self.enters(b, 4)
@@ -596,22 +597,9 @@ class Inserts(Rotating, unittest.TestCase):
         for thread in (moves, late):
             thread.join(LONGEST)
         self.assertEqual(len(self.lines()), 1)
-        self.assertEqual(found, [None])
+        self.assertEqual(found, [0])
         self.assertEqual(len(self.standing()), 12)
         self.assertTrue(a.audit() and b.audit())
-
-    def put(self, paths, place, stamp, name):
-        """A thread that appends a start behind this line, and what becomes of it: the server's code, or the number that it gets."""
-        connection, found = self.connection().pgconn, []
-        connection.prepare(b"put", _log.STATEMENTS[b"start"].replace("wanzoche.start", "wanzoche." + name).encode())
-        given = [paths._served._log._log, b"9", b"%d" % place, stamp, b"read", b"2", None, b"{}", b"{0,1}", b"{}", b"0", b"1", b"{}", b"{}", b"f"]
-
-        def puts():
-            result = connection.exec_prepared(b"put", given)
-            code = result.error_field(ord("C"))
-            found.append(code.decode() if code else result.get_value(0, 0))
-
-        return threading.Thread(target=puts), found
 
     def test_one_that_slept_on_its_way(self):
         """It knows only lines that are moved while it waits for its turn, and began behind all that has to be waited for."""
@@ -619,11 +607,15 @@ class Inserts(Rotating, unittest.TestCase):
         self.enters(a, 2)
         place, stamp = self.asks(a, lambda: a._served._log.place)
         self.enters(b, 4)
-        late, found = self.put(a, place, stamp, "start")
+        connection, found = self.connection().pgconn, []
+        connection.prepare(b"put", _log.PUT.format("", "").encode())
+        log = a._served._log._log
+        given = [log, b"9", b"%d" % place, stamp, b"9 start read: started 2"]
+        late = threading.Thread(target=lambda: found.append(connection.exec_prepared(b"put", given).ntuples))
         with mock.patch.object(b._served._log, "_move", self.while_locked(b, late)):
             b.rotate()
         late.join(LONGEST)
-        self.assertEqual(found, ["WZ003"])
+        self.assertEqual(found, [0])
         self.assertEqual(len(self.standing()), 12)
         self.assertTrue(a.audit() and b.audit())
 
@@ -664,13 +656,12 @@ class Inserts(Rotating, unittest.TestCase):
     def test_one_that_knows_what_was_moved(self):
         a = self.open(BOOK)
         self.enters(a, 2)
-        place = self.asks(a, lambda: a._served._log.place)
+        log = a._served._log
+        place = self.asks(a, lambda: log.place)
         self.moves(a)
-        for known, code in ((place, "WZ003"), (_log.Place(1, None), "WZ001"), (_log.Place(0, None), "WZ003")):
-            late, found = self.put(a, *known, "start")
-            late.start()
-            late.join(LONGEST)
-            self.assertEqual(found, [code])
+        for known in (place, _log.Place(1, None), _log.Place(0, None)):
+            given = (log._log, b"9", b"%d" % known.lines, known.stamp, b"9 start read: started 5")
+            self.assertEqual(self.asks(a, lambda: log._call(_log.Call(b"put_finish", (*given, b"{}"))))[0], [])
         self.assertEqual(len(self.standing()), 10)
 
     def test_a_transaction_that_stays_open(self):

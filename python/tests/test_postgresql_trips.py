@@ -10,7 +10,7 @@ from unittest import mock
 
 import psycopg
 
-from wanzoche import Lost, StoreError, _clerk, _log, _order, _postgresql, _served
+from wanzoche import Lost, StoreError, _clerk, _log, _order, _postgresql, _served, _served_order
 
 from .declarations import BOOK
 from .limits import LONGEST
@@ -109,14 +109,11 @@ class Starts(Counting, unittest.TestCase):
     def test_not_behind_more_than_it_is_told_of(self):
         """It comes later by a trip where much is in progress, or many lines were appended."""
         a, b = self.met(LIBRARY)
-        for fails in (lambda: [b.enter("look").leave() for _ in range(3)], lambda: [b.enter("note") for _ in range(2)]):
-            kept = a.enter("note")
-            with mock.patch.object(_clerk, "FEW", 0):
-                fails()
-                trips = self.calls_of(a)
-                a.enter("read").leave()
-            self.assertEqual([trip[0] for trip in trips], ["start", "start", "finish"])
-            kept.leave()
+        with a("note"), mock.patch.object(_clerk, "FEW", 0):
+            b.enter("look").leave()
+            trips = self.calls_of(a)
+            a.enter("read").leave()
+        self.assertEqual([trip[0] for trip in trips], ["start", "start", "finish", "finish"])
         for _ in range(501):
             b.enter("look").leave()
         trips = self.calls_of(a)
@@ -203,9 +200,11 @@ class Woken(OnLog, Counting, unittest.TestCase):
 
     def setUp(self):
         super().setUp()
-        patch = mock.patch.object(_clerk, "CHECK", NOBODY_LOOKS)
-        patch.start()
-        self.addCleanup(patch.stop)
+        never = LONGEST * 1_000_000_000
+        for module, name, value in ((_clerk, "CHECK", NOBODY_LOOKS), (_served_order, "LATEST", never), (_served_order, "EARLIEST", -never)):
+            patch = mock.patch.object(module, name, value)
+            patch.start()
+            self.addCleanup(patch.stop)
 
     def test_it_begins_in_one_trip(self):
         a, b, c = self.strict(LIBRARY), self.strict(LIBRARY), self.strict(LIBRARY)
@@ -247,11 +246,12 @@ class Woken(OnLog, Counting, unittest.TestCase):
 
     def test_readers_wake_one_another(self):
         """A finish wakes the first, and all of them are in at once."""
-        a, openings = self.strict(BOOK), [self.strict(BOOK) for _ in range(4)]
+        a, openings, met = self.strict(BOOK), [self.strict(BOOK) for _ in range(4)], []
 
         def reads(paths, inside):
             with paths("read", timeout=LONGEST):
                 inside.wait()
+                met.append(paths)
 
         for _ in range(3):
             entry, inside, readers = a.enter("write"), threading.Barrier(4, timeout=LONGEST), []
@@ -262,7 +262,7 @@ class Woken(OnLog, Counting, unittest.TestCase):
             entry.leave()
             for each in readers:
                 each.join(LONGEST)
-            self.assertEqual([line.split()[1] for line in self.lines()[-8:]], 4 * ["start"] + 4 * ["finish"])
+        self.assertEqual(len(met), 12)
         self.assertTrue(a.audit())
 
     def forged(self, paths, told):
@@ -303,7 +303,7 @@ class Woken(OnLog, Counting, unittest.TestCase):
         entry = a.enter("write")
         waits = self.waits(b, "write")
         trips, told = self.calls_of(b), self.server.run("select pg_get_functiondef('wanzoche.wake'::regproc)")[0][0]
-        wrong = told.replace("wanzoche.microseconds(clock_timestamp())", "wanzoche.microseconds(clock_timestamp() - interval '2 seconds')")
+        wrong = told.replace("wanzoche.microseconds(clock_timestamp())", "wanzoche.microseconds(clock_timestamp() - interval '1 day')")
         self.assertNotEqual(wrong, told)
         self.addCleanup(self.server.run, told)
         self.server.run(wrong)

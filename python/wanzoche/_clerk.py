@@ -113,7 +113,6 @@ class Clerk:
         self._passes: Set[int] = set()  # the operations of which the next waiter has yet to be woken
         self._beaten = 0
         self._alone: Set[int] = set()  # the operations of which two were never admitted at once
-        self._beside: List[Set[int]] = [set() for _ in self._rivals]  # of each operation those that were admitted behind its start
         self._is_stale = False
         self._has_moved = False  # whether the last step moved lines: then the next one does something else first
         self._is_unsure = False  # whether something was given up that may have been done
@@ -221,7 +220,7 @@ class Clerk:
         if not self._is_asleep or self._inbox or self._ends or self._is_cut or self._has_failed() or self._flight:
             return False
         watched = self._watched
-        if not self._is_idle() or self.log.session.fileno() != watched:
+        if not self._is_idle(isinstance(request, Finish)) or self.log.session.fileno() != watched:
             return False
         self._check_at = float("inf")
         self._poller.modify(watched, 0)  # or each answer would wake the clerk
@@ -309,12 +308,12 @@ class Clerk:
             answer = log.replica.owed_start(log.worker, request.held._op)
             if answer.code == native.STARTED and self._withheld_for(request) is None:
                 line = self._start_line(request.held._op, answer.number)
-                wishes = Wishes((), tuple(self._may_go_on_behind(request)))
-                return Batch(((request, line),), {}, wishes, log.place, False, self._starting(request, answer.number))
+                return Batch(((request, line),), {}, Wishes(), log.place, False, self._starting(request, answer.number))
         elif isinstance(request, Finish):
             held = request.held
             if held._live and self.held.get(held._number) is held and not self._is_lost(held._number):
-                return Batch((), {held._number: request}, Wishes((held._number,), tuple(self._rivals[held._op])), log.place, False)
+                wakes, self._passes = self._rivals[held._op] | self._passes, set()
+                return Batch((), {held._number: request}, Wishes((held._number,), tuple(wakes)), log.place, False)
         return None
 
     def _start_line(self, op: int, number: int) -> bytes:
@@ -502,10 +501,11 @@ class Clerk:
             return True
         return self.log.place.lines >= self.log.due
 
-    def _is_idle(self) -> bool:
-        """Whether there is nothing to do, and nobody waits."""
-        has_work = self._finishes or self._uses or self._questions or self._unknown or self._passes or self._is_stale or self._slots
-        return not (has_work or self.log.session.notices or any(self._starts.values()) or self.log.place.lines >= self.log.due)
+    def _is_idle(self, wakes_too: bool = False) -> bool:
+        """Whether there is nothing to do, and nobody waits; or nothing but to wake others, which a finish does as well."""
+        has_work = self._finishes or self._uses or self._questions or self._unknown or self._is_stale or self._slots
+        has_others = self._passes and not wakes_too or self.log.session.notices or any(self._starts.values())
+        return not (has_work or has_others or self.log.place.lines >= self.log.due)
 
     def _forget_unwanted(self) -> None:
         for op, queue in self._starts.items():
@@ -554,8 +554,6 @@ class Clerk:
         wakes |= {op for op in self._passes if self.log.replica.can_start(op)}
         self._passes.clear()
         begins = [] if first is None else [first]
-        if isinstance(first, Start):
-            wakes |= self._may_go_on_behind(first)
         waits, leaves = self._waits(begins), self._leaves(begins)
         return Wishes(tuple(finishes), tuple(wakes | self._freed(leaves, begins)), waits, leaves)
 
@@ -659,19 +657,10 @@ class Clerk:
             touches, ends = self._touches[op], array([each.number for each in live if each.operation in rivals])
         return Starting(self._names[op], number, touches, ends, tuple(rivals), known, start.priority, start.ticket)
 
-    def _may_go_on_behind(self, start: Start) -> Set[int]:
-        """The operations for which others wait who may go on as soon as this one is in, as far as it was so before."""
-        beside = self._beside[start.held._op]
-        return beside and {each.operation for each in self.log.line.others if each.operation in beside}
-
-    def _pass_on(self, batch: Batch, is_in: bool) -> None:
+    def _pass_on(self) -> None:
         """Behind what may let others go on of which no finish tells them: they are to be woken."""
         if self.log.line.others:
-            able = self.log.line.may_go_on(self._own(), time.monotonic_ns())
-            self._passes |= able.difference(batch.wishes.wakes) if is_in else able
-            for request, _ in batch.lines if is_in else ():
-                if isinstance(request, Start):
-                    self._beside[request.held._op] = able
+            self._passes |= self.log.line.may_go_on(self._own(), time.monotonic_ns())
 
     def _taken_finishes(self) -> Dict[int, Finish]:
         """What is to be finished: those of which the log doesn't say that they are over."""
@@ -841,7 +830,7 @@ class Clerk:
             if batch.is_stepped:
                 self._begin_anew()
         if is_in or any(each.holds for each in batch.wishes.waits):
-            self._pass_on(batch, is_in)
+            self._pass_on()
         self._reply_blocked()
 
     def _looks_with(self, batch: Batch) -> bool:

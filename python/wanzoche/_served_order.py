@@ -25,8 +25,8 @@ _WAITER = struct.Struct("IIQQ")
 
 LATEST = 1_000_000_000
 """A notification that took longer than so many nanoseconds tells too little of who waits now: who gets it asks."""
-EARLIEST = -50_000_000
-"""Nor does one that seems to have come before it was sent: then one of the two clocks was set."""
+EARLIEST = -LATEST
+"""Nor does one that seems to have come so long before it was sent: then one of the two clocks was set."""
 
 
 class Standing(NamedTuple):

@@ -330,6 +330,20 @@ begin
     mark := coalesce(mark, known);
 end $$;
 
+-- The same for one who appends, which most often knows nearly all lines.
+create or replace function wanzoche.since(l int, n bigint, known bigint, out news text, out final bigint, out mark bigint)
+language plpgsql stable set search_path = pg_catalog, pg_temp as $$
+declare first bigint; stamp bigint; many bigint;
+begin
+    select string_agg(x.line, E'\n' order by x.place) filter (where x.place >= n), max(x.place), (array_agg(x.stamp order by x.place desc))[1],
+            min(x.place), (array_agg(x.stamp order by x.place))[1], count(*)
+        into news, final, mark, first, stamp, many
+        from (select y.* from wanzoche.line y where y.log = l and y.place >= n - 1 order by y.place limit 100) x;
+    if first is distinct from n - 1 or stamp is distinct from known or final <> first + many - 1 or many = 100 then
+        select x.news, x.final, x.mark into news, final, mark from wanzoche.lines(l, n, known) x;
+    end if;
+end $$;
+
 -- The worker's session gets its notifications from now on.
 create or replace function wanzoche.listen(l int, w int) returns void
 language plpgsql set search_path = pg_catalog, pg_temp as $$
@@ -561,34 +575,20 @@ create or replace function wanzoche.start(l int, w int, n bigint, known bigint, 
     rivals int[], passes bigint[], prior bigint, arrived bigint, wakes int[], leaves int[], asks boolean,
     out started bigint, out news text, out final bigint, out mark bigint, out waiters text)
 language plpgsql set search_path = pg_catalog, pg_temp as $$
-declare own text := w || ' start ' || named || ': started '; behind bigint := n - 1; fresh bigint := (random() * 9007199254740991)::bigint;
+declare own text := w || ' start ' || named || ': started '; fresh bigint := (random() * 9007199254740991)::bigint;
 begin
-    started := number;
-    mark := known;
-    for tries in 1..2 loop
-        insert into wanzoche.line (log, place, line, by, stamp) select l, behind + 1, own || started, w, fresh
-            from (select from wanzoche.turn x where x.log = l for update) turn
-            where coalesce((select x.place = behind and x.stamp = start.mark from wanzoche.line x where x.log = l order by x.place desc limit 1),
-                    behind < 0)
-                and not exists (select from wanzoche.waiter x where x.log = l and x.worker <> w and x.since is not null
-                    and x.shuts <= clock_timestamp() and x.operation = any (rivals) and x.ticket <> all (passes)
-                    and (x.priority > prior or x.priority = prior and x.ticket < arrived))
-            on conflict do nothing;
-        exit when found;
-        if tries = 1 then
-            perform from wanzoche.turn x where x.log = l for update;
-            select x.news, x.final, x.mark into news, behind, mark from wanzoche.lines(l, n, known) x;
-            if behind >= n then
-                started := case when behind < n + 1000 then number + wanzoche.starts_among(news, touches, ends) end;
-            end if;
-        else
-            started := null;  -- nobody but who waits is in its way
-        end if;
-        exit when started is null;
-    end loop;
-    final := behind;
+    perform from wanzoche.turn x where x.log = l for update;
+    select x.news, x.final, x.mark into news, final, mark from wanzoche.since(l, n, known) x;
+    started := case when final < n then number when final < n + 1000 then number + wanzoche.starts_among(news, touches, ends) end;
     if started is not null then
-        final := behind + 1;
+        insert into wanzoche.line (log, place, line, by, stamp) select l, final + 1, own || started, w, fresh
+            where not exists (select from wanzoche.waiter x where x.log = l and x.worker <> w and x.since is not null
+                and x.shuts <= clock_timestamp() and x.operation = any (rivals) and x.ticket <> all (passes)
+                and (x.priority > prior or x.priority = prior and x.ticket < arrived));
+        started := case when found then started end;
+    end if;
+    if started is not null then
+        final := final + 1;
         mark := fresh;
         news := news || E'\n' || own || started;
         if leaves <> '{}' then
@@ -635,20 +635,24 @@ end $$;
 create or replace function wanzoche.finish(l int, w int, n bigint, known bigint, activation bigint, wakes int[],
     out news text, out final bigint, out mark bigint, out is_taken boolean)
 language plpgsql set search_path = pg_catalog, pg_temp as $$
-declare own text := w || ' finish ' || activation || ': finished';
+declare own text := w || ' finish ' || activation || ': finished'; fresh bigint := (random() * 9007199254740991)::bigint;
 begin
-    mark := (random() * 9007199254740991)::bigint;
-    insert into wanzoche.line (log, place, line, by, stamp) select l, n, own, w, finish.mark
-        from (select from wanzoche.turn x where x.log = l for update) turn
-        where (select x.place = n - 1 and x.stamp = known from wanzoche.line x where x.log = l order by x.place desc limit 1)
-        on conflict do nothing;
-    final := n;
-    is_taken := false;
-    if not found then
-        perform from wanzoche.turn x where x.log = l for update;
-        final := coalesce((select x.place from wanzoche.line x where x.log = l order by x.place desc limit 1), -1);
-        perform wanzoche.put_finishes(l, w, w, array[activation], final, mark);
+    perform from wanzoche.turn x where x.log = l for update;
+    select x.news, x.final, x.mark into news, final, mark from wanzoche.since(l, n, known) x;
+    if final < n + 19999 then
+        insert into wanzoche.line (log, place, line, by, stamp) values (l, final + 1, own, w, fresh)
+            on conflict (log, finishes) where finishes is not null do nothing;
+    else
+        perform wanzoche.put_finishes(l, w, w, array[activation], (select max(x.place) from wanzoche.line x where x.log = l), fresh);
         select x.news, x.final, x.mark into news, final, mark from wanzoche.lines(l, n, known) x;
+        found := false;
+    end if;
+    is_taken := false;
+    if found then
+        final := final + 1;
+        mark := fresh;
+        news := news || E'\n' || own;
+    else
         is_taken := exists (select from wanzoche.line x where x.log = l and x.finishes = activation and x.by <> w);
     end if;
     if wakes <> '{}' then
