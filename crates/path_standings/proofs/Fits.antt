@@ -43,8 +43,8 @@ module _ (progress : OpId → ℕ) (row : List ℕ) where
   fits_false t place e k = true_false (sym (fits_back t place k) ∙ e)
 
   pub fits_iff : (t : Tree) (place : ℕ) (b : Bool) → b ≡ bounds_fit t place progress row → IsTrue b ↔ BoundsFit t place progress row
-  fits_iff t place true e = (λ _. fits_true t place (sym e), λ _. tt)
-  fits_iff t place false e = (λ z. absurd z, λ k. fits_false t place (sym e) k)
+  fits_iff t place true e = ((λ _. fits_true t place (sym e)), λ _. refl)
+  fits_iff t place false e = ((λ z. absurd (true_false (sym z))), λ k. absurd (fits_false t place (sym e) k))
 
   pub spares_long : (t : Tree) (place : ℕ) → length (spares t place progress row) ≡ counted_braces t
   spares_long (op a) place = refl
