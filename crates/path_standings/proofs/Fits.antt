@@ -1,18 +1,16 @@
 -- What a walk over a tree finds.
-use Rattle.std.proofs.Common.{◌≡◌, ◌⊎◌, ◌==◌, ◌&&◌, ◌+◌, ◌*◌, ◌^◌, ◌<◌, ◌≤◌, ℕ, zero, suc, cond, Bool, true, false, List, [], ◌∷◌, ◌++◌, length, get_or, All, arith, refl, sym, ap, ◌∙◌, subst, inl, inr, length-append}
+use Rattle.std.proofs.Common.{◌≡◌, ◌+◌, ◌*◌, ◌^◌, ◌<◌, ◌≤◌, ℕ, Bool, true, false, List, length, get_or, All, arith, refl, sym, ◌∙◌, inl, inr, length-append}
 use Rattle.std.specs.Prelude.{nat_le, IsTrue, ◌↔◌}
-use Rattle.std.proofs.lemmas.Bool.{and_parts, and_from, leb-true, le-leb, cases_lt, cond-false, ne_eqb}
+use Rattle.std.proofs.lemmas.Bool.{and_parts, and_from, leb-true, le-leb, cases_lt}
 use Rattle.std.proofs.lemmas.List.{get_or_past}
 use Rattle.std.proofs.lemmas.List.Elements.{All-get_or}
 use Rattle.path_model.specs.declared.ids.OpId.{OpId}
-use Rattle.path_model.specs.Trees.{Tree, op, seq, alt, burst, any, most, NoBraces}
+use Rattle.path_model.specs.Trees.{Tree, op, seq, alt, burst, any, most}
 use Rattle.path_model.specs.Machine.{semicolons, braces}
 use Rattle.path_model.specs.Flat.{counted_braces}
 use Rattle.path_decl.specs.Lawful.{names_count}
 use Rattle.path_state.specs.Pasts.{underway, BoundsFit, in_all, names_in}
 use Rattle.path_standings.specs.Numbers.{bounds_fit, spares, tallies}
-use Rattle.path_standings.specs.Misfits.{AreFew}
-use Rattle.path_standings.specs.Told.{progress_of}
 
 pub true_false : true ≡ false → ⊥
 true_false z = cc

@@ -1,32 +1,30 @@
 -- A gate with these values stands so: each path has a past, and the gate is at each history that leads there.
-use Rattle.std.proofs.Common.{◌≡◌, ◌⊎◌, ◌+◌, ◌*◌, ◌^◌, ◌<◌, ◌≤◌, ℕ, zero, suc, cond, Bool, true, false, List, [], ◌∷◌, length, map, take, get_or, All, arith, refl, sym, ap, ◌∙◌, subst, inl, inr}
-use Rattle.std.specs.List.{sum_by}
-use Rattle.std.proofs.lemmas.Bool.{cases_lt, cases_Bool, cond-true, cond-false}
+use Rattle.std.proofs.Common.{◌≡◌, ◌+◌, ◌*◌, ◌^◌, ◌<◌, ◌≤◌, ℕ, zero, suc, cond, false, List, [], ◌∷◌, length, get_or, All, arith, refl, sym, ap, ◌∙◌, subst}
+use Rattle.std.proofs.lemmas.Bool.{cond-true, cond-false}
 use Rattle.std.proofs.lemmas.Nat.{mul-le}
-use Rattle.std.proofs.lemmas.List.{length-map, get_or-map, get_or_past}
-use Rattle.std.proofs.lemmas.List.Elements.{All-get_or}
+use Rattle.std.proofs.lemmas.List.{get_or-map}
 use Rattle.path_model.specs.declared.ids.OpId.{OpId}
 use Rattle.path_model.specs.declared.history.Event.{Event}
-use Rattle.path_model.specs.Trees.{Tree, op, Names, WellFormed}
-use Rattle.path_model.specs.Histories.{begun, ended, starts_in}
+use Rattle.path_model.specs.Trees.{Tree, op, Names}
+use Rattle.path_model.specs.Histories.{starts_in}
 use Rattle.path_model.specs.Projection.{LegalOn}
 use Rattle.path_model.specs.Legal as legal
-use Rattle.path_model.specs.Machine.{semicolons, braces, Values, opening}
+use Rattle.path_model.specs.Machine.{Values, opening}
 use Rattle.path_model.specs.AmongOthers.{values_among}
-use Rattle.path_model.specs.Flat.{Sited, semaphores_in}
+use Rattle.path_model.specs.Flat.{Sited}
 use Rattle.path_model.specs.Trimmed.{same_tree, SameKept, lean_among}
 use Rattle.path_model.specs.Declarations.{Declaration, trees, paths_of}
 use Rattle.path_model.proofs.CallerLemmas.{each_path_trims}
-use Rattle.path_decl.specs.Lawful.{Lawful, names_count}
+use Rattle.path_decl.specs.Lawful.{Lawful}
 use Rattle.path_gate.specs.Levels.{Levels, levels}
 use Rattle.path_gate.specs.Sites.{kept_paths, Shows, HasPlaces, LeavesSemaphore, LeavesCounter}
 use Rattle.path_gate.specs.Standings.{Standing, IsNamed, IsAt, HavePlaces, HasPast, HavePasts, having, CanHave}
 use Rattle.path_gate.proofs.CallerLemmas.{named_declared}
 use Rattle.path_state.specs.Standings.{stands_after, LeadsTo}
-use Rattle.path_state.specs.Pasts.{in_all, names_in, CanStand, IsShortPast}
+use Rattle.path_state.specs.Pasts.{in_all, names_in, IsShortPast}
 use Rattle.path_state.proofs.CallerLemmas.{standings_tell_the_values, each_standing_has_a_short_past}
 use Rattle.path_standings.specs.Told.{tree_at, site_at, IsFirst, progress_of, row_at, AllLead}
-use Rattle.path_standings.specs.Misfits.{AreFew, PathsCanStand}
+use Rattle.path_standings.specs.Misfits.{PathsCanStand}
 use Rattle.path_standings.specs.Written.{WritesPaths}
 use Rattle.path_standings.proofs.Few.{many, every_at, formed_at, few_names_at}
 use Rattle.path_standings.proofs.Fits.{all_small, names_same, each_below}

@@ -5,15 +5,15 @@ use Rattle.std.proofs.lemmas.List.{length-map, get_or-map, length-take-le, lengt
 use Rattle.std.proofs.lemmas.Grind.{same_number_lists}
 use Rattle.std.proofs.lemmas.Bool.{cases_lt}
 use Rattle.path_model.specs.declared.history.Event.{Event}
-use Rattle.path_model.specs.Trees.{Tree, op, WellFormed}
+use Rattle.path_model.specs.Trees.{Tree, WellFormed}
 use Rattle.path_model.specs.Projection.{LegalOn}
-use Rattle.path_model.specs.Machine.{semicolons, braces, Values, opening}
+use Rattle.path_model.specs.Machine.{semicolons, braces, opening}
 use Rattle.path_model.specs.AmongOthers.{values_among}
 use Rattle.path_model.specs.Guarantees.{PartsCount}
 use Rattle.path_model.specs.Legal as legal
 use Rattle.path_model.specs.Flat.{semaphores_in, Sited}
 use Rattle.path_model.specs.Trimmed.{same_tree, lean_among}
-use Rattle.path_model.proofs.CallerLemmas.{each_path_trims, each_value_is_a_count, every_both}
+use Rattle.path_model.proofs.CallerLemmas.{each_path_trims, each_value_is_a_count}
 use Rattle.path_gate.specs.Sites.{kept_paths, Shows, HasPlaces}
 use Rattle.path_gate.specs.Standings.{Standing, IsAt, HavePlaces}
 use Rattle.path_state.specs.Standings.{stands_after}

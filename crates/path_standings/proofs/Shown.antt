@@ -1,18 +1,17 @@
 -- What is written for a path shows the values that it has where it stands so.
-use Rattle.std.proofs.Common.{◌≡◌, ◌≢◌, ◌⊎◌, ◌+◌, ◌-◌, ◌<◌, ◌≤◌, ℕ, zero, suc, Bool, true, false, List, [], ◌∷◌, length, get_or, arith, refl, sym, ap, ◌∙◌, subst, inl, inr}
+use Rattle.std.proofs.Common.{◌≡◌, ◌⊎◌, ◌+◌, ◌-◌, ◌<◌, ◌≤◌, ℕ, zero, suc, true, false, List, [], ◌∷◌, length, get_or, arith, refl, sym, ap, ◌∙◌, inl, inr}
 use Rattle.std.proofs.lemmas.Bool.{cases_lt, cases_eq}
 use Rattle.path_model.specs.declared.ids.OpId.{OpId}
-use Rattle.path_model.specs.Trees.{Tree}
 use Rattle.path_model.specs.Machine.{semicolons, braces, Values}
-use Rattle.path_model.specs.Flat.{Sited, semaphores_in, counted_braces, HasBound, rank, first_bound, bound_number}
+use Rattle.path_model.specs.Flat.{Sited, counted_braces, HasBound, rank, bound_number}
 use Rattle.path_model.specs.Trimmed.{is_burst, KeepsSemaphore, KeepsCounter}
 use Rattle.path_model.proofs.CallerLemmas.{rank_low}
-use Rattle.path_gate.specs.Levels.{Levels, levels}
-use Rattle.path_gate.specs.Sites.{Shows, HasPlaces, LeavesSemaphore, LeavesCounter}
+use Rattle.path_gate.specs.Levels.{levels}
+use Rattle.path_gate.specs.Sites.{HasPlaces, LeavesSemaphore, LeavesCounter}
 use Rattle.path_state.specs.Pasts.{underway, CanStand}
 use Rattle.path_state.specs.Values.{ValuesStand}
 use Rattle.path_standings.specs.Numbers.{spares, tallies}
-use Rattle.path_standings.specs.Written.{WritesFrom, ShowsStanding, WritesPath}
+use Rattle.path_standings.specs.Written.{WritesFrom, WritesPath}
 use Rattle.path_standings.proofs.Fits.{true_false, spares_long, tallies_long}
 use Rattle.path_standings.proofs.Ranks.{bound_of, row_value, tally_value, spare_value}
 

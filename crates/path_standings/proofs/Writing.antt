@@ -1,18 +1,17 @@
 -- The values of the paths so far, and those of one more.
-use Rattle.std.proofs.Common.{◌≡◌, ◌≢◌, ◌⊎◌, ◌+◌, ◌<◌, ◌≤◌, ℕ, Bool, true, false, List, take, length, get_or, arith, refl, sym, ap, ◌∙◌, subst, inl, inr}
+use Rattle.std.proofs.Common.{◌≡◌, ◌+◌, ◌<◌, ◌≤◌, ℕ, true, List, take, length, get_or, arith, refl, sym, ap, ◌∙◌, subst, inl, inr}
 use Rattle.std.specs.List.{sum_by}
 use Rattle.std.proofs.lemmas.Bool.{cases_lt, cases_eq, eq-eqb, and_from}
 use Rattle.path_model.specs.declared.ids.OpId.{OpId}
 use Rattle.path_model.specs.Trees.{Bound, any, most, Tree, op, seq, alt, burst}
-use Rattle.path_model.specs.Machine.{semicolons, braces, Values}
+use Rattle.path_model.specs.Machine.{braces}
 use Rattle.path_model.specs.Legal as legal
-use Rattle.path_model.specs.Flat.{Sited, semaphores_in, HasBound, rank, bound_number}
+use Rattle.path_model.specs.Flat.{Sited, semaphores_in, bound_number}
 use Rattle.path_model.specs.Trimmed.{same_bound, same_tree}
 use Rattle.path_model.specs.Declarations.{Declaration, trees, paths_of}
 use Rattle.path_model.proofs.CallerLemmas.{rank_low}
 use Rattle.path_gate.specs.Levels.{Levels}
-use Rattle.path_gate.specs.Sites.{kept_paths, Shows, HasPlaces, LeavesSemaphore, LeavesCounter}
-use Rattle.path_state.specs.Values.{ValuesStand}
+use Rattle.path_gate.specs.Sites.{kept_paths, HasPlaces, LeavesSemaphore, LeavesCounter}
 use Rattle.path_standings.specs.Told.{tree_at, site_at, IsFirst, progress_of, row_at}
 use Rattle.path_standings.specs.Misfits.{PathCanStand}
 use Rattle.path_standings.specs.Written.{ShowsStanding, WritesPath, WritesPaths}

@@ -1,5 +1,5 @@
 -- What a walk over a tree finds where its path stands so; the first `;` of the tree has this place in the path.
-use Rattle.std.specs.Prelude.{◌==◌, ◌+◌, ◌-◌, ◌&&◌, nat_le, if◌then◌else◌, ℕ, Bool, true, List, [], ◌∷◌, ◌++◌}
+use Rattle.std.specs.Prelude.{◌+◌, ◌-◌, ◌&&◌, nat_le, ℕ, Bool, true, List, [], ◌∷◌, ◌++◌}
 use Rattle.path_model.specs.declared.ids.OpId.{OpId}
 use Rattle.path_model.specs.Trees.{any, most, Tree, op, seq, alt, burst}
 use Rattle.path_model.specs.Machine.{semicolons}

@@ -1,10 +1,7 @@
 -- Each path can have the values, and the gate that has them is at each history that leads there.
-use Rattle.std.proofs.Common.{◌≡◌, ◌+◌, ◌<◌, ◌^◌, ◌++◌, ℕ, List, length, take, drop, arith, refl, sym, ap, ◌∙◌, subst}
+use Rattle.std.proofs.Common.{◌≡◌, ◌<◌, ◌^◌, ◌++◌, ℕ, List, length, take, drop, arith, sym, ap, ◌∙◌}
 use Rattle.std.proofs.lemmas.List.{take_at}
-use Rattle.path_model.specs.Declarations.{Declaration}
-use Rattle.path_gate.specs.Levels.{levels}
 use Rattle.path_standings.specs.Told.{rows_of}
-use Rattle.path_standings.specs.Written.{WritesPaths}
 use Rattle.path_standings.proofs.Leads.{can_have, at_each}
 use Rattle.path_standings.proofs.at.gate_at.Goals as goal
 

@@ -1,8 +1,8 @@
 -- Where earlier paths with one tree stand alike, it is enough to compare with one of them.
-use Rattle.std.proofs.Common.{◌≡◌, ◌<◌, ℕ, Bool, true, false, refl, sym, ◌∙◌}
+use Rattle.std.proofs.Common.{Bool, true, false, refl, sym, ◌∙◌}
 use Rattle.std.specs.Prelude.{IsTrue}
 use Rattle.std.specs.Bool.{OnTrue, OnFalse}
-use Rattle.path_standings.specs.Told.{tree_at, row_at, rows_of, IsFirst}
+use Rattle.path_standings.specs.Told.{rows_of, IsFirst}
 use Rattle.path_standings.specs.declared.misfit.Misfit.TheVariants.{Unlike}
 use Rattle.path_standings.specs.Misfits.{IsWrong}
 use Rattle.path_standings.proofs.Writing.{alike, alone}

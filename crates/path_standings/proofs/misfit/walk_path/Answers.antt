@@ -1,5 +1,4 @@
 -- The tests of bounds tell whether they are kept.
-use Rattle.std.proofs.Common.{◌≡◌, true, arith, sym, ◌∙◌, subst}
 use Rattle.path_standings.specs.Told.{progress_of}
 use Rattle.path_standings.proofs.Few.{few_names_at}
 use Rattle.path_standings.proofs.Fits.{fits_iff}

@@ -1,15 +1,12 @@
 -- Each path's row is read from the gate, or is that of an earlier path with its tree.
-use Rattle.std.proofs.Common.{◌≡◌, ◌+◌, ◌<◌, ◌≤◌, ℕ, List, [], ◌∷◌, ◌++◌, length, map, get_or, take, drop, arith, refl, sym, ap, ◌∙◌, subst}
+use Rattle.std.proofs.Common.{◌≡◌, ◌+◌, ◌<◌, [], ◌∷◌, length, map, arith, refl, sym, ap, ◌∙◌}
 use Rattle.std.proofs.lemmas.List.{map-append, get_or-map, length-append}
 use Rattle.std.proofs.Math.Seq.{take-length}
 use Rattle.std.proofs.lemmas.List.Sums.{sum_by_more}
-use Rattle.path_model.specs.declared.history.Event.{Event}
 use Rattle.path_model.specs.Trees.{Tree, op}
 use Rattle.path_model.specs.Machine as machine
 use Rattle.path_model.specs.Flat.{counted_braces, semaphores_in}
-use Rattle.path_model.specs.Legal.{Legal}
 use Rattle.path_model.specs.Declarations.{Declaration, trees}
-use Rattle.path_gate.specs.Standings.{IsAt}
 use Rattle.path_state.specs.Standings.{stands_after}
 use Rattle.path_standings.specs.Told.{tree_at}
 use Rattle.path_standings.proofs.Few.{many, formed_at, few_at, few_before}

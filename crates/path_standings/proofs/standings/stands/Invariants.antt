@@ -1,5 +1,5 @@
 -- The paths so far have their rows, and this many semaphores.
-use Rattle.std.proofs.Common.{◌≡◌, ℕ, List, length, map, take}
+use Rattle.std.proofs.Common.{◌≡◌, List, length, map, take}
 use Rattle.std.specs.List.{sum_by}
 use Rattle.path_model.specs.declared.history.Event.{Event}
 use Rattle.path_model.specs.Flat.{semaphores_in}

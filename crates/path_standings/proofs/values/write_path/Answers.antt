@@ -1,5 +1,5 @@
 -- What is written are the numbers that the walk finds.
-use Rattle.std.proofs.Common.{◌≡◌, ◌+◌, ◌-◌, ℕ, false, true, List, [], ◌∷◌, ◌++◌, length, ap, sym, ◌∙◌, subst}
+use Rattle.std.proofs.Common.{◌≡◌, ◌+◌, ◌-◌, ℕ, false, true, List, [], ◌∷◌, ◌++◌, length, ap, ◌∙◌, subst}
 use Rattle.path_model.specs.Trees.{shape}
 use Rattle.path_model.specs.Flat.{Sited}
 use Rattle.path_model.specs.Trimmed.{is_burst}

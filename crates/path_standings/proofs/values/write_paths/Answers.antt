@@ -1,6 +1,5 @@
 -- One path more: what is written are its values, or an earlier path has them.
-use Rattle.std.proofs.Common.{◌≡◌, ◌+◌, ◌<◌, ◌≤◌, ℕ, List, length, map, take, arith, refl, sym, ap, ◌∙◌, subst}
-use Rattle.std.specs.List.{sum_by}
+use Rattle.std.proofs.Common.{◌≡◌, ◌+◌, ◌<◌, ℕ, length, arith, refl, ◌∙◌}
 use Rattle.std.proofs.lemmas.List.Sums.{sum_by_more}
 use Rattle.path_model.specs.Trees.{Tree, op}
 use Rattle.path_model.specs.Machine as machine
@@ -9,7 +8,7 @@ use Rattle.path_model.specs.Declarations.{Declaration, trees}
 use Rattle.path_gate.specs.Levels.{Levels, levels}
 use Rattle.path_standings.specs.Told.{tree_at, rows_of, IsFirst}
 use Rattle.path_standings.proofs.Few.{many, few_names_at, few_at, few_before, few_pairs_before}
-use Rattle.path_standings.proofs.Writing.{not_first, writes_same, writes_more, writes_none}
+use Rattle.path_standings.proofs.Writing.{not_first, writes_same, writes_more}
 use Rattle.path_standings.proofs.values.write_paths.Goals as goal
 use Rattle.path_standings.proofs.values.write_paths.Goals.{in-Some, in-None+in_ok-write_path-in-None}
 

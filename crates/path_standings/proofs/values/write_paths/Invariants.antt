@@ -1,5 +1,5 @@
 -- The values of the paths so far are written, and these are the numbers of the next one's.
-use Rattle.std.proofs.Common.{◌≡◌, map, take}
+use Rattle.std.proofs.Common.{◌≡◌, take}
 use Rattle.std.specs.List.{sum_by}
 use Rattle.path_model.specs.Machine.{braces}
 use Rattle.path_model.specs.Flat.{semaphores_in}
