@@ -8,8 +8,6 @@ import time
 import unittest
 from unittest import mock
 
-import psycopg
-
 from wanzoche import Lost, StoreError, _clerk, _log, _order, _postgresql, _served, _served_order
 
 from .declarations import BOOK
@@ -341,6 +339,8 @@ class Faults(unittest.TestCase):
     )
 
     def disturbs(self, chance):
+        import psycopg
+
         with psycopg.connect(the_server().url, autocommit=True, gssencmode="disable") as connection:
             for _ in range(200):
                 connection.execute(self.TOLD)
