@@ -325,6 +325,22 @@ class Librarian(Enters):
                 time.sleep(0.0005)
 
 
+class Sent(unittest.TestCase):
+    """Who waits, as a notification says it."""
+
+    RIGHT = b"7 1 2 0 1 0 5000000 -1 3,4"
+
+    def test_rows(self):
+        """All of them can be read, or none is taken."""
+        line, now = _served_order.ServedLine(None), 5_000_000_000_000
+        line.take(b"5000000000", 1, now)
+        self.assertTrue(line.take_sent(b"5000000000\n" + self.RIGHT, 1, now))
+        self.assertEqual((len(line.others), line.known), (1, b"{7}"))
+        for wrong in (b"hello", b"", b"7 1 2", self.RIGHT + b" 5", self.RIGHT.replace(b"3,4", b"3,x"), self.RIGHT.replace(b"7", b"-7")):
+            self.assertFalse(line.take_sent(b"5000000000\n" + self.RIGHT + b"\n" + wrong, 1, now), wrong)
+        self.assertEqual((len(line.others), line.known), (1, b"{7}"))
+
+
 class Library(Disturbed):
     worker = Librarian
 
