@@ -118,6 +118,7 @@ bool fails_by_system(const char *what);
 const char *fault(void);
 bool is_forbidden(void);
 bool is_corrupt(void);
+uint64_t wrong_line(void);
 bool is_other_declaration(void);
 
 /* streams.c */
@@ -222,6 +223,7 @@ bool find_due(struct shared *shared, uint64_t activation, int64_t seconds, bool 
 int pass_by_hand(struct shared *shared, const struct given *given);
 int recover(struct shared *shared, const struct given *given);
 int audit(struct shared *shared);
+int end_audit(void);
 bool read_new(struct shared *shared, size_t *written, struct text *text);
 int write_log(struct shared *shared);
 int write_status(struct shared *shared, const struct given *given);

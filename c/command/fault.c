@@ -55,7 +55,12 @@ bool is_other_declaration(void) {
     return told_by.code == WANZOCHE_OTHER_DECLARATION;
 }
 
-/* Whether it was that a line of the journal isn't owed. */
+/* Whether it was that a line of the journal isn't owed, or is gone. */
 bool is_corrupt(void) {
     return told_by.code == WANZOCHE_CORRUPT;
+}
+
+/* Which line of its file that is, from 1 with the head; 0 if no line behind the head is meant. */
+uint64_t wrong_line(void) {
+    return is_corrupt() && told_by.number > 1 ? told_by.number : 0;
 }

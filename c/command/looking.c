@@ -73,14 +73,30 @@ int write_log(struct shared *shared) {
     return status;
 }
 
-/* Whether each reply in the journal was owed. Which line is meant is said of those in the file, of which the head is the first. */
+/*
+** Says which line of which file isn't owed, from 0 and without the head, and on standard error why, with the line as editors count: whoever has
+** found it, the opening too. Behind another fault there is no verdict.
+*/
+int end_audit(void) {
+    uint64_t line = wrong_line();
+    struct text told = {NULL, 0, 0}, where = {NULL, 0, 0};
+    const char *why = fault(), *behind;
+    int status = IS_FAULT;
+    if (line > 0) {
+        add(&where, " in line %llu: ", (unsigned long long)line);
+        behind = strstr(why, where.at);
+        add(&told, "wrong line %llu of %.*s\n", (unsigned long long)line - 2, (int)(behind == NULL ? 0 : behind - why), why);
+        status = write_text(&told) ? IS_WRONG_LINE : IS_FAULT;
+    }
+    say("%s", why);
+    clear_text(&told);
+    clear_text(&where);
+    return status;
+}
+
+/* Whether each reply in the journal was owed. */
 int audit(struct shared *shared) {
     bool is_again;
-    wanzoche_answer answer = {WANZOCHE_SOUND, 0};
-    if (shared->reader == NULL) answer = wanzoche_store_audit(shared->store, -1);
-    else if (!look(shared->reader, NULL, &is_again)) return is_corrupt() ? (end_with_fault(), IS_WRONG_LINE) : end_with_fault();
-    if (answer.code == WANZOCHE_SOUND) return tell(&(struct text){(char *)"sound\n", 6, 0});
-    if (answer.code != WANZOCHE_CORRUPT) return is_refused(shared, answer) ? 0 : end_with_fault();
-    say("%s in line %llu: its reply isn't owed", shared->path, (unsigned long long)answer.number);
-    return IS_WRONG_LINE;
+    if (!look(shared->reader, NULL, &is_again)) return end_audit();
+    return tell(&(struct text){(char *)"sound\n", 6, 0});
 }

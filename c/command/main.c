@@ -34,14 +34,19 @@ static int do_command(struct shared *shared, const struct given *given) {
 
 /* Says the fault: the status of that. */
 static int end_with_fault(const struct given *given) {
+    if (given->command == DO_AUDIT) return end_audit();
     say("%s", fault());
-    if (given->command == DO_AUDIT && is_corrupt()) return IS_WRONG_LINE;
     return given->command == DO_EXEC ? IS_OWN_FAULT : IS_FAULT;
 }
 
 /* Whether a command only looks. */
 static bool looks(const struct given *given) {
     return given->command == DO_STATUS || given->command == DO_LOG || given->command == DO_AUDIT || given->command == DO_WATCH;
+}
+
+/* Whether it reads the files itself: to read on where it was, or to say in which of them a line is wrong. */
+static bool reads(const struct given *given) {
+    return given->command == DO_WATCH || given->command == DO_AUDIT;
 }
 
 /* Finds the declaration where the files may only be read. */
@@ -103,7 +108,7 @@ static int run(const struct given *given) {
         if (is_other_declaration()) (void)is_of_store(given, &shared.declared);
         return end_with_fault(given);
     }
-    if (given->command == DO_WATCH) shared.reader = new_reader(shared.path, &shared.declared); /* it reads on where it was, and not all anew */
+    if (reads(given)) shared.reader = new_reader(shared.path, &shared.declared);
     status = do_command(&shared, given);
     if (!close_shared(&shared)) return end_with_fault(given);
     close_declared(&shared.declared);

@@ -15,6 +15,7 @@
 #define HEAD "journal 3 room 1048576\n" /* what lines are offered to the core behind */
 #define HEAD_LENGTH (sizeof HEAD - 1)
 #define CHUNK ((size_t)1 << 20)
+#define MOST_SHOWN 90 /* so much of a line that is wrong */
 #define ROOM 65536 /* of what is in progress, of all processes together */
 
 struct reader {
@@ -54,7 +55,7 @@ static bool fails_at(const char *path, const char *what) {
 
 /* What is wrong with a file of the journal, in this line of it, from 1; 0 if none is meant. */
 static bool is_broken(struct reader *reader, uint64_t line, const char *what) {
-    static const wanzoche_answer corrupt = {WANZOCHE_CORRUPT, 0};
+    wanzoche_answer corrupt = {WANZOCHE_CORRUPT, line};
     struct text archive = archive_of(reader);
     const char *path = is_at(reader->path, reader->file) ? reader->path : archive.at;
     reader->is_new = true;
@@ -124,7 +125,7 @@ static bool is_wrong(struct reader *reader, const char *lines, wanzoche_answer a
     uint32_t owed = taken->owed.code;
     struct text what = {NULL, 0, 0};
     for (uint64_t k = 0; k < before; k++) lines = strchr(lines, '\n') + 1;
-    add(&what, "`%.*s`", (int)(strcspn(lines, "\n") < 200 ? strcspn(lines, "\n") : 200), lines);
+    add(&what, "`%.*s`", (int)(strcspn(lines, "\n") < MOST_SHOWN ? strcspn(lines, "\n") : MOST_SHOWN), lines);
     if (answer.code != WANZOCHE_WRONG_LINE) add(&what, " isn't a line of a journal");
     else if (owed == WANZOCHE_STARTED || owed == WANZOCHE_BLOCKED || owed == WANZOCHE_USED)
         add(&what, ", where `%s %llu` is owed", wanzoche_words(owed), (unsigned long long)taken->owed.number);

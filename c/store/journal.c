@@ -12,11 +12,16 @@
 
 #include "store.h"
 
-/* What is followed is of no use any more, and so this opening isn't. */
+static uint64_t count_moved(store *s);
+
+/* What is followed is of no use any more, and so this opening isn't. The file is that which is followed, which may have been moved away. */
 static bool break_at(store *s, uint64_t line, const char *text, size_t length, const char *why) {
-    char where[40] = "";
-    if (line > 0) snprintf(where, sizeof where, " in line %llu", (unsigned long long)line);
-    return give_up_store(s, WANZOCHE_CORRUPT, line, "%.200s%s: %s%.*s%s", s->path, where, length == 0 ? "" : "`", (int)(length > 90 ? 90 : length), text, why);
+    uint64_t segment = s->replica.segment;
+    char where[64] = "";
+    int behind = 0;
+    if (line > 0 && segment < count_moved(s)) behind = snprintf(where, sizeof where, ".%llu", (unsigned long long)segment + 1);
+    if (line > 0) snprintf(where + behind, sizeof where - (size_t)behind, " in line %llu", (unsigned long long)line);
+    return give_up_store(s, WANZOCHE_CORRUPT, line, "%.250s%s: %s%.*s%s", s->path, where, length == 0 ? "" : "`", (int)(length > 90 ? 90 : length), text, why);
 }
 
 /* A reply, as a line has it. */
@@ -37,7 +42,7 @@ static bool break_at_line(store *s, const char *lines, const char *end, wanzoche
     }
     write_reply(reply, sizeof reply, taken->owed);
     if (answer.code == WANZOCHE_WRONG_LINE) snprintf(why, sizeof why, "`, where `%s` is owed", reply);
-    else snprintf(why, sizeof why, "` isn't a line of this journal");
+    else snprintf(why, sizeof why, "` isn't a line of a journal");
     return break_at(s, s->replica.lines + before + 2, at == NULL ? "" : at, at == NULL || feed == NULL ? 0 : (size_t)(feed - at), why);
 }
 

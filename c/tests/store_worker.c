@@ -6,6 +6,8 @@
 ** store_worker FILE FOLDER blind   asks no store, so that the witness has something to see: ends with 3
 ** store_worker FILE FOLDER check   whether nothing is in progress, and the journal is sound
 **
+** Where the variable STORE_IS_SYNCED is set, answers wait for the disk.
+**
 ** The witness is two locks by flock, shared to read and exclusive to write: on FOLDER/below, by a descriptor below those of the store, and
 ** on FOLDER/above, by one above them. A process that is killed gives one of them back before the store's, whichever way the kernel goes.
 ** So whoever gets neither has met one that lives.
@@ -18,6 +20,7 @@
 
 enum { THREADS = 2, ABOVE = 200, VIOLATION = 3 };
 
+static const wanzoche_store_options SYNCED = {.no_sync = false};
 static wanzoche_store *mine;
 static const char *place;
 static int below[THREADS], entries;
@@ -94,7 +97,7 @@ int main(int arguments, char **argument) {
     is_blind = arguments > 3;
     for (int t = 0; t < THREADS; t++) below[t] = witness("below");
     entries = open(in_place("entries"), O_WRONLY | O_APPEND | O_CREAT | O_CLOEXEC, 0600);
-    mine = is_blind ? NULL : opened(&QUICK);
+    mine = is_blind ? NULL : opened(getenv("STORE_IS_SYNCED") == NULL ? &QUICK : &SYNCED);
     for (int t = 0; t < THREADS; t++) {
         int f = witness("above");
         if (dup2(f, ABOVE + t) < 0 || close(f) != 0) return 9;
