@@ -43,11 +43,6 @@ impl<T> Shared<T> {
         Ok(Shared { at, owns: PhantomData })
     }
 
-    /// Whether both own the same.
-    pub(crate) fn is(&self, other: &Shared<T>) -> bool {
-        self.at == other.at
-    }
-
     fn inner(&self) -> &Inner<T> {
         // SAFETY: this is an owner, so the value is there, and nobody has it by `&mut`.
         unsafe { self.at.as_ref() }

@@ -230,6 +230,8 @@ fn fills(file: &Path) {
     assert_eq!(awaits.ready().map(drop), Err(full));
     assert!(matches!(left.leave(), Err(Error::System { errno: 27, .. })));
     drop(dropped);
+    // Meanwhile it is left again, in vain, and once more when there is room.
+    thread::sleep(Duration::from_millis(120));
     assert!(store.report().unwrap().contains("live 0 1 read\nlive 1 1 read\n"));
     limit_files(c_ulong::MAX);
     assert_eq!(left.leave(), Ok(Left::Finished));

@@ -1,11 +1,13 @@
 //! Tasks that wait at a store, polled by hand and by an executor of this test.
 
+use std::fs;
 use std::sync::atomic::{AtomicU32, Ordering::SeqCst};
 use std::sync::{Arc, Mutex};
 use std::task::{Poll, Wake};
 use std::thread;
 use std::time::Duration;
 
+use common::random::Random;
 use common::stores::{hindered, is_idle, opened, opened_as, until_waiting, Folder, Page};
 use common::tasks::{poll_by, Counter, Polled};
 use common::until;
@@ -234,6 +236,51 @@ fn a_store_that_is_dropped_as_its_task_is_woken() {
     drop(writes);
     until(|| other.recover(2) == Ok(0));
     assert!(is_idle(&other));
+}
+
+/// Futures that are dropped at any point, before they wait, while they wait, as they are called, and when they have begun, leave nothing.
+#[test]
+fn futures_dropped_at_any_point() {
+    let folder = Folder::new();
+    let file = folder.file("book.log");
+    let ((store, read, write), (other, ..)) = (opened(&file), opened(&file));
+    let others_write = other.op("write").unwrap();
+    let mut chance = Random::new();
+    for _ in 0..300 {
+        let writes = other.enter(others_write).unwrap();
+        let mut tasks: Vec<_> = (0..8).map(|each| Polled::new(store.enter_async(if each % 3 == 0 { write } else { read }))).collect();
+        tasks.iter_mut().take(chance.below(9) as usize).for_each(|task| assert!(task.is_pending()));
+        (0..chance.below(3)).for_each(|_| thread::yield_now());
+        drop(tasks.split_off(chance.below(9) as usize));
+        drop(writes);
+        (0..chance.below(200)).for_each(|_| thread::yield_now());
+        // Some are polled when they have begun, and their guards dropped.
+        tasks.iter_mut().take(chance.below(9) as usize).for_each(|task| drop(task.poll()));
+        drop(tasks);
+        drop(other.enter(others_write).unwrap());
+    }
+    until(|| is_idle(&store));
+    assert_eq!((store.waiting(read), store.waiting(write), store.audit()), (Ok(0), Ok(0), Ok(Verdict::Sound)));
+}
+
+/// Who waits at a store that is broken is told so.
+#[test]
+fn a_store_that_breaks_ends_all_waits() {
+    let folder = Folder::new();
+    let file = folder.file("book.log");
+    let (store, read, write) = opened(&file);
+    let reads = store.enter(read).unwrap();
+    let mut tasks: Vec<_> = (0..50).map(|_| Polled::new(store.enter_async(write))).collect();
+    assert!(tasks.iter_mut().all(|task| task.is_pending()));
+    until_waiting(&store, write, 50);
+    fs::write(&file, "").unwrap();
+    let first = awaited(&mut tasks[0]).map(drop);
+    assert!(matches!(first, Err(Error::Corrupt { .. })), "{first:?}");
+    for task in &mut tasks[1..] {
+        assert_eq!(awaited(task).map(drop), first);
+    }
+    assert_eq!(store.waiting(write), Ok(0));
+    drop(reads);
 }
 
 struct Panics(AtomicU32);

@@ -144,7 +144,8 @@ fn main() {
         exit(check(file));
     }
     let threads = [0, 1].map(|number| Looker { number, below: place.open("below"), entries: place.open("entries") });
-    let store = how.is_none().then(|| Options::new().without_sync().open(BOOK, file).unwrap());
+    let options = if env::var_os("STORE_IS_SYNCED").is_some() { Options::new() } else { Options::new().without_sync() };
+    let store = how.is_none().then(|| options.open(BOOK, file).unwrap());
     for thread in &threads {
         // SAFETY: nobody has the other number.
         assert!(unsafe { dup2(place.open("above").as_raw_fd(), ABOVE + thread.number) } >= 0);

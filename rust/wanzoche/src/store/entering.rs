@@ -7,8 +7,9 @@ use std::pin::Pin;
 use std::sync::Arc;
 use std::task::{Context, Poll};
 
+use super::entry::Entry;
 use super::guard::Held;
-use super::helpers::{Entry, Job, Opening};
+use super::opening::Opening;
 use super::{Guard, OwnedGuard, Store};
 use crate::shared::Shared;
 use crate::{Error, Op};
@@ -37,7 +38,7 @@ impl<S: Deref<Target = Store>> Entering<S> {
             Poll::Ready(begun) => begun,
         };
         match (self.store.take(), begun) {
-            (Some(store), Ok((operation, activation))) => Poll::Ready(Ok(Held::new(store, activation, operation, true))),
+            (Some(store), Ok((operation, activation))) => Poll::Ready(Ok(Held::new(store, activation, operation, self.entry.take()))),
             (_, Err(error)) => Poll::Ready(Err(error)),
             (None, Ok(_)) => Poll::Pending,
         }
@@ -48,7 +49,7 @@ impl<S: Deref<Target = Store>> Entering<S> {
     }
 }
 
-/// What an entry comes to: its operation and activation. A first poll has a thread begin it.
+/// What an entry comes to: its operation and activation. A first poll hands it to the thread that begins it.
 fn told(store: &Store, op: Op, entry: &mut Option<Shared<Entry>>, context: &mut Context<'_>) -> Poll<Result<(u32, u64), Error>> {
     let operation = match store.number(op) {
         Ok(operation) => operation,
@@ -63,7 +64,7 @@ fn told(store: &Store, op: Op, entry: &mut Option<Shared<Entry>>, context: &mut 
     let handed = Entry::new(operation, op.priority()).and_then(|new| {
         let _ = new.answer_or_wake(context.waker());
         let own = entry.insert(new).clone();
-        Opening::hand(&store.opening, Job::Enter(own))
+        Opening::hand(&store.opening, own)
     });
     match handed {
         Ok(()) => Poll::Pending,

@@ -4,9 +4,11 @@ use std::fmt;
 use std::ops::Deref;
 use std::sync::Arc;
 
-use super::helpers::Opening;
+use super::entry::Entry;
 use super::library::answer;
+use super::opening::Opening;
 use super::Store;
+use crate::shared::Shared;
 use crate::sys::{code, Verb};
 use crate::{Error, Op};
 
@@ -25,14 +27,14 @@ pub(super) struct Held<S: Deref<Target = Store>> {
     store: S,
     activation: u64,
     operation: u32,
-    /// Whether it is left on another thread, since this is a task's.
-    is_aside: bool,
+    /// That of a task, which is left on another thread.
+    entry: Option<Shared<Entry>>,
     is_over: bool,
 }
 
 impl<S: Deref<Target = Store>> Held<S> {
-    pub(super) fn new(store: S, activation: u64, operation: u32, is_aside: bool) -> Held<S> {
-        Held { store, activation, operation, is_aside, is_over: false }
+    pub(super) fn new(store: S, activation: u64, operation: u32, entry: Option<Shared<Entry>>) -> Held<S> {
+        Held { store, activation, operation, entry, is_over: false }
     }
 
     fn leave(&mut self) -> Result<Left, Error> {
@@ -63,10 +65,12 @@ impl<S: Deref<Target = Store>> Held<S> {
 
 impl<S: Deref<Target = Store>> Drop for Held<S> {
     fn drop(&mut self) {
-        match (self.is_over, self.is_aside) {
-            (true, _) => {}
-            (false, false) => Opening::leave_now(&self.store.opening, self.activation),
-            (false, true) => Opening::leave_aside(&self.store.opening, self.activation),
+        let opening = &self.store.opening;
+        match (self.is_over, self.entry.take()) {
+            (true, None) => {}
+            (true, Some(_)) => opening.forget(),
+            (false, None) => Opening::leave_now(opening, self.activation),
+            (false, Some(entry)) => Opening::leave_aside(opening, entry, self.activation),
         }
     }
 }

@@ -25,7 +25,14 @@ pub(crate) mod answer {
     pub(crate) const ALIVE: u32 = 73;
     pub(crate) const RECOVERED: u32 = 74;
     pub(crate) const COUNTED: u32 = 75;
+    pub(crate) const CALLED: u32 = 76;
     pub(crate) const SYNCED: u32 = 78;
+}
+
+impl Answer {
+    pub(super) fn has_started(self) -> bool {
+        self.code == code::STARTED
+    }
 }
 
 /// A size that is enough for each message.
@@ -235,7 +242,7 @@ mod tests {
     use std::path::Path;
 
     use super::answer;
-    use crate::store::steps::WAIT;
+    use crate::store::steps::LISTEN;
     use crate::sys::{code, Answer};
     use crate::Error;
 
@@ -272,7 +279,7 @@ mod tests {
             assert!(!error(code).to_string().contains("isn't an answer"));
         }
         let more = [("OWED", answer::OWED), ("RECOVERED", answer::RECOVERED), ("COUNTED", answer::COUNTED), ("SYNCED", answer::SYNCED)];
-        for (name, code) in more.into_iter().chain([("WAIT", WAIT)]) {
+        for (name, code) in more.into_iter().chain([("CALLED", answer::CALLED), ("LISTEN", LISTEN)]) {
             assert_eq!(in_header("wanzoche_store.h", name), code);
         }
     }

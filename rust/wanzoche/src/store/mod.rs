@@ -29,12 +29,15 @@
 //! ```
 
 mod asking;
+mod disk;
 mod entering;
+mod entry;
 mod guard;
-mod helpers;
 mod hindrance;
 #[allow(unsafe_code)]
 pub(crate) mod library;
+mod listening;
+mod opening;
 mod options;
 #[allow(unsafe_code)]
 mod steps;
@@ -54,8 +57,8 @@ use crate::shared::Shared;
 use crate::sys::{code, Answer};
 use crate::{Error, Op, Paths};
 use guard::Held;
-use helpers::Opening;
 use hindrance::By;
+use opening::Opening;
 
 /// Paths that the processes of a machine share, over a file. [`Paths::open_store`] and [`Options::open`] open it.
 ///
@@ -124,7 +127,7 @@ impl Store {
     /// [`report`](Store::report), but for `Late`. Nothing was started then; only after [`Error::Unsynced`] nobody can say what is on the
     /// disk.
     pub fn enter(&self, op: Op) -> Result<Guard<'_>, Error> {
-        self.begin(op, -1).map(|(operation, activation)| Guard(Held::new(self, activation, operation, false)))
+        self.begin(op, -1).map(|(operation, activation)| Guard(Held::new(self, activation, operation, None)))
     }
 
     /// Starts an operation if the paths admit it now, and it isn't withheld for one who waits.
@@ -133,7 +136,7 @@ impl Store {
     ///
     /// [`Error::Hindered`]; [`Error::Late`] if no turn was to be had within 45 ms; else those of [`enter`](Store::enter).
     pub fn try_enter(&self, op: Op) -> Result<Guard<'_>, Error> {
-        self.begin(op, 0).map(|(operation, activation)| Guard(Held::new(self, activation, operation, false)))
+        self.begin(op, 0).map(|(operation, activation)| Guard(Held::new(self, activation, operation, None)))
     }
 
     /// Starts an operation, and waits until the paths admit it, but no longer than this time from the call and 60 ms, whoever is stopped or
@@ -143,7 +146,7 @@ impl Store {
     ///
     /// [`Error::Hindered`] if the time is over, or [`Error::Late`] if no turn was to be had; else those of [`enter`](Store::enter).
     pub fn enter_timeout(&self, op: Op, time: Duration) -> Result<Guard<'_>, Error> {
-        self.begin(op, limit_of(time)).map(|(operation, activation)| Guard(Held::new(self, activation, operation, false)))
+        self.begin(op, limit_of(time)).map(|(operation, activation)| Guard(Held::new(self, activation, operation, None)))
     }
 
     /// As [`enter`](Store::enter), with a guard that keeps the store: for a thread that isn't scoped.
@@ -152,7 +155,7 @@ impl Store {
     ///
     /// Those of [`enter`](Store::enter).
     pub fn enter_owned(self: &Arc<Self>, op: Op) -> Result<OwnedGuard, Error> {
-        self.begin(op, -1).map(|(operation, activation)| OwnedGuard(Held::new(Arc::clone(self), activation, operation, false)))
+        self.begin(op, -1).map(|(operation, activation)| OwnedGuard(Held::new(Arc::clone(self), activation, operation, None)))
     }
 
     /// As [`try_enter`](Store::try_enter), with a guard that keeps the store.
@@ -161,7 +164,7 @@ impl Store {
     ///
     /// Those of [`try_enter`](Store::try_enter).
     pub fn try_enter_owned(self: &Arc<Self>, op: Op) -> Result<OwnedGuard, Error> {
-        self.begin(op, 0).map(|(operation, activation)| OwnedGuard(Held::new(Arc::clone(self), activation, operation, false)))
+        self.begin(op, 0).map(|(operation, activation)| OwnedGuard(Held::new(Arc::clone(self), activation, operation, None)))
     }
 
     /// As [`enter_timeout`](Store::enter_timeout), with a guard that keeps the store.
@@ -171,14 +174,15 @@ impl Store {
     /// Those of [`enter_timeout`](Store::enter_timeout).
     pub fn enter_timeout_owned(self: &Arc<Self>, op: Op, time: Duration) -> Result<OwnedGuard, Error> {
         let begun = self.begin(op, limit_of(time));
-        begun.map(|(operation, activation)| OwnedGuard(Held::new(Arc::clone(self), activation, operation, false)))
+        begun.map(|(operation, activation)| OwnedGuard(Held::new(Arc::clone(self), activation, operation, None)))
     }
 
     /// Starts an operation in a task, and waits until the paths admit it. The future is of any runtime.
     ///
-    /// A turn at the file and the disk would hold up the task's thread, so a thread of the crate's own waits in its place, and one leaves
-    /// what the guard had. That costs a thread for each entry that waits, and a waking of each; a thread with nothing to do ends after a
-    /// second. So let not thousands of tasks wait here: let them wait at [`Paths`] of the process first.
+    /// A turn at the file would hold up the task's thread, so a thread of the crate's own begins the entry in its place, and leaves what
+    /// the guard had: one for the whole opening, however many tasks wait, and a second one that waits for the disk, if the store is synced.
+    /// Each ends after a second with nothing to do. Of all processes 1,024 may wait in order; others ask again and again, so let many
+    /// thousands of tasks wait at [`Paths`] of the process first.
     ///
     /// What a task has in progress counts as running while it waits for more. So where others wait for that, it may wait for up to 0.2
     /// seconds, until a door opens. The other calls of a guard wait for the file: a task calls them on a thread where it may wait.

@@ -3,8 +3,8 @@
 use std::path::Path;
 use std::time::Duration;
 
-use super::helpers::Opening;
 use super::library::{Handle, How};
+use super::opening::Opening;
 use super::{limit_of, Store};
 use crate::names::Names;
 use crate::paths::next_id;
@@ -89,7 +89,7 @@ impl Options {
         let names = names_of(text)?;
         let opened = Handle::open(file.as_ref().as_os_str(), text, &self.how, self.limit);
         let handle = opened.map_err(|(answer, words)| Error::of_opening(answer, words, text))?;
-        Ok(Store { opening: Opening::new(handle, self.limit)?, names, id: next_id() })
+        Ok(Store { opening: Opening::new(handle, self.limit, !self.how.no_sync)?, names, id: next_id() })
     }
 }
 

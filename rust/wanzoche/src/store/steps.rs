@@ -1,36 +1,45 @@
-//! Entries by the library's steps, which another thread may stop.
+//! Entries by the library's steps, of which one thread makes all.
 
 use std::cell::UnsafeCell;
-use std::sync::atomic::{AtomicBool, Ordering};
+use std::sync::atomic::{AtomicUsize, Ordering::Relaxed};
 
-use super::library::{answer, Handle, Opened};
-use crate::sys::{code, Answer};
+use super::entry::Entry;
+use super::library::{Handle, Opened};
+use crate::memory::space;
+use crate::shared::Shared;
+use crate::sys::Answer;
+use crate::Error;
 
 /// The struct `wanzoche_store_record`, of which only the library knows what is in it.
 #[repr(C)]
-#[derive(Debug, Default)]
-struct Record([u64; 14]);
+#[derive(Clone, Copy, Debug, Default)]
+pub(super) struct Record([u64; 14]);
 
-/// The caller of one that nobody is known by, and the way of one that is to wait.
+/// The caller of one that nobody is known by, and the way of one that is to wait, and for which another thread listens.
 const NO_CALLER: u32 = u32::MAX;
-pub(super) const WAIT: u32 = 1;
+pub(super) const LISTEN: u32 = 2;
 
-/// So many milliseconds one waits for a turn before it looks whether it was stopped.
+/// So many milliseconds a step waits for its turn: longer than it takes to see that whoever has it is dead.
 const PIECE: i64 = 45;
 
-/// An entry by steps, which another thread may stop.
-#[derive(Debug, Default)]
+/// Where one is that doesn't wait.
+const NOWHERE: usize = usize::MAX;
+
+/// An entry by steps. One thread of its opening makes them.
+#[derive(Debug)]
 pub(super) struct Steps {
     record: UnsafeCell<Record>,
-    is_stopped: AtomicBool,
+    /// Its place among those for which the thread listens.
+    place: AtomicUsize,
 }
 
-// SAFETY: only the library looks at the record, and its calls may come from any thread at any time.
+// SAFETY: only one thread at a time has the record in a call or reads it, that which listens for its opening; an earlier one has ended by
+// then, under a lock that the later one takes.
 unsafe impl Sync for Steps {}
 
-impl Steps {
-    fn is_stopped(&self) -> bool {
-        self.is_stopped.load(Ordering::SeqCst)
+impl Default for Steps {
+    fn default() -> Steps {
+        Steps { record: UnsafeCell::default(), place: AtomicUsize::new(NOWHERE) }
     }
 }
 
@@ -44,42 +53,103 @@ extern "C" {
         record: *mut Record,
         limit: i64,
     ) -> Answer;
-    fn wanzoche_store_wait(store: *mut Opened, record: *mut Record, limit: i64) -> Answer;
-    fn wanzoche_store_wake(store: *mut Opened, record: *mut Record);
     fn wanzoche_store_end(store: *mut Opened, record: *mut Record, limit: i64) -> Answer;
     fn wanzoche_store_sync(store: *mut Opened, record: *const Record) -> Answer;
+    fn wanzoche_store_listen(store: *mut Opened, records: *const *mut Record, count: usize, heard: *mut u32, limit: i64) -> Answer;
+    fn wanzoche_store_ring(store: *mut Opened);
 }
 
+/// The next step of an entry, on the thread that listens.
 impl Handle {
-    /// Enters once by new steps, until it has begun, something is wrong, or it is [stopped](Handle::stop). Then the answer is that of its
-    /// last step.
-    pub(super) fn enter_by_steps(&self, operation: u32, priority: u32, steps: &Steps) -> Answer {
-        let (at, record) = (self.at(), steps.record.get());
-        loop {
-            // SAFETY: all calls may come from any thread at any time, also with a null store. The record was zero at first, and is there
-            // until the call returns.
-            let told = unsafe { wanzoche_store_begin(at, operation, priority, NO_CALLER, WAIT, record, PIECE) };
-            if told.code == code::STARTED {
-                // SAFETY: as above.
-                let synced = unsafe { wanzoche_store_sync(at, record) };
-                return if synced.code == answer::SYNCED { told } else { synced };
-            }
-            let waits = matches!(told.code, code::BLOCKED | code::WITHHELD | answer::LATE);
-            if waits && !steps.is_stopped() {
-                // SAFETY: as above. One that was late before it could wait doesn't sleep here.
-                unsafe { wanzoche_store_wait(at, record, -1) };
-            }
-            if !waits || steps.is_stopped() {
-                // SAFETY: as above.
-                unsafe { wanzoche_store_end(at, record, 0) };
-                return told;
-            }
-        }
+    /// Tries to begin it, in one turn, for which it waits for 45 ms. If it isn't admitted, it stands in order from then on.
+    pub(super) fn begin(&self, entry: &Entry) -> Answer {
+        let record = entry.steps.record.get();
+        // SAFETY: all calls may come from any thread at any time, also with a null store. The record was zero at first, and is there until
+        // the call returns.
+        unsafe { wanzoche_store_begin(self.at(), entry.operation, entry.priority, NO_CALLER, LISTEN, record, PIECE) }
     }
 
-    pub(super) fn stop(&self, steps: &Steps) {
-        steps.is_stopped.store(true, Ordering::SeqCst);
-        // SAFETY: as above. It reads of the record what others may write meanwhile in one piece.
-        unsafe { wanzoche_store_wake(self.at(), steps.record.get()) }
+    /// Ends it, whether it waits or has begun, without a wait for the disk. One that has begun waits for its turn for 45 ms.
+    pub(super) fn end(&self, entry: &Entry) -> Answer {
+        // SAFETY: as above.
+        unsafe { wanzoche_store_end(self.at(), entry.steps.record.get(), PIECE) }
+    }
+
+    /// Waits until what was last begun by a record is on the disk, if the store is synced.
+    pub(super) fn sync(&self, record: &Record) -> Answer {
+        // SAFETY: as above. It is read alone.
+        unsafe { wanzoche_store_sync(self.at(), record) }
+    }
+
+    /// Ends the sleep of the thread that listens, or its next one.
+    pub(super) fn ring(&self) {
+        // SAFETY: as above.
+        unsafe { wanzoche_store_ring(self.at()) }
+    }
+}
+
+impl Steps {
+    /// What stands in its record, for another thread.
+    pub(super) fn copy(&self) -> Record {
+        // SAFETY: the one thread that calls anything with the record is this one.
+        unsafe { *self.record.get() }
+    }
+}
+
+/// The entries that wait, for which one thread listens.
+#[derive(Default)]
+pub(super) struct Waits {
+    entries: Vec<Shared<Entry>>,
+    /// Theirs, in the same order.
+    records: Vec<*mut Record>,
+}
+
+impl Waits {
+    pub(super) fn count(&self) -> usize {
+        self.entries.len()
+    }
+
+    pub(super) fn add(&mut self, entry: &Shared<Entry>) -> Result<(), Error> {
+        space(&mut self.entries, 1)?;
+        space(&mut self.records, 1)?;
+        entry.steps.place.store(self.entries.len(), Relaxed);
+        self.records.push(entry.steps.record.get());
+        self.entries.push(entry.clone());
+        Ok(())
+    }
+
+    /// Takes out the one at a place, and then another one stands there.
+    pub(super) fn take(&mut self, place: usize) -> Option<Shared<Entry>> {
+        if place >= self.entries.len() {
+            return None;
+        }
+        self.records.swap_remove(place);
+        let entry = self.entries.swap_remove(place);
+        entry.steps.place.store(NOWHERE, Relaxed);
+        if let Some(moved) = self.entries.get(place) {
+            moved.steps.place.store(place, Relaxed);
+        }
+        Some(entry)
+    }
+
+    /// Takes this one out, if it waits.
+    pub(super) fn remove(&mut self, entry: &Entry) {
+        drop(self.take(entry.steps.place.load(Relaxed)));
+    }
+
+    pub(super) fn each(&self) -> impl Iterator<Item = &Shared<Entry>> {
+        self.entries.iter()
+    }
+
+    /// Takes out the last one.
+    pub(super) fn pop(&mut self) -> Option<Shared<Entry>> {
+        self.take(self.entries.len().wrapping_sub(1))
+    }
+
+    /// Sleeps until one of them may ask again, whose place is the answer's number; until the opening is [rung](Handle::ring), or so many
+    /// milliseconds.
+    pub(super) fn listen(&self, handle: &Handle, heard: &mut u32, limit: i64) -> Answer {
+        // SAFETY: the array has as many records as the call is told, each of an entry that is owned here. The call keeps none of them.
+        unsafe { wanzoche_store_listen(handle.at(), self.records.as_ptr(), self.records.len(), heard, limit) }
     }
 }
