@@ -30,18 +30,16 @@ type StoreOptions struct {
 // be stopped. So each call that waits for its turn at the file has a context. Where that is over while the call waits, it returns the
 // context's error within 60 milliseconds, whoever is stopped or dies, but for what the disk takes.
 type Store struct {
-	handle   storeHandle
+	handle   *storeHandle
 	declared declared
 	gate     *gate
+	listener *listener
+	latest   latest
 }
 
-// places are for goroutines that wait in the library, each of which holds a thread of the system meanwhile. The others ask again and again.
-var places = make(chan struct{}, mostWaiting)
-
 const (
-	mostWaiting = 1000
-	askAgain    = 100 * time.Millisecond
-	leaveAgain  = 50 * time.Millisecond
+	openAgain  = 100 * time.Millisecond
+	leaveAgain = 50 * time.Millisecond
 )
 
 // OpenStore opens the store whose journal is a file, which is made if there is none, for paths of this declaration. It reads the whole
@@ -51,7 +49,8 @@ func OpenStore(ctx context.Context, declaration, file string, options StoreOptio
 	if err := ctx.Err(); err != nil {
 		return nil, err
 	}
-	s := &Store{gate: newGate()}
+	s := &Store{gate: newGate(), handle: new(storeHandle)}
+	s.listener = &listener{handle: s.handle, gate: s.gate}
 	if err := s.declare(declaration); err != nil {
 		return nil, err
 	}
@@ -65,7 +64,7 @@ func OpenStore(ctx context.Context, declaration, file string, options StoreOptio
 	select {
 	case err := <-came:
 		return s.orNone(err)
-	case <-time.After(askAgain):
+	case <-time.After(openAgain):
 		go func() { // what is opened too late is closed
 			if <-came == nil {
 				s.handle.close(0)
@@ -153,7 +152,7 @@ func (s *Store) in(ctx context.Context, call func() answer) (answer, error) {
 // Close ends the opening: what it has in progress is finished, whoever waits gets ErrClosed, and so does each later call. The error says
 // that not all could be finished or synced in time; others finish what is left. A second Close does nothing.
 func (s *Store) Close() error {
-	if !s.gate.close(s.handle.stop) {
+	if !s.gate.close(s.listener.close) {
 		return nil
 	}
 	runtime.SetFinalizer(s, nil)
@@ -179,21 +178,34 @@ func (s *Store) Op(name string) (Op, error) {
 // if no turn was to be had. Else it is ErrClosed, ErrForeignOperation, ErrNoRoom, ErrSystem, ErrCorrupt, ErrUnsynced or ErrOutOfMemory:
 // nothing was started, only after ErrUnsynced nobody can say what is on the disk.
 //
-// A goroutine that waits holds a thread of the system, at most 1,000 of them do, and others ask every 0.1 seconds.
+// Goroutines that wait are parked: one thread of the system waits for all of a store. Of all processes 1,024 wait in order, and others ask
+// again and again.
 func (s *Store) Enter(ctx context.Context, op Op) (*StoreEntry, error) {
-	priority := callerOf(ctx).priority
-	given, err := s.try(ctx, op, priority)
-	for err == nil && (given.code == codeBlocked || given.code == codeWithheld) && ctx.Err() == nil {
-		given, err = s.wait(ctx, op, priority, given)
+	if op.store != s {
+		return nil, ErrForeignOperation
 	}
-	if err != nil {
+	if !s.gate.begin() {
+		return nil, ErrClosed
+	}
+	defer s.gate.end()
+	if err := ctx.Err(); err != nil {
 		return nil, err
+	}
+	e, priority := &StoreEntry{store: s, operation: op.number}, callerOf(ctx).priority
+	given := s.handle.begin(op.number, priority, tries, &e.record, 0)
+	if mayWait(given) {
+		given = s.listener.enter(ctx, given, op.number, priority, &e.record)
+	}
+	if given.code == codeStarted {
+		given = s.handle.synced(given, &e.record)
 	}
 	switch given.code {
 	case codeStarted:
-		return s.begun(given.number, op.number), nil
+		return e.begun(given.number), nil
 	case codeBlocked, codeWithheld:
 		return nil, s.tooLate(ctx, op, given)
+	case codeLate:
+		return nil, ctx.Err()
 	}
 	return nil, storeErrorOf(given)
 }
@@ -201,14 +213,24 @@ func (s *Store) Enter(ctx context.Context, op Op) (*StoreEntry, error) {
 // TryEnter begins an operation if the paths admit it now and it isn't withheld for one who waits. Else the error is ErrBlocked; Why says
 // more. The others are those of Enter. The context says for how long it may wait for its turn at the file.
 func (s *Store) TryEnter(ctx context.Context, op Op) (*StoreEntry, error) {
-	given, err := s.try(ctx, op, callerOf(ctx).priority)
+	if op.store != s {
+		return nil, ErrForeignOperation
+	}
+	e, priority := &StoreEntry{store: s, operation: op.number}, callerOf(ctx).priority
+	given, err := s.in(ctx, func() answer {
+		given := s.handle.begin(op.number, priority, tries, &e.record, piece)
+		if given.code != codeStarted {
+			return given
+		}
+		return s.handle.synced(given, &e.record)
+	})
 	if err != nil {
 		return nil, err
 	}
 	if given.code != codeStarted {
 		return nil, storeErrorOf(given)
 	}
-	return s.begun(given.number, op.number), nil
+	return e.begun(given.number), nil
 }
 
 // Do runs a function within an operation, which ends when it returns, or panics. The error is that of Enter, or the function's, or, if
@@ -224,54 +246,4 @@ func (s *Store) Do(ctx context.Context, op Op, body func(ctx context.Context, e 
 		}
 	}()
 	return body(ctx, e)
-}
-
-// try makes a start that waits for its turn alone.
-func (s *Store) try(ctx context.Context, op Op, priority uint32) (answer, error) {
-	if op.store != s {
-		return answer{}, ErrForeignOperation
-	}
-	return s.in(ctx, func() answer { return s.handle.try(op.number, priority) })
-}
-
-// wait waits in the library, if there is a place for it, until the context is over. Without a place it waits for one, or asks again.
-func (s *Store) wait(ctx context.Context, op Op, priority uint32, given answer) (answer, error) {
-	again := time.NewTimer(askAgain)
-	defer again.Stop()
-	select {
-	case places <- struct{}{}:
-		defer func() { <-places }()
-		return s.waitInPlace(ctx, op, priority)
-	case <-again.C:
-		return s.try(ctx, op, priority)
-	case <-ctx.Done():
-		return given, nil
-	}
-}
-
-func (s *Store) waitInPlace(ctx context.Context, op Op, priority uint32) (answer, error) {
-	t := new(task)
-	if !s.gate.join(t) {
-		return answer{}, ErrClosed
-	}
-	defer s.gate.quit(t)
-	stopped := make(chan struct{})
-	defer close(stopped)
-	if ctx.Done() != nil {
-		go func() {
-			select {
-			case <-ctx.Done():
-				s.gate.stop(t, s.handle.stop)
-			case <-stopped:
-			}
-		}()
-	}
-	given := s.handle.enter(op.number, priority, t)
-	if given.code != codeStarted && s.gate.isClosed() {
-		return answer{}, ErrClosed
-	}
-	if given.code == codeLate {
-		return answer{}, ctx.Err()
-	}
-	return given, nil
 }

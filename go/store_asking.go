@@ -3,6 +3,8 @@ package wanzoche
 import (
 	"context"
 	"strings"
+	"sync"
+	"time"
 )
 
 // Why says which path would keep an operation from beginning now; nil if none would. Whether it would be withheld only an entry says. What
@@ -25,11 +27,21 @@ func (s *Store) Why(ctx context.Context, op Op) (*Blocked, error) {
 	return s.hindrance(op.number, given, report), nil
 }
 
+// latest is the last report for those that were too late, so that many of them at once take one turn.
+type latest struct {
+	lock   sync.Mutex
+	report string
+	made   time.Time
+}
+
+// isNew is for how long it counts.
+const isNew = 5 * time.Millisecond
+
 // tooLate is what kept an operation out until the context was over. What is in progress is looked at for as long as one turn takes.
 func (s *Store) tooLate(ctx context.Context, op Op, given answer) error {
 	report := ""
 	if given.code == codeBlocked && s.gate.begin() {
-		report, _ = grown(s.handle.report)
+		report = s.latest.of(s.handle)
 		s.gate.end()
 	}
 	blocked := s.hindrance(op.number, given, report)
@@ -37,8 +49,22 @@ func (s *Store) tooLate(ctx context.Context, op Op, given answer) error {
 	return blocked
 }
 
+// of is a new report, or one that another has just got; empty if no turn was to be had.
+func (l *latest) of(h *storeHandle) string {
+	l.lock.Lock()
+	defer l.lock.Unlock()
+	if time.Since(l.made) > isNew {
+		report, given := grown(h.report)
+		if given.code != codeWritten {
+			report = ""
+		}
+		l.report, l.made = report, time.Now()
+	}
+	return l.report
+}
+
 // Waiting is how many threads, tasks and goroutines wait for an operation, in all processes; of an operation of others, and when the store
-// is closed, it is 0. Goroutines that ask without a place don't count.
+// is closed, it is 0.
 func (s *Store) Waiting(op Op) int {
 	if op.store != s || !s.gate.begin() {
 		return 0

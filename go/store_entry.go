@@ -14,6 +14,7 @@ import (
 // progress until the store is closed, since nobody can say whether its body has ended.
 type StoreEntry struct {
 	store     *Store
+	record    record
 	token     uint64
 	operation uint32
 	lock      sync.Mutex
@@ -21,8 +22,9 @@ type StoreEntry struct {
 	due       bool // whether a goroutine leaves it again and again
 }
 
-func (s *Store) begun(token uint64, operation uint32) *StoreEntry {
-	e := &StoreEntry{store: s, token: token, operation: operation}
+// begun is the entry when it has begun.
+func (e *StoreEntry) begun(token uint64) *StoreEntry {
+	e.token = token
 	runtime.SetFinalizer(e, (*StoreEntry).dropped)
 	return e
 }
@@ -66,7 +68,10 @@ func isDue(given answer) bool {
 func (e *StoreEntry) leave() answer {
 	given := answer{code: codeClosed}
 	if e.store.gate.begin() {
-		given = e.store.handle.leave(e.token)
+		given = e.store.handle.end(&e.record, piece)
+		if given.code == codeFinished {
+			given = e.store.handle.synced(given, &e.record)
+		}
 		e.store.gate.end()
 	}
 	if !isDue(given) {

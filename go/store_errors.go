@@ -36,6 +36,7 @@ var (
 var kinds = map[uint32]error{
 	codeLate: ErrLate, codeSystem: ErrSystem, codeInUse: ErrInUse, codeOtherDeclaration: ErrOtherDeclaration, codeNotAStore: ErrNotAStore,
 	codeCorrupt: ErrCorrupt, codeUnsynced: ErrUnsynced, codeForked: ErrForked, codeAlive: ErrAlive, codeStale: ErrNotInProgress,
+	codeLost:     ErrNotInProgress,
 	codeNotYours: ErrNotInProgress,
 }
 

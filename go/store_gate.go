@@ -7,12 +7,11 @@ type gate struct {
 	lock   sync.Mutex
 	ended  *sync.Cond
 	calls  int
-	tasks  map[*task]struct{} // of calls that can be stopped
 	closed bool
 }
 
 func newGate() *gate {
-	g := &gate{tasks: map[*task]struct{}{}}
+	g := &gate{}
 	g.ended = sync.NewCond(&g.lock)
 	return g
 }
@@ -36,44 +35,22 @@ func (g *gate) end() {
 	}
 }
 
-// join begins a call that can be stopped.
-func (g *gate) join(t *task) bool {
+// beginAgain begins a call within another one.
+func (g *gate) beginAgain() {
 	g.lock.Lock()
 	defer g.lock.Unlock()
-	if !g.closed {
-		g.calls++
-		g.tasks[t] = struct{}{}
-	}
-	return !g.closed
+	g.calls++
 }
 
-func (g *gate) quit(t *task) {
-	g.lock.Lock()
-	delete(g.tasks, t)
-	g.lock.Unlock()
-	g.end()
-}
-
-// stop stops a call by `how`, if it hasn't ended.
-func (g *gate) stop(t *task, how func(*task)) {
-	g.lock.Lock()
-	defer g.lock.Unlock()
-	if _, ok := g.tasks[t]; ok {
-		how(t)
-	}
-}
-
-// close has no further call come, stops those that can be stopped, and waits for all. False the second time.
-func (g *gate) close(how func(*task)) bool {
+// close has no further call come, ends by `how` those that wait, and waits for all. False the second time.
+func (g *gate) close(how func()) bool {
 	g.lock.Lock()
 	defer g.lock.Unlock()
 	if g.closed {
 		return false
 	}
 	g.closed = true
-	for t := range g.tasks {
-		how(t)
-	}
+	how()
 	for g.calls > 0 {
 		g.ended.Wait()
 	}

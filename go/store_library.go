@@ -6,7 +6,7 @@ import "C"
 
 import (
 	"runtime"
-	"sync/atomic"
+	"sync"
 	"unsafe"
 )
 
@@ -25,21 +25,31 @@ const (
 	codeAlive            = C.WANZOCHE_ALIVE
 	codeRecovered        = C.WANZOCHE_RECOVERED
 	codeCounted          = C.WANZOCHE_COUNTED
+	codeCalled           = C.WANZOCHE_CALLED
 	codeSynced           = C.WANZOCHE_SYNCED
+	codeLost             = C.WANZOCHE_LOST
 )
 
-// task is an entry by steps, which another goroutine may stop. Only the library looks at its record.
-type task struct {
-	record  C.wanzoche_store_record
-	stopped atomic.Bool
-}
+// record is an operation by steps. Only the library looks at what is in it, and it stays where it is while it waits or is live.
+type record C.wanzoche_store_record
 
-// piece is for how many milliseconds a step waits for its turn before one looks whether its task was stopped.
+// rings are what one who listens has heard.
+type rings C.uint32_t
+
+// How a step goes on that isn't admitted: it doesn't wait, or another goroutine listens for it.
+const (
+	tries   = C.WANZOCHE_TRY
+	listens = C.WANZOCHE_LISTEN
+)
+
+// piece is for how many milliseconds a step waits for its turn before it looks what else there is.
 const piece = 45
 
 // storeHandle is an opening of the library. All calls may come from any thread, but none may come when close has begun.
 type storeHandle struct {
 	opened *C.wanzoche_store
+	syncs  bool // whether answers wait for the disk
+	disk   sync.Mutex
 }
 
 // open opens a store. A negative patience is endless, and one of 0 the usual.
@@ -53,6 +63,7 @@ func (h *storeHandle) open(file, text string, o StoreOptions, patience, limit in
 		no_sync: C.bool(o.NoSync), keep_lost: C.bool(o.KeepLost), is_strict: C.bool(o.Patience < 0),
 		patience: C.int64_t(patience), room: C.uint32_t(o.Room),
 	}
+	h.syncs = !o.NoSync
 	given := answerOf(C.wanzoche_store_open(&h.opened, name, lies, length, &options, C.int64_t(limit), to, size))
 	given.words = messageOf(message)
 	return given
@@ -74,60 +85,55 @@ func (h *storeHandle) told(call func() C.wanzoche_answer) answer {
 	return given
 }
 
-// begin is the first step, which comes again behind each wait. A goroutine is no thread, so nobody is known by what it begins.
-func (h *storeHandle) begin(operation, priority, waits uint32, t *task) answer {
+// newRecord is memory of the library's, which is given back by free; nil if there is none.
+func newRecord() *record { return (*record)(C.calloc(1, C.sizeof_wanzoche_store_record)) }
+
+func (r *record) free() { C.free(unsafe.Pointer(r)) }
+
+// waits says whether it stands among those that wait.
+func (r *record) waits() bool { return bool(r.is_waiting) }
+
+func (r *record) at() *C.wanzoche_store_record { return (*C.wanzoche_store_record)(r) }
+
+// begin is the first step, which comes again behind each wait. A goroutine is no thread, so nobody is known by what it begins. The limit,
+// in milliseconds, is that of the wait for its turn.
+func (h *storeHandle) begin(operation, priority, waits uint32, r *record, limit int64) answer {
 	return h.told(func() C.wanzoche_answer {
 		return C.wanzoche_store_begin(h.opened, C.uint32_t(operation), C.uint32_t(priority), C.WANZOCHE_NO_CALLER, C.uint32_t(waits),
-			&t.record, piece)
+			r.at(), C.int64_t(limit))
 	})
 }
 
-// synced is the answer to a start when its line is on the disk.
-func (h *storeHandle) synced(given answer, t *task) answer {
-	synced := h.told(func() C.wanzoche_answer { return C.wanzoche_store_sync(h.opened, &t.record) })
+// end is the last step: it ends the operation, or the wait. Only the first has a limit.
+func (h *storeHandle) end(r *record, limit int64) answer {
+	return h.told(func() C.wanzoche_answer { return C.wanzoche_store_end(h.opened, r.at(), C.int64_t(limit)) })
+}
+
+// synced is the answer to a step when its line is on the disk. One goroutine at a time waits for that, and then all lines are there.
+func (h *storeHandle) synced(given answer, r *record) answer {
+	if !h.syncs {
+		return given
+	}
+	h.disk.Lock()
+	defer h.disk.Unlock()
+	synced := h.told(func() C.wanzoche_answer { return C.wanzoche_store_sync(h.opened, r.at()) })
 	if synced.code != codeSynced {
 		return synced
 	}
 	return given
 }
 
-// try begins an operation if it may begin now. It waits for its turn alone.
-func (h *storeHandle) try(operation, priority uint32) answer {
-	t := new(task)
-	given := h.begin(operation, priority, C.WANZOCHE_TRY, t)
-	if given.code != codeStarted {
-		return given
+// listen sleeps until one of these may ask again, whose place is the answer's number; until it is rung, or so many milliseconds.
+func (h *storeHandle) listen(records []*record, heard *rings, limit int64) answer {
+	var first **C.wanzoche_store_record
+	if len(records) > 0 {
+		first = (**C.wanzoche_store_record)(unsafe.Pointer(&records[0]))
 	}
-	return h.synced(given, t)
+	return answerOf(C.wanzoche_store_listen(h.opened, first, C.size_t(len(records)), (*C.uint32_t)(heard), C.int64_t(limit)))
 }
 
-// enter begins an operation by a new task, and waits until it may begin, something is wrong, or the task is stopped. Then the answer is that
-// of its last step.
-func (h *storeHandle) enter(operation, priority uint32, t *task) answer {
-	for {
-		given := h.begin(operation, priority, C.WANZOCHE_WAIT, t)
-		if given.code == codeStarted {
-			return h.synced(given, t)
-		}
-		waits := given.code == codeBlocked || given.code == codeWithheld || given.code == codeLate
-		if waits && !t.stopped.Load() {
-			C.wanzoche_store_wait(h.opened, &t.record, -1) // one that was late before it could wait doesn't sleep here
-		}
-		if !waits || t.stopped.Load() {
-			C.wanzoche_store_end(h.opened, &t.record, 0)
-			return given
-		}
-	}
-}
-
-func (h *storeHandle) stop(t *task) {
-	t.stopped.Store(true)
-	C.wanzoche_store_wake(h.opened, &t.record)
-}
-
-func (h *storeHandle) leave(token uint64) answer {
-	return h.told(func() C.wanzoche_answer { return C.wanzoche_store_leave(h.opened, C.uint64_t(token), 0) })
-}
+// ring ends the sleep of one who listens, or its next one.
+func (h *storeHandle) ring() { C.wanzoche_store_ring(h.opened) }
 
 func (h *storeHandle) use(token uint64, verb uint32, number uint64) answer {
 	return h.told(func() C.wanzoche_answer {

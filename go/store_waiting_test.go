@@ -124,28 +124,6 @@ func TestBesideOneThatIsStoppedWithoutASlot(t *testing.T) {
 	until(t, "it is left", func() bool { return errors.Is(reading.Leave(), ErrLeft) })
 }
 
-// Goroutines for which there is no place in the library go on as well.
-func TestWithoutAPlace(t *testing.T) {
-	s := openedStore(t, storeFile(t), quick)
-	read, writing := storeOp(t, s, "read"), enteredStore(t, s, "write")
-	for n := 0; n < mostWaiting; n++ {
-		places <- struct{}{}
-	}
-	waits, cancel := context.WithCancel(background)
-	cancelled, came := entersStore(s, waits, read), entersStore(s, background, read)
-	cancel()
-	wants(t, (<-cancelled).err, context.Canceled)
-	leavesStore(t, writing)
-	word := <-came
-	if word.err != nil {
-		t.Fatal(word.err)
-	}
-	leavesStore(t, word.entry)
-	for n := 0; n < mostWaiting; n++ {
-		<-places
-	}
-}
-
 // Who is cancelled passes the turn on, also where it comes at the same time.
 func TestCancelledAtAStoreLosesNoTurn(t *testing.T) {
 	s := openedStore(t, storeFile(t), quick)

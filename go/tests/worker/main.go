@@ -132,7 +132,8 @@ func check(file string) {
 }
 
 func opened(file string) *wanzoche.Store {
-	s, err := wanzoche.OpenStore(context.Background(), book, file, wanzoche.StoreOptions{NoSync: true})
+	options := wanzoche.StoreOptions{NoSync: os.Getenv("STORE_IS_SYNCED") == ""}
+	s, err := wanzoche.OpenStore(context.Background(), book, file, options)
 	must(err)
 	return s
 }
