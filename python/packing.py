@@ -143,7 +143,11 @@ def _record(files: Dict[str, bytes], name: str) -> bytes:
 
 
 def _modules() -> List[str]:
-    return sorted(name for name in os.listdir(os.path.join(HERE, PACKAGE)) if name.endswith((".py", ".pyi", ".typed", ".sql", ".html")))
+    """The package's files, also those in its folders, by their paths in it."""
+    top, found = os.path.join(HERE, PACKAGE), []
+    for folder, _, names in os.walk(top):
+        found += [os.path.relpath(os.path.join(folder, name), top) for name in names]
+    return sorted(name for name in found if name.endswith((".py", ".pyi", ".typed", ".sql", ".html")))
 
 
 def _date() -> int:

@@ -9,6 +9,7 @@
 deposit is blocked: path 0 of slot: deposit ; remove; in progress: nothing of it; may begin next: remove
 """
 
+from ._auditing import audit
 from ._entries import AsyncEntry, Entry
 from ._errors import (
     Blocked,
@@ -33,7 +34,7 @@ from ._errors import (
 )
 from ._exploring import Exploration, explore
 from ._metrics import Histogram, Metrics
-from ._paths import Paths, audit
+from ._paths import Paths
 from ._stored import StoredPaths
 from ._texts import Live, Path, Report, Verdict, Waiting, Worker
 

@@ -69,7 +69,7 @@ def admitted(operation: Operation, code: int, worker: int) -> bool:
     paths = operation._paths
     before: Optional[int] = None
     while code == native.NO_ROOM and paths._made_room(before):
-        before = paths._rotations.value
+        before = paths._rotation.count.value
         code = operation._begin(worker)
     if code == native.NOT_YOURS:
         raise in_use(operation)
@@ -97,7 +97,7 @@ def check_seconds(timeout: Optional[float]) -> None:
 def frames_of_package() -> int:
     """How many frames of the package are above that of who calls it, and that one: the `stacklevel` of a warning there."""
     frame, level = sys._getframe(1), 1
-    while frame.f_back is not None and frame.f_globals.get("__package__") == __package__:
+    while frame.f_back is not None and (frame.f_globals.get("__package__") or "").split(".")[0] == __package__:
         frame, level = frame.f_back, level + 1
     return level
 

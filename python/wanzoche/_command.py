@@ -12,12 +12,13 @@ from . import __version__
 from ._beside import Beside
 from ._errors import CorruptStore, StoreError, Timeout, WanzocheError
 from ._executing import check_words, execute
-from ._log import declaration_of
 from ._options import parser
 from ._passing import make_pass
 from ._paths import Paths
 from ._reading import OnlyReading, Reader
-from ._served import OPENING, SCHEMES, KeepingPaths, LookingPaths
+from ._served import times
+from ._served.paths import SCHEMES, KeepingPaths, LookingPaths
+from ._served.schema import declaration_of
 from ._showing import Looking, Onlooker
 from ._stored import StoredPaths
 from ._streams import say, take_closed_streams, write
@@ -27,6 +28,8 @@ from ._watching import Ended, told_of, watch_lines, watch_status
 WRONG_LINE = 5
 LOOKING = ("status", "log", "audit", "watch")
 """The commands for which the right to read a store's files will do."""
+READING = ("watch", "audit")
+"""Those that read a store's files themselves: to read on where they were, or to say in which of them a line is wrong."""
 OWN_FAULT = 125
 """As `env` and `timeout` have it: the fault is this program's, and the command wasn't run."""
 
@@ -57,7 +60,7 @@ def _text_in(path: str) -> bytes:
 def _stored_declaration(given: Any) -> bytes:
     """What the store says of itself. Raises `StoreError` if it isn't there yet: only `exec` makes one."""
     if given.name is not None:
-        found = declaration_of(given.store, given.name, OPENING)
+        found = declaration_of(given.store, given.name, times.OPENING)
         if found is None:
             raise StoreError("there is no log {}: `wanzoche exec` with --declaration makes one".format(given.name))
         return found.encode()
@@ -171,6 +174,27 @@ def _view(given: Any) -> int:
     return 0
 
 
+def _audit(paths: StoredPaths) -> int:
+    """Audits a log in PostgreSQL. Raises `CorruptStore` for a line that isn't owed."""
+    verdict = paths.audit()
+    if not verdict:
+        raise CorruptStore("place {} of the log isn't owed".format(verdict.wrong_line), verdict.wrong_line)
+    write("sound\n")
+    return 0
+
+
+def _end_audit(error: CorruptStore) -> int:
+    """Says which line of which file isn't owed, from 0 and without the head, and on standard error why, with the line as editors count:
+    whoever has found it, the opening too. A log in PostgreSQL has places, from 0. Of lines that are gone there is no verdict."""
+    path, is_in_file, _ = str(error).partition(" in line {}: ".format(error.line))
+    status = 1
+    if error.line is not None and not (is_in_file and error.line < 2):
+        write("wrong line {} of {}\n".format(error.line - 2, path) if is_in_file else "wrong line {}\n".format(error.line))
+        status = WRONG_LINE
+    say(str(error))
+    return status
+
+
 def _do(paths: StoredPaths, given: Any) -> int:
     if given.command == "exec":
         return execute(paths, given)
@@ -179,11 +203,28 @@ def _do(paths: StoredPaths, given: Any) -> int:
     if given.command == "recover":
         write("finished {}\n".format(paths.recover(given.worker, given.even_alive)))
         return 0
+    if given.command in READING and not _is_served(given):
+        return _read(given)
     if given.command == "audit":
-        verdict = paths.audit()
-        write("{}\n".format(verdict))
-        return 0 if verdict else WRONG_LINE
+        return _audit(paths)
     return _told(Onlooker(paths), given)
+
+
+def _done(given: Any) -> int:
+    """Opens the store, or only reads it, and does the command."""
+    try:
+        try:
+            opened = _opened(given)
+        except StoreError as error:
+            if not _is_only_to_read(error, given):
+                raise
+            return _read(given)
+        with opened as paths:
+            return _do(paths, given)
+    except CorruptStore as error:
+        if given.command != "audit":
+            raise
+        return _end_audit(error)
 
 
 def _given(words: Optional[List[str]]) -> Any:
@@ -206,14 +247,7 @@ def main(words: Optional[List[str]] = None) -> int:
             return _operations(given)
         if given.command == "view":
             return _view(given)
-        try:
-            opened = _opened(given)
-        except StoreError as error:
-            if not _is_only_to_read(error, given):
-                raise
-            return _read(given)
-        with opened as paths:
-            return _do(paths, given)
+        return _done(given)
     except KeyboardInterrupt:
         return 128 + signal.SIGINT
     except Ended as ended:
@@ -222,6 +256,4 @@ def main(words: Optional[List[str]] = None) -> int:
         return 128 + signal.SIGPIPE  # whoever reads has enough
     except (WanzocheError, ValueError, OSError) as error:
         say(str(error))
-        if given.command == "audit" and isinstance(error, CorruptStore):
-            return WRONG_LINE
         return OWN_FAULT if given.command == "exec" else 1

@@ -123,7 +123,7 @@ class Entry(Base):
         before: Optional[int] = None
         answer = native.use(paths._at, operation._worker, operation._number, verb, number)
         while answer.code == native.NO_ROOM and paths._made_room(before):
-            before = paths._rotations.value
+            before = paths._rotation.count.value
             answer = native.use(paths._at, operation._worker, operation._number, verb, number)
         if answer.code == native.USED:
             return int(answer.number)

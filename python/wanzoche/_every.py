@@ -7,11 +7,11 @@ import time
 from typing import Optional
 
 from . import _native as native
-from ._asking import Asked
 from ._entries import Entry
 from ._errors import WanzocheError
 from ._paths import Paths
-from ._served import ServedPaths
+from ._served.asking import Asked
+from ._served.paths import ServedPaths
 from ._stored import StoredPaths
 from ._texts import device_of
 
@@ -52,5 +52,5 @@ def _now(paths: StoredPaths) -> int:
     """Milliseconds since 1970: over a server by its clock, so that all machines ask the same one."""
     if not isinstance(paths, ServedPaths):
         return time.time_ns() // 1_000_000
-    log = paths._served._log
-    return paths._served.ask(lambda: int(CLOCK.rows(log)[0][0]))
+    served = paths.served
+    return served.ask(lambda: int(CLOCK.rows(served.log)[0][0]))

@@ -8,7 +8,7 @@ from typing import Callable, List, NamedTuple, Optional, Tuple, Union
 
 from . import _native as native
 from ._errors import ScriptError
-from ._paths import bytes_of, declaration_error
+from ._declaring import bytes_of, declaration_error
 
 MOST_STATES = 4_294_967_295
 

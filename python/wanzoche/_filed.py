@@ -49,11 +49,11 @@ class Begun(_store.Begun):
 
     def _begin(self, worker: int) -> int:
         """Starts it, if it is admitted now."""
-        return self._paths._store.start(self, worker, TRY)
+        return self._paths._file.start(self, worker, TRY)
 
     def _end(self) -> int:
         """The finish of one that nobody will leave."""
-        self._paths._store.undo(self)
+        self._paths._file.undo(self)
         return native.FINISHED
 
 
@@ -61,14 +61,14 @@ def _admits(begun: Begun, code: int) -> bool:
     """What a start was answered: whether it is in progress. Raises what is in the way but for paths and those that wait."""
     paths = begun._paths
     try:
-        is_admitted = paths._store.admits(begun, code)
+        is_admitted = paths._file.admits(begun, code)
     except Closed:
         raise paths._closed() from None
     if code == native.NOT_YOURS:
         raise in_use(begun)
     if code == native.NO_ROOM:
         running = len(paths.report().live)
-        raise OutOfRoom("no room for {}: {} in progress, in a room of {}".format(begun._name, running, paths._store.room))
+        raise OutOfRoom("no room for {}: {} in progress, in a room of {}".format(begun._name, running, paths._file.room))
     return is_admitted
 
 
@@ -86,7 +86,7 @@ def _is_over(until: Optional[float]) -> bool:
 
 def _enter(begun: Begun, worker: int) -> bool:
     """Begins it when it is admitted, and it is on the disk then. Whether it has waited for that."""
-    store, until = begun._paths._store, begun.limit()
+    store, until = begun._paths._file, begun.limit()
     code = store.start(begun, worker, begun.waits(WAIT))
     has_waited = code != native.STARTED and not _admits(begun, code)
     if has_waited:
@@ -103,7 +103,7 @@ def _enter(begun: Begun, worker: int) -> bool:
 
 def _until_admitted(begun: Begun, worker: int, code: int, until: Optional[float]) -> None:
     """Of one that wasn't admitted: waits, and tries again."""
-    store, since, looks, known = begun._paths._store, time.monotonic(), FIRST_LOOK, code
+    store, since, looks, known = begun._paths._file, time.monotonic(), FIRST_LOOK, code
     warn_in_loop(begun)
     while not _admits(begun, code):
         now, known = time.monotonic(), known if code == native.LATE else code
@@ -141,14 +141,14 @@ def _claim(entry: "_Filed", begun: Begun) -> None:
             claims.release()
         raise
     if not is_free:
-        begun._paths._store.undo(begun)
+        begun._paths._file.undo(begun)
         raise in_use(begun)
 
 
 def _undo(begun: Begun, error: BaseException, worker: int) -> None:
     """After an exception: what was begun isn't in progress, and nobody waits for it. To do so twice does no harm."""
     if begun._worker == worker and not isinstance(error, InUse):  # else another has begun the same entry
-        begun._paths._store.undo(begun)
+        begun._paths._file.undo(begun)
 
 
 class _Filed(_Stored):
@@ -183,13 +183,13 @@ class _Filed(_Stored):
         if begun._live:
             raise in_use(begun)
         try:
-            code = begun._paths._store.start(begun, worker, TRY)
+            code = begun._paths._file.start(begun, worker, TRY)
             if not _admits(begun, code):
                 if code == native.LATE:
-                    raise begun._paths._store.refusal(native.Answer(code, 0))
+                    raise begun._paths._file.refusal(native.Answer(code, 0))
                 return False
-            begun._paths._store.tell_news()
-            begun._paths._store.wait_for_sync(begun)
+            begun._paths._file.tell_news()
+            begun._paths._file.wait_for_sync(begun)
             next(begun._paths._begun[begun._op])
             return True
         except BaseException as error:
@@ -200,8 +200,8 @@ class _Filed(_Stored):
         begun: Optional[Begun] = getattr(self, "_begun", None)
         if begun is None or begun._paths._forked:
             return
-        if begun._live and not begun._paths._store._is_closed:
-            begun._paths._store.undo(begun)
+        if begun._live and not begun._paths._file.is_closed:
+            begun._paths._file.undo(begun)
             begun._paths._dropped(begun._name)
         elif not begun._is_tried:
             self._unused()
@@ -244,7 +244,7 @@ class StoredAsyncEntry(_Filed, AsyncEntry):
 
     async def _finish_as_task(self) -> Tuple[int, Any]:
         begun = self._begun
-        store = begun._paths._store
+        store = begun._paths._file
         try:
             code = store.finish_now(begun)
             if code == native.LATE:
@@ -267,14 +267,14 @@ async def _enter_as_task(begun: Begun, worker: int) -> bool:
         finally:
             begun._paths._listener.remove(wait)
             begun._paths._queues.waits.note(begun._op, time.monotonic() - since)
-        begun._paths._store.tell_news()
+        begun._paths._file.tell_news()
     await _synced(begun)
     return has_waited
 
 
 async def _start_as_task(begun: Begun, worker: int, waits: int) -> int:
     """Tries to begin it, without a sleep of the loop."""
-    store = begun._paths._store
+    store = begun._paths._file
     code = store.start_now(begun, worker, waits)
     if code == native.LATE:
         code = await aside(begun._paths._pool(), store.start_soon, begun, worker, waits)
@@ -301,7 +301,7 @@ async def _until_admitted_as_task(
 
 async def _synced(begun: Begun) -> None:
     """Waits until its last line is on the disk."""
-    store = begun._paths._store
+    store = begun._paths._file
     if store.sync:
         await aside(begun._paths._pool(), store.wait_for_sync, begun)
 

@@ -77,14 +77,14 @@ class _Stored(Entry):
     def _is_in_progress(self) -> bool:
         """Whether there is something to finish. Paths that were closed have done it."""
         begun = self._begun
-        if begun._live and begun._paths._store._is_closed:
+        if begun._live and begun._paths._store.is_closed:
             begun._live = False
         return bool(begun._live)
 
     def leave(self) -> None:
         """Finishes the operation. Raises `NotInProgress` if it isn't in progress, `Lost` if others have finished it, and `Closed` if the
         paths were closed meanwhile."""
-        if self._begun._live and self._begun._paths._store._is_closed:
+        if self._begun._live and self._begun._paths._store.is_closed:
             self._begun._live = False
             raise self._begun._paths._closed()
         if not self._begun._live or self._finish() != native.FINISHED:

@@ -72,7 +72,7 @@ class Listener:
                 self._listen()
             finally:
                 self._thread = None
-            goes_on = bool(self._waits) and self._thread is None and not self._store._is_closed
+            goes_on = bool(self._waits) and self._thread is None and not self._store.is_closed
             if goes_on:  # one that came as this one ended
                 self._thread = threading.current_thread()
 

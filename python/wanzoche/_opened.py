@@ -60,7 +60,9 @@ class Opened(Steps):
         self._options = Options(not sync, not finishes_lost, patience == 0, _milliseconds(patience), room)
         self._opened = ctypes.c_void_p()
         self._at: Optional[int] = None
-        self._is_closed = self._has_fault = False
+        self.is_closed = False
+        """Whether these paths were closed."""
+        self._has_fault = False
         self._dropped: Deque[Begun] = deque()
         self._lent: List[int] = []
         self.worker = 0
@@ -119,7 +121,7 @@ class Opened(Steps):
 
     def close(self) -> None:
         """Finishes what this process has in progress, and ends its part. A second close does nothing."""
-        self._is_closed = True
+        self.is_closed = True
         if self._at is None:
             return
         answer = self._calls.stop(self._at, CLOSING)
@@ -138,11 +140,11 @@ class Opened(Steps):
 
     def abandon(self) -> None:
         """Ends its part without a word: in the child of a fork, whose paths are the parent's."""
-        self._is_closed = True
+        self.is_closed = True
         self._take_back()
 
     def __del__(self) -> None:
-        if self._at is not None and self._is_closed:
+        if self._at is not None and self.is_closed:
             self._calls.close(self._at, 0)  # what it has in progress was finished by then, or is a parent's
 
     # What goes wrong

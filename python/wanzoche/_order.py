@@ -189,3 +189,12 @@ if not TYPE_CHECKING and core is not None:
     def new_line(handle: native.Handle, patience: int) -> Line:
         """The same in C."""
         return core.Line(*_CALLS, ctypes.addressof(handle), handle, patience, SHUT)
+
+
+def nanoseconds_of(patience: float) -> int:
+    """How long one waits before starts are withheld for it. Raises TypeError for what is no number, and ValueError for one below 0."""
+    if not isinstance(patience, (int, float)) or isinstance(patience, bool):
+        raise TypeError("the patience is a number of seconds, not {!r}".format(patience))
+    if not patience >= 0:
+        raise ValueError("the patience is 0 or more seconds, not {!r}".format(patience))
+    return int(patience * 1e9) if patience < 1e9 else NEVER

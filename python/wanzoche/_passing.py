@@ -19,7 +19,7 @@ def pass_at_once(paths: StoredPaths, operation: str, behind: Optional[Entry] = N
     entry may be in progress still, or over without the pass.
     """
     if isinstance(paths._store, Store):
-        return paths._store.pass_at_once(paths._number(operation), None if behind is None else cast(StoredEntry, behind)._begun)
+        return paths._file.pass_at_once(paths._number(operation), None if behind is None else cast(StoredEntry, behind)._begun)
     if behind is not None:
         behind.leave()
     entry = paths.try_enter(operation)

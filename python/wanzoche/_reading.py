@@ -22,18 +22,20 @@ See = Callable[[bytes], None]
 """Is given whole lines of the journal, as they stand there."""
 HEAD = re.compile(rb"journal 3 room ([1-9][0-9]{0,6})\n")
 CHUNK = 1 << 20
+MOST_SHOWN = 90
+"""So much of a line is shown."""
 
 
 def _shown(text: bytes) -> str:
     """A line for a message."""
-    return text[:200].decode("ascii", "backslashreplace")
+    return text[:MOST_SHOWN].decode("ascii", "backslashreplace")
 
 
 def wrong_of(refusal: Refusal) -> str:
-    """What is wrong with a line that isn't taken over, in words."""
-    if refusal.owed is None:
+    """What is wrong with a line that isn't taken over, in words. One with an operation that isn't declared is none of this journal."""
+    if refusal.owed in (None, b"undeclared"):
         return "`{}` isn't a line of a journal".format(_shown(refusal.line))
-    return "`{}`, where `{}` is owed".format(_shown(refusal.line), _shown(refusal.owed))
+    return "`{}`, where `{}` is owed".format(_shown(refusal.line), _shown(refusal.owed or b""))
 
 
 class Reader:

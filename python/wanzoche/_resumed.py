@@ -3,7 +3,7 @@
 from __future__ import annotations
 
 import ctypes
-from typing import List
+from typing import FrozenSet, List, Tuple
 
 from . import _native as native
 from ._errors import JournalError, OutOfRoom
@@ -78,3 +78,17 @@ def live_workers(at: int) -> List[int]:
     count = native.live(at)
     found = (native.Activation * count)()
     return sorted({each.worker for each in found[: native.list_live(at, found, count)]})
+
+
+def go_on(handle: native.Handle, text: bytes, room: int) -> Tuple[int, FrozenSet[int]]:
+    """Has a system that was just opened go on behind the lines of a journal: how many bytes of that are whole lines, and who has something in
+    progress there. Nobody else gets their numbers. Closes the system if it raises what `Journal` does."""
+    at = ctypes.addressof(handle)
+    journal = Journal(at, text, room)
+    try:
+        journal.take_over()
+        native.rotate_at(at, native.lines(at), None)
+        return journal.whole, frozenset(live_workers(at))
+    except BaseException:
+        native.close(at)
+        raise

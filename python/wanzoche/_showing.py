@@ -6,11 +6,10 @@ import json
 import time
 from typing import Any, Callable, Dict, List, NamedTuple, Optional, Protocol, Sequence, Tuple
 
-from ._asking import Asked
-from ._log import Log
 from ._processes import Process, process_at
-from ._served import ServedPaths
-from ._store import Store
+from ._served.asking import Asked
+from ._served.log import Log
+from ._served.paths import ServedPaths
 from ._stored import StoredPaths
 from ._texts import Report
 
@@ -96,9 +95,8 @@ class Onlooker:
     def stamp(self) -> object:
         paths = self._paths
         if isinstance(paths, ServedPaths):
-            served = paths._served
-            return served.ask(lambda: served._replica.lines)
-        return paths._store.stamp()
+            return paths.served.lines()
+        return paths._file.stamp()
 
     def report(self) -> Report:
         return self._paths.report()
@@ -108,21 +106,21 @@ class Onlooker:
 
     def text_from(self, place: int) -> str:
         if isinstance(self._paths, ServedPaths):
-            return "".join(self._paths._served.texts_from(place))
+            return "".join(self._paths.served.texts_from(place))
         return "".join(self._paths.journal().splitlines(True)[place:])
 
     def state(self) -> State:
         paths = self._paths
         report = paths.report()
-        beside = paths._store.path + ".shared" if isinstance(paths._store, Store) else None
+        beside = None if isinstance(paths, ServedPaths) else paths._file.path + ".shared"
         return State(report, in_progress_of(report, paths._store.process_of, beside), tuple(self._waiting()))
 
     def _waiting(self) -> List[Waiting]:
         paths = self._paths
         names = {paths._number(name): name for name in paths.operations}
         if isinstance(paths, ServedPaths):
-            log = paths._served._log
-            rows = paths._served.ask(lambda: self._rows(log))
+            log = paths.served.log
+            rows = paths.served.ask(lambda: self._rows(log))
             known = [row for row in rows if row[0] in names]
             return [Waiting(names[op], many, who, process_at(name, None)._replace(since=since)) for op, who, many, since, name in known]
         counts = paths.waiting()
@@ -132,8 +130,8 @@ class Onlooker:
     def _rows(self, log: Log) -> List[Tuple[int, int, int, int, str]]:
         """At the desk: the operation, the worker, how many wait there, since when the first does, and the worker's process, of all that
         wait and are alive, in order."""
-        rows = self._who_waits.rows(log, log._log)
-        dead = log.dead(sorted({int(row[1]) for row in rows}))
+        rows = self._who_waits.rows(log, log.calls.log)
+        dead = log.dead.among(sorted({int(row[1]) for row in rows}))
         told = [(int(op), int(who), int(many), int(since), (name or b"").decode("utf-8", "replace")) for op, who, many, since, name in rows]
         return [row for row in told if row[1] not in dead]
 

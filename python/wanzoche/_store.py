@@ -107,7 +107,7 @@ class Store(Opened):
     def undo(self, begun: Begun) -> None:
         """After an exception, or of one that nobody holds any more: it isn't in progress, and doesn't wait. What can't be written now is
         written before this process begins something else."""
-        if self._is_closed or not (begun._live or begun._waits):
+        if self.is_closed or not (begun._live or begun._waits):
             return
         if self.finish_now(begun) == native.LATE:
             self._calls.end(self._at, begun._at, 1)

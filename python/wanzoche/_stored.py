@@ -14,6 +14,8 @@ from typing import Any, Callable, Dict, Iterator, List, Mapping, Optional, Seque
 
 from . import _native as native
 from ._attempts import frames_of_package
+from ._auditing import audit
+from ._declaring import declaration_error
 from ._entries import AsyncEntry, Entry
 from ._errors import Blocked, Closed, WanzocheError
 from ._filed import Begun as FiledBegun
@@ -25,9 +27,13 @@ from ._listening import Listener
 from ._metrics import new_counters, value_of
 from ._opening import Waiter as WaiterOfLibrary
 from ._order import Told as Ahead
-from ._paths import Paths, _host, _nanoseconds_of, audit, declaration_error
+from ._order import nanoseconds_of
+from ._paths import Paths
 from ._replica import Replica
+from ._sharing import SharedStore
+from ._service import host
 from ._store import Store, Told
+from ._telling import tell_wait
 from ._texts import Live, Report, Verdict, Waiting, Worker, read_report
 from ._waiting import Queues, Waiter, patched_by
 
@@ -46,6 +52,11 @@ class StoredPaths(Paths):
     """Paths over a store: what `Paths(text, store=..)` makes. See `Paths`."""
 
     _looks = False
+    _store: SharedStore
+    _file: Store
+    """The same, of paths over a file."""
+    _listener: Listener
+    """Who listens for the tasks of paths over a file."""
 
     def __init__(
         self,
@@ -66,8 +77,7 @@ class StoredPaths(Paths):
             told = "{} has put greenlets in the place of threads, and over a store who waits holds up all of them: docs/shared.md has what helps"
             warnings.warn(told.format(patched_by()), RuntimeWarning, frames_of_package())
         handle = native.Handle()
-        opened = self._new_store(store, source, handle, other, room=room, sync=sync, lost=lost)
-        self._store = opened
+        self._store = opened = self._new_store(store, source, handle, other, room=room, sync=sync, lost=lost)
         if other:
             raise TypeError("Paths has no {}".format(", ".join(other)))
         answer = opened.open()
@@ -81,13 +91,12 @@ class StoredPaths(Paths):
             opened.end()
             raise
 
-    def _begin_with(self, opened: Store, source: bytes, handle: native.Handle) -> None:
+    def _begin_with(self, opened: SharedStore, source: bytes, handle: native.Handle) -> None:
         """From now on these are the paths of this store."""
         self._finalizer = weakref.finalize(self, opened.end)
         self._finalizer.atexit = False
         self._executor: Optional[concurrent.futures.Executor] = None
         self._begun: List[Iterator[int]] = []
-        self._listener = Listener(opened)
         self._claims = threading.RLock()
         self._set_out(source, opened.room, None)
         self._read_names(handle)
@@ -104,13 +113,15 @@ class StoredPaths(Paths):
         room: Optional[int],
         sync: bool,
         lost: Optional[str],
-    ) -> Store:
+    ) -> SharedStore:
         """The store, not yet open. It takes what it knows of the other options. None is what wasn't given."""
         patience = other.pop("patience", None)
         if patience is not None:
-            self._wait = _nanoseconds_of(patience)
+            self._wait = nanoseconds_of(patience)
         most = native.MOST_LINES if room is None else room
-        return Store(store, source, handle, room=most, sync=sync, finishes_lost=lost != "keep", patience=patience)
+        self._file = Store(store, source, handle, room=most, sync=sync, finishes_lost=lost != "keep", patience=patience)
+        self._listener = Listener(self._file)
+        return self._file
 
     def __call__(self, operation: str, timeout: Optional[float] = None, priority: int = 0) -> Entry:
         return StoredEntry(self, operation, timeout, priority)
@@ -120,20 +131,20 @@ class StoredPaths(Paths):
 
     def waiters(self) -> List[Waiting]:
         """Who waits in all processes, in the order in which they come next where nothing is in their way."""
-        return [self._waiting_at(each) for each in self._asked(self._store.waiters)]
+        return [self._waiting_at(each) for each in self._asked(self._file.waiters)]
 
     def _waiting_at(self, one: WaiterOfLibrary) -> Waiting:
         """One who waits, as the library tells of it."""
-        worker = Worker(process_name(one.worker), None, one.process or None, _host() if one.process else None)
+        worker = Worker(process_name(one.worker), None, one.process or None, host() if one.process else None)
         return Waiting(self._operations[one.operation], worker, one.priority, one.waited / 1000)
 
     def waiting(self) -> Dict[str, int]:
         """How many threads and tasks wait for each operation in all processes, of those operations for which any does."""
-        return self._count(self._asked(self._store.waiters))
+        return self._count(self._asked(self._file.waiters))
 
     def _waiting_here(self) -> Dict[str, int]:
         """The same in this process."""
-        return self._count([each for each in self._asked(self._store.waiters) if each.worker == self._store.worker])
+        return self._count([each for each in self._asked(self._file.waiters) if each.worker == self._store.worker])
 
     def _count(self, waiters: Sequence[WaiterOfLibrary]) -> Dict[str, int]:
         counts = collections.Counter(each.operation for each in waiters)
@@ -146,26 +157,24 @@ class StoredPaths(Paths):
 
     def can_start(self, operation: str) -> bool:
         op = self._number(operation)
-        return self._asked(lambda: self._store.may_start(op, self._worker_now())[0] != native.BLOCKED)
+        return self._asked(lambda: self._file.may_start(op, self._worker_now())[0] != native.BLOCKED)
 
     def why(self, operation: str) -> Optional[Blocked]:
         op = self._number(operation)
-        code, behind = self._asked(lambda: self._store.may_start(op, self._worker_now()))
+        code, behind = self._asked(lambda: self._file.may_start(op, self._worker_now()))
         return None if code == native.CAN_START else self._why_now(operation, code, behind)
 
     def _why_now(self, operation: str, code: int, behind: WaiterOfLibrary) -> Optional[Blocked]:
         """Why it was answered so to a start. Raises `StoreLate` if a turn to find that out is long in coming."""
-        report = self._asked(lambda: self._report_of(self._store.told_now()))
+        report = self._asked(lambda: self._report_of(self._file.told_now()))
         if code != native.WITHHELD:
-            return self._why_of(operation, report)
-        ahead = self._waiting_at(behind)
-        path = next(each for each in self._paths_of_text if {operation, ahead.operation} <= set(each.operations))
-        return self._blocked(operation, self._paths_of_text.index(path), report, (), ahead)
+            return self._reasons.forbids(operation, report)
+        return self._reasons.withheld(operation, self._waiting_at(behind), report)
 
     def _told_why(self, begun: FiledBegun, code: int) -> Optional[Blocked]:
         """The same to this one. Raises `StoreLate` if there was no turn to ask."""
         if code == native.LATE:
-            raise self._store.refusal(native.Answer(code, 0))
+            raise self._file.refusal(native.Answer(code, 0))
         return self._why_now(begun._name, code, begun._behind)
 
     def _why_waits(self, operation: str) -> Optional[Blocked]:
@@ -176,7 +185,7 @@ class StoredPaths(Paths):
         return self._asked(self._read_report)
 
     def _read_report(self) -> Report:
-        return self._report_of(self._store.told())
+        return self._report_of(self._file.told())
 
     def _report_of(self, parts: Told) -> Report:
         """A report of the library, with who the workers are."""
@@ -201,7 +210,7 @@ class StoredPaths(Paths):
         """Writes to the log who waits, and for whom."""
         try:
             if _logger.isEnabledFor(logging.INFO):
-                self._tell_wait(self._operations[op], self._report_for_log(), worker, since, others, told)
+                tell_wait(self, self._operations[op], self._report_for_log(), worker, since, others, told)
         except (WanzocheError, MemoryError, OSError):
             pass  # who waits is told the same
 
@@ -211,7 +220,7 @@ class StoredPaths(Paths):
     def _process_at(self, worker: int, known: Optional[int]) -> Worker:
         """Who a worker is, of which this process is known, if it is."""
         pid = os.getpid() if worker == self._store.worker else known
-        return Worker(process_name(worker), None, pid, None if pid is None else _host())
+        return Worker(process_name(worker), None, pid, None if pid is None else host())
 
     def _process(self, worker: int) -> Worker:
         return self._process_at(worker, None)

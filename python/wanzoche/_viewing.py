@@ -16,7 +16,7 @@ from typing import Any, Callable, Dict, Iterator, Optional, Protocol, Sequence, 
 from ._bars import Bars
 from ._errors import CorruptStore, StoreError, WanzocheError
 from ._page_server import News, Server
-from ._served import ServedPaths
+from ._served.paths import ServedPaths
 from ._showing import Onlooker, State, fields_of
 from ._streams import say, write
 from ._texts import Path
@@ -66,8 +66,7 @@ class Served:
         return self._known or 0
 
     def stamp(self) -> object:
-        served = self._paths._served
-        return served.ask(lambda: served._replica.lines)
+        return self._paths.served.lines()
 
     def look(self, see: Callable[[bytes], None]) -> bool:
         """The first time the whole log is audited. From then on each line is taken over as it comes, if its reply is owed."""
@@ -75,10 +74,9 @@ class Served:
             verdict = self._paths.audit()
             if not verdict:
                 raise CorruptStore("line {} of the log isn't owed".format((verdict.wrong_line or 0) + 1), verdict.wrong_line)
-            served = self._paths._served
-            self._known = served.ask(lambda: served._replica.lines)
+            self._known = self._paths.served.lines()
             return True
-        text = "".join(self._paths._served.texts_from(self._known))
+        text = "".join(self._paths.served.texts_from(self._known))
         self._known += text.count("\n")
         see(text.encode("ascii", "replace"))
         return False

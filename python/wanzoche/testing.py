@@ -15,7 +15,8 @@ import importlib
 from typing import Dict, Iterator, List, Sequence, Tuple
 
 from ._errors import Closed, StoreError
-from ._paths import Paths, all_paths
+from ._forks import all_paths
+from ._paths import Paths
 from ._texts import Live
 
 __all__ = ["nothing_left"]

@@ -5,8 +5,8 @@ from __future__ import annotations
 import time
 from typing import Any, List
 
-from ._log import Log
-from ._postgresql import Call
+from .log import Log
+from .session import Call
 
 ANSWER = 10.0
 """So many seconds the server has to learn a question."""
@@ -17,12 +17,12 @@ class Asked:
 
     def __init__(self, name: bytes, text: str) -> None:
         self._name, self._text = name, text
-        self._known_to: Any = None
+        self._known_to = 0  # the session's number
 
     def rows(self, log: Log, *given: bytes) -> List[Any]:
         """At the desk of a log: the rows of the answer. Raises what a call of the log does."""
         session = log.session
-        if self._known_to is not session._connection:
+        if self._known_to != session.number:
             session.prepare({self._name: self._text}, time.monotonic() + ANSWER)
-            self._known_to = session._connection
-        return log._call(Call(self._name, given))[0]
+            self._known_to = session.number
+        return log.calls.call(Call(self._name, given))[0]

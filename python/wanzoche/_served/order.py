@@ -9,10 +9,10 @@ import re
 import struct
 from typing import Callable, Dict, Iterable, List, NamedTuple, Optional, Sequence, Set, Tuple, TypeVar
 
-from . import _native as native
-from . import _order
-from ._order import NEVER, Told
-from ._replica import Replica
+from .. import _native as native
+from .. import _order
+from .._order import NEVER, Told
+from .._replica import Replica
 
 LAST = 1 << 62
 """The ticket of who has none yet: it stands behind all that have one. Of several such the later one's is higher."""

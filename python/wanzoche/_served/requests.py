@@ -8,8 +8,8 @@ import socket
 import time
 from typing import Any, Callable, Dict, NamedTuple, Optional, Protocol, Tuple
 
-from ._log import Place, Starting, Wishes
-from ._served_order import LAST, Standing
+from .wishes import Place, Starting, Wishes
+from .order import LAST, Standing
 
 
 _arrivals = itertools.count(1)

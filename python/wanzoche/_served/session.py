@@ -2,65 +2,20 @@
 
 from __future__ import annotations
 
-import importlib
 import os
-import re
 import select
 import time
-from typing import Any, Callable, Dict, List, Mapping, NamedTuple, Optional, Sequence
+from typing import Any, Callable, List, NamedTuple, Optional, Sequence
 
-from ._errors import StoreError
-from ._libpq import Result, direct, tells_codes
+from .._errors import StoreError
+from .connecting import Cut, info_of, message_of, psycopg, refusal_of
+from .libpq import Result, direct, tells_codes
 
-PATH = "set search_path = pg_catalog, pg_temp"
-"""What the server is told first: nothing is looked for in a schema in which others may make functions and operators."""
-LIMITS = (
-    "set statement_timeout = 0; set lock_timeout = 0; set idle_session_timeout = 0; set idle_in_transaction_session_timeout = 0; "
-    "select set_config(name, '0', false) from pg_settings where name = 'transaction_timeout'"
-)
-"""What it is told next: whatever limits the role or the database has for others, this session has its own."""
-HEARTBEAT = (
-    "set tcp_keepalives_idle = 5; set tcp_keepalives_interval = 2; set tcp_keepalives_count = 3; set tcp_user_timeout = 10000; "
-    "set statement_timeout = 60000; set idle_in_transaction_session_timeout = 3000; set client_min_messages = error; "
-    "set plan_cache_mode = force_generic_plan; set jit = off; set default_transaction_isolation = 'read committed'"
-)
-"""What the server is told of a session that has the schema: it ends one whose machine is silent for some ten seconds, and one that keeps
-others waiting, and it cancels what nobody waits for any more."""
-FOR_LIBPQ = {
-    "gssencmode": "disable",  # its library keeps a lock that a fork beside a connecting thread would leave locked
-    "keepalives_idle": "5",
-    "keepalives_interval": "2",
-    "keepalives_count": "3",
-    "tcp_user_timeout": "10000",
-    "application_name": "wanzoche",
-}
 CUT = ("08", "57P", "25P03")
 """What a server says that ends a session."""
-DENIED = ("22", "28", "3D", "42")
-"""What it says of a session that it won't begin, whoever asks again: a wrong option, password, or database, and a missing right."""
-AGAIN = ("40001", "40P01", "55P03")
-"""What it says of a call that was undone and may be repeated."""
-CANCELLED = "57014"
-"""What it says of a call that took longer than `statement_timeout`, or that somebody has cancelled."""
-Row = Sequence[Optional[bytes]]
-
-
 LOOK = 0.1
 """Who waits for an answer looks after so many seconds whether the limit is another one now."""
-BESIDE = 2.0
-"""Behind a pooler, so many seconds another session is waited for. If there is none, this one has the only one that there is."""
-POOLED = (
-    "a pooler stands before the server and gives a session to others between two transactions, as pgbouncer does with "
-    "`pool_mode = transaction`. Paths need sessions that are kept: name the server itself in the URL, or take `pool_mode = session`"
-)
-
-
-class Cut(Exception):
-    """The session is over. What was called may have been done or not."""
-
-
-class Denied(Cut):
-    """There is none, since the server won't have it."""
+Row = Sequence[Optional[bytes]]
 
 
 class Slow(Exception):
@@ -89,26 +44,13 @@ def array(numbers: Sequence[int]) -> bytes:
     return b"{%b}" % b",".join(b"%d" % number for number in numbers)
 
 
-def psycopg(name: str) -> Any:
-    """A module of psycopg 3, or StoreError."""
-    try:
-        return importlib.import_module("psycopg" + name)
-    except ImportError as error:
-        raise StoreError("a store in PostgreSQL needs psycopg 3, as Debian's python3-psycopg: docs/machines.md ({})".format(error)) from error
-
-
 class Session:
-    """One session. For one thread; but `close_here` may be called in the child of a fork."""
+    """One session. For one thread at a time, whoever is at the clerk's desk; but `close_here` may be called in the child of a fork, and any
+    thread may set `ends_by`, and read `asked_at`."""
 
     def __init__(self, url: str) -> None:
-        self._url = url
-        self._pq = psycopg(".pq")
-        conninfo = psycopg(".conninfo")
-        try:
-            made = conninfo.make_conninfo(url, **_besides(conninfo.conninfo_to_dict(url)))
-        except Exception as error:
-            raise StoreError("this isn't a URL of PostgreSQL: {}".format(str(error).strip())) from error
-        self._info = made.encode()
+        self.url = url
+        self._pq, self._info = psycopg(".pq"), info_of(url)
         self._connection: Any = None
         self._calls: Any = None  # the same connection, by quicker calls where there are any
         self._poller = select.poll()
@@ -118,6 +60,8 @@ class Session:
         self._is_in_pipeline = False
         self._is_sent = True  # whether nothing is left to be sent
         self._owed, self._owed_until = 0, float("inf")  # so many synchronizations have yet to be answered, by then
+        self.number = 0
+        """How often it was connected: who has told one session something tells it the next one again."""
         self.asked_at: Optional[float] = None
         """Since when an answer is waited for; None if none is."""
         self.soon = float("inf")
@@ -130,39 +74,10 @@ class Session:
     # Connecting
 
     def connect(self, until: float) -> None:
-        """Connects by then. Raises `Cut`, and `StoreError` if a pooler doesn't keep sessions."""
-        self._connect(until)
-        try:
-            own = self._process(until)
-            if own != self._connection.backend_pid:
-                self._refuse_pooler(own, until)
-            self.run(PATH, until)
-            self.run(LIMITS, until)
-        except Complaint as error:
-            raise self._cut(str(error)) from error
-
-    def _process(self, until: float, before: str = "") -> int:
-        """The number of the server's process that answers."""
-        return int(self.run(before + "select pg_catalog.pg_backend_pid()", until)[-1][0][0] or 0)
-
-    def _refuse_pooler(self, own: int, until: float) -> None:
-        """Another process of the server answers than the one that was named when this session was connected, so somebody stands between.
-        Raises `StoreError` if another session has this process too, or if another process answers while that one has a transaction."""
-        beside, limit = Session(self._url), min(until, time.monotonic() + BESIDE)
-        try:
-            try:
-                beside._connect(limit)
-                is_shared = own in (beside._process(limit), beside._process(limit, "begin; "))
-            except Cut:
-                is_shared = False
-            if is_shared or any(self._process(until) != own for _ in range(3)):
-                raise StoreError(POOLED)
-        finally:
-            beside.close()
-
-    def _connect(self, until: float) -> None:
+        """Connects by then, and no more: `beginning.begin` does the rest. Raises `Cut`, and `StoreError` for a server that is too old."""
         pq = self._pq
         self.close()
+        self.number += 1
         self._connection = connection = pq.PGconn.connect_start(self._info)
         tells_codes(pq, connection)
         polled = pq.PollingStatus.WRITING
@@ -182,13 +97,13 @@ class Session:
 
     def _refused(self) -> Cut:
         """What is raised when there is no connection."""
-        told, is_denied = _message(self._connection).rstrip(), self._connection.needs_password
-        codes, places = _CODE.findall(told), list(_PLACE.finditer(told))
-        if codes and places and places[-1].end() == len(told):  # the last server that was tried has said it
-            is_denied = codes[-1].startswith(DENIED)
-        told = _CODE.sub(" ", _PLACE.sub("", told)) or "the connection was closed"
+        refusal = refusal_of(self._connection)
         self.close()
-        return (Denied if is_denied or not codes and _DENIAL.search(told) else Cut)(told)
+        return refusal
+
+    def process(self) -> int:
+        """The number of the server's process that was named when this was connected."""
+        return int(self._connection.backend_pid)
 
     def _wait(self, until: float) -> None:
         """Until something comes or can be sent. Raises `Slow` when who asks waits no longer, and `Cut` when nobody does."""
@@ -200,9 +115,10 @@ class Session:
             if seconds <= 0 and self.soon < ends:
                 raise Slow("the server doesn't answer")
             if seconds <= 0:
-                raise self._cut("it doesn't answer")
+                raise self.cut("it doesn't answer")
 
-    def _cut(self, why: str) -> Cut:
+    def cut(self, why: str) -> Cut:
+        """Ends the session: what is raised then."""
         self.close()
         return Cut(why.strip() or "the connection was closed")
 
@@ -254,7 +170,7 @@ class Session:
         try:
             send()
         except Exception as error:
-            raise self._cut(str(error)) from error
+            raise self.cut(str(error)) from error
 
     def call(self, calls: Sequence[Call], until: float) -> List[List[Row]]:
         """The rows of each call, in one round trip. Raises `Cut`, `Slow`, and `Complaint` when the answers of all are read."""
@@ -278,12 +194,12 @@ class Session:
             self._skip_answers()
         connection = self._calls
         if connection is None or self._connection.pgconn_ptr is None:
-            raise self._cut("the connection was closed")
+            raise self.cut("the connection was closed")
         try:
             self.asked_at, self._owed_until = time.monotonic(), until
             self._owed = _send_to(connection, calls)
         except Exception as error:
-            raise self._cut(str(error)) from error
+            raise self.cut(str(error)) from error
 
     def _skip_answers(self) -> None:
         """Reads what is owed to who asks no more."""
@@ -299,7 +215,7 @@ class Session:
         except (Cut, Complaint, Slow):
             raise
         except Exception as error:
-            raise self._cut(str(error)) from error
+            raise self.cut(str(error)) from error
 
     def _read(self, until: float) -> List[List[Row]]:
         found: List[List[Row]] = []
@@ -349,7 +265,7 @@ class Session:
         code = (result.error_field(field.SQLSTATE) or b"").decode()
         told = (result.error_field(field.MESSAGE_PRIMARY) or result.error_message or b"").decode("utf-8", "replace")
         if not code or code.startswith(CUT):
-            raise self._cut(told)
+            raise self.cut(told)
         return Complaint(code, told, (result.error_field(field.MESSAGE_DETAIL) or b"").decode("utf-8", "replace"))
 
     def look(self) -> None:
@@ -358,17 +274,17 @@ class Session:
         if connection is None:
             return
         if self._connection.pgconn_ptr is None:
-            raise self._cut("the connection was closed")
+            raise self.cut("the connection was closed")
         try:
             connection.consume_input()
             if self._connection.status == self._pq.ConnStatus.BAD:
-                raise self._cut(_message(self._connection))
+                raise self.cut(message_of(self._connection))
             if not self._owed:
                 self._read_unasked(connection)
         except Cut:
             raise
         except Exception as error:
-            raise self._cut(str(error)) from error
+            raise self.cut(str(error)) from error
         self._take_notices()
 
     def _read_unasked(self, connection: Any) -> None:
@@ -378,24 +294,13 @@ class Session:
             if result is None:
                 break
             if result.status == self._pq.ExecStatus.FATAL_ERROR:
-                raise self._cut(result.error_message.decode("utf-8", "replace"))
+                raise self.cut(result.error_message.decode("utf-8", "replace"))
 
     def _take_notices(self) -> None:
         notice = self._calls.notifies()
         while notice is not None:
             self.notices.append(bytes(notice.extra))
             notice = self._calls.notifies()
-
-
-_CODE, _PLACE = re.compile(r"(?<=:)  ([0-9A-Z]{5}):  ?"), re.compile(r"\n\S+ +\w+, \w+\.c:\d+")
-"""In what libpq says of a connection: the code of what a server has said, and where in the server's source that stands."""
-_DENIAL = re.compile('password authentication failed|(database|role) ".*" does not exist|permission denied for database|pg_hba.conf')
-"""The same as `DENIED` where there are no codes, of a server that speaks English."""
-
-
-def _besides(given: Mapping[str, Any]) -> Dict[str, str]:
-    """What a connection is told besides what is given."""
-    return {key: value for key, value in FOR_LIBPQ.items() if key not in given}
 
 
 def _send_to(connection: Any, calls: Sequence[Call]) -> int:
@@ -407,10 +312,6 @@ def _send_to(connection: Any, calls: Sequence[Call]) -> int:
             connection.pipeline_sync()
             syncs += 1
     return syncs
-
-
-def _message(connection: Any) -> str:
-    return bytes(connection.error_message).decode("utf-8", "replace")
 
 
 def _rows(result: Any) -> List[Row]:
