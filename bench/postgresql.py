@@ -3,10 +3,11 @@
 beside PostgreSQL's own advisory locks, and beside as many that insert two rows for each entry.
 
     WANZOCHE_CORE=out/python/_core.abi3.so WANZOCHE_LIBRARY=out/lib/libwanzoche.so PYTHONPATH=python \\
-        python3 bench/postgresql.py URL [ROUNDS [opening | many]]
+        python3 bench/postgresql.py URL [ROUNDS [opening | many | processor]]
 
 All is measured in turn, at a server that has what it came with. With `opening` only that is, which is best done in a database without logs;
-with `many` only what many processes do.
+with `many` only what many processes do; with `processor` only the processor time of a lone process, and of the server's process that it has:
+other work on the machine changes that little. To compare two packages, run it with each of them in turn.
 """
 
 import os
@@ -38,7 +39,8 @@ class Alone:
     """Enter and leave, of one process."""
 
     def __init__(self, url, sync):
-        self.paths = Paths(BOOK, store=url, name=name(), sync=sync)
+        self.name = name()
+        self.paths = Paths(BOOK, store=url, name=self.name, sync=sync)
         self.connection = connected(url)
         self.connection.execute("create table if not exists bare (log int, place bigint, line text, primary key (log, place))")
         self.connection.execute("truncate bare")
@@ -88,6 +90,34 @@ def alone(url, rounds, sync, count):
             ),
             flush=True,
         )
+
+
+def ran(pid):
+    """So many microseconds the only thread of a process has run."""
+    with open("/proc/{}/schedstat".format(pid)) as file:
+        return int(file.read().split()[0]) / 1e3
+
+
+def spent(url, rounds, sync, count):
+    """Processor time of an entry and its leave, and of two statements and two calls beside them: here, and in the server's process."""
+    each = Alone(url, sync)
+    told = "select pid from wanzoche.worker join wanzoche.log using (log) where name = %s"
+    ((own,),) = connected(url).execute(told, (each.name,)).fetchall()
+    pids = {"entries": own, "statements": each.connection.info.backend_pid, "calls": each.connection.info.backend_pid}
+    found = {what: [] for what in pids}
+    for what in pids:
+        getattr(each, what)(100)
+    for _ in range(rounds):
+        for what, pid in pids.items():
+            began = time.process_time() * 1e6, ran(pid)
+            getattr(each, what)(count)
+            found[what].append(((time.process_time() * 1e6 - began[0]) / count, (ran(pid) - began[1]) / count))
+    each.paths.close()
+    for what, took in found.items():
+        here, there = zip(*took)
+        told = "{}, {}: {:.0f} us here and {:.0f} in the server by the median; {:.0f} and {:.0f} the least"
+        given = statistics.median(here), statistics.median(there), min(here), min(there)
+        print(told.format("sync" if sync else "no sync", what, *given), flush=True)
 
 
 def in_processes(count, work, seconds):
@@ -258,15 +288,15 @@ def moved(url, log):
     """Moves its lines: seconds of each segment."""
     took, began = [], time.perf_counter()
     with Paths(BOOK, store=url, name=log) as paths:
-        log = paths._served._log
-        move = log._move
+        segments = paths.served.log.segments
+        move = segments.move
 
-        def moves(lines):
+        def moves(lines, known):
             began = time.perf_counter()
-            move(lines)
+            move(lines, known)
             took.append(time.perf_counter() - began)
 
-        log._move = moves
+        segments.move = moves
         paths.rotate()
     print("all moved in {:.2f} s; a segment in {:.3f} s by the median, {:.3f} at most".format(
         time.perf_counter() - began, statistics.median(took), max(took)))  # fmt: skip
@@ -299,6 +329,10 @@ def opening(url, lines, rounds):
 def main(url, rounds, only):
     if only == "many":
         each_count(url, rounds)
+        return
+    if only == "processor":
+        for sync in (True, False):
+            spent(url, rounds, sync, 100)
         return
     if only != "opening":
         calls(url, rounds)

@@ -15,18 +15,19 @@ import tempfile
 import time
 import unittest
 
-from wanzoche import Paths, _clerk, _served
+import wanzoche._served.paths  # and with it all that tests look at in there
+from wanzoche import Paths, _served
 
 from .limits import LONGEST
 from .stores import OverAStore
 
 NEEDED = os.environ.get("WANZOCHE_POSTGRESQL") == "needed"
 """Whether a server that can't be had is a failure."""
-_served.OPENING = _clerk.SPARE = _clerk.CLOSING = LONGEST
+_served.times.OPENING = _served.times.SPARE = _served.times.CLOSING = LONGEST
 COMMAND = [
     sys.executable,
     "-c",
-    "import sys; from wanzoche import _clerk, _served; _served.OPENING = _clerk.SPARE = _clerk.CLOSING = {}; "
+    "import sys; from wanzoche._served import times; times.OPENING = times.SPARE = times.CLOSING = {}; "
     "from wanzoche._command import main; sys.exit(main())".format(LONGEST),
 ]
 """The command `wanzoche`, which waits as long as it takes, too."""
@@ -208,6 +209,20 @@ class OnServer(OverAStore):
     def made(self, text, **options):
         """Paths that nobody closes."""
         return Paths(text, store=options.pop("store", self.server.url), name=self.name, **{"grace": self.grace, **options})
+
+    def waiting_rows(self, paths):
+        """How many the server knows that wait in these paths."""
+        told = "select count(*) from wanzoche.waiter join wanzoche.log using (log) where name = %s and worker = %s and since is not null"
+        ((count,),) = self.server.run(told, self.name, paths.served.worker)
+        return count
+
+    def waits_now(self, paths):
+        """Whether one waits in these paths: the server knows it, and the answer that says so is read."""
+        return self.waiting_rows(paths) and paths.served.log.session.asked_at is None
+
+    def until_it_waits(self, paths):
+        """Waits until one does."""
+        self.until(lambda: self.waits_now(paths))
 
     def lines(self):
         """The lines of the log, as they stand in the table."""

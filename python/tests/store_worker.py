@@ -93,7 +93,7 @@ def main(file, folder, how=None):
     if how == "check":
         return check(file)
     lookers = [Looker(folder, number, how == "blind") for number in range(THREADS)]
-    paths = None if how == "blind" else Paths(BOOK, store=file, sync=False)
+    paths = None if how == "blind" else Paths(BOOK, store=file, sync="STORE_IS_SYNCED" in os.environ)
     for looker in lookers:
         looker.begin(paths)
     for looker in lookers:

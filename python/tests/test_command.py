@@ -7,12 +7,13 @@ import subprocess
 import sys
 import time
 import unittest
+from unittest import mock
 
-from wanzoche import Paths, _native
+from wanzoche import CorruptStore, Paths, _command, _native
 from wanzoche._beside import Beside
 from wanzoche._executing import TELLS
 
-from .commands import COMMAND, OnCommand, running
+from .commands import COMMAND, IS_ANOTHER, OnCommand, running
 from .declarations import BOOK, SLOT
 from .limits import LONGEST
 
@@ -299,6 +300,37 @@ class Commands(OnCommand, unittest.TestCase):
         told = "^wanzoche: .* in line [0-9]+: `9 start write: started 99`"
         self.assertRegex(self.runs("audit")[1], told)
         self.assertEqual([self.runs(command)[2] for command in ("audit", "status")], [5, 1])
+
+
+@unittest.skipIf(IS_ANOTHER, "it is this package's own")
+class Audits(OnCommand, unittest.TestCase):
+    def test_a_line_that_breaks_behind_the_opening(self):
+        """It is told as one that the opening finds."""
+        given = _command._given(["audit", "--store", self.file])
+        with Paths(BOOK, store=self.file, sync=False) as paths:
+            paths.enter("read").leave()
+            with open(self.file, "rb+") as file:
+                text = file.read().replace(b"finish 0", b"finish 1")
+                file.seek(0)
+                file.write(text)
+            told = [self.said_of(lambda: _command._end_audit(self.caught(lambda: _command._do(paths, given))))]
+        told.append(self.said_of(lambda: _command.main(["audit", "--store", self.file])))
+        path = os.path.realpath(self.file)
+        why = "{} in line 3: `+1 finish 1: finished`, where `stale` is owed".format(path)
+        self.assertEqual(told, [(["wrong line 1 of {}\n".format(path)], [why], 5)] * 2)
+
+    def caught(self, does):
+        with self.assertRaises(CorruptStore) as raised:
+            does()
+        return raised.exception
+
+    @staticmethod
+    def said_of(does):
+        """What it writes to both streams, and what it gives."""
+        told, why = [], []
+        with mock.patch.object(_command, "write", told.append), mock.patch.object(_command, "say", why.append):
+            status = does()
+        return told, why, status
 
 
 if __name__ == "__main__":

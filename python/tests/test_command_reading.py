@@ -95,9 +95,10 @@ class Reading(OnCommand, unittest.TestCase):
         self.paths.close()
         with open(self.file, "ab") as file:
             file.write(b"1 start write: started 7\n")
-        for command, wanted in (("audit", 5), ("status", 1), ("log", 1)):
+        verdict = "wrong line 0 of {}\n".format(os.path.realpath(self.file))
+        for command, wanted in (("audit", (verdict, 5)), ("status", ("", 1)), ("log", ("", 1))):
             told, why, status = self.ran(command)
-            self.assertEqual((told, status), ("", wanted))
+            self.assertEqual((told, status), wanted)
             self.assertRegex(why, "door.log in line 2: `1 start write: started 7`, where `started 0` is owed\n$")
 
     def test_as_it_changes(self):

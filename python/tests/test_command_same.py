@@ -8,7 +8,8 @@ import sys
 import tempfile
 import unittest
 
-from wanzoche import Paths, _command
+from wanzoche import CorruptStore, Paths, _command
+from wanzoche._reading import Reader
 
 from .commands import COMMAND, DELIVERY, IS_ANOTHER, LONGEST, OnCommand
 from .stores import InFolder
@@ -125,6 +126,52 @@ class Stores(OnCommand, unittest.TestCase):
         self.dies(lambda: setattr(self, "kept", Paths(DELIVERY, store=self.file).enter("build")))
         for words in (["status"], ["status", "--json"], ["pass", "built"], ["exec", "--lost", "keep", "--nonblock", "build", "--", "true"]):
             self.is_the_same(*words)
+
+    def breaks(self, archive, old, new):
+        """Changes a file of a journal: the last one, or one that was moved away."""
+        with open(self.file + archive, "rb+") as file:
+            text = file.read().replace(old, new, 1)
+            file.seek(0)
+            file.truncate()
+            file.write(text)
+
+    def test_what_an_audit_finds(self):
+        """One verdict in one place, whoever finds the line: the opening, or who reads the files. And why, in one form."""
+        with Paths(DELIVERY, store=self.file, sync=False) as paths:
+            paths.enter("build").leave()
+            paths.rotate()
+            paths.enter("broken").leave()
+            paths.enter("build").leave()
+        file = os.path.realpath(self.file)
+        for archive, old, new, line, why in (
+            (".1", b"finish 0: finished", b"finish 7: finished", 3, "`1 finish 7: finished`, where `stale` is owed"),
+            (".1", b"started 0", b"started 1", 2, "`1 start build: started 1`, where `started 0` is owed"),
+            (".1", b"start build", b"start steal", 2, "`1 start steal: started 0` isn't a line of a journal"),
+            ("", b"start broken: started 1", b"start broken: started 2", 2, "`1 start broken: started 2`, where `started 1` is owed"),
+            ("", b"finish 1: finished", b"finish 0: finished", 3, "`1 finish 0: finished`, where `stale` is owed"),
+        ):
+            with open(self.file + archive, "rb") as kept:
+                text = kept.read()
+            self.breaks(archive, old, new)
+            self.is_the_same("audit")
+            told, said, status = ended(["audit", "--store", self.file])
+            self.assertEqual((told, status), ("wrong line {} of {}\n".format(line - 2, file + archive), 5))
+            self.assertEqual(said.replace("`+", "`"), "wanzoche: {} in line {}: {}\n".format(file + archive, line, why))
+            with self.assertRaises(CorruptStore) as raised:
+                Reader(self.file).look(lambda text: None)
+            self.assertEqual("wanzoche: {}\n".format(raised.exception), said)
+            with open(self.file + archive, "wb") as kept:
+                kept.write(text)
+            self.is_the_same("audit")
+
+    def test_an_audit_without_a_verdict(self):
+        """Lines are gone, or the head is."""
+        Paths(DELIVERY, store=self.file, sync=False).close()
+        self.breaks("", b"journal", b"jurnal")
+        self.is_the_same("audit")
+        self.assertEqual(ended(["audit", "--store", self.file])[::2], ("", 1))
+        os.remove(self.file)
+        self.is_the_same("audit")
 
     def test_files_that_are_no_store(self):
         for beside, journal in ((b"x" * 5000, b""), (b"", b"x\n"), (None, b"journal 2 room 5\n")):

@@ -20,7 +20,7 @@ from wanzoche import Paths
 from wanzoche._processes import process_at
 from wanzoche._watching import Table
 
-from .commands import LONGEST, OnCommand, running
+from .commands import IS_ANOTHER, LONGEST, OnCommand, running
 from .declarations import BOOK
 
 # Runs the command with a change that comes when it has made its first report, and before it waits.
@@ -316,6 +316,54 @@ class Drawn(unittest.TestCase):
 
     def test_what_is_forgotten(self):
         self.assertEqual(self.drawn([(24, 80)] * 2, [["a"], ["b"]], True), [None, None])
+
+
+@unittest.skipIf(IS_ANOTHER, "the one in C reads what lies beside the journal whenever it looks, so its bytes say nothing of lines")
+class Costs(OnCommand, unittest.TestCase):
+    """What goes on reads what is new, and not all that there is."""
+
+    MANY = 20000
+
+    @staticmethod
+    def read_by(process):
+        """How many bytes it has read so far."""
+        with open("/proc/{}/io".format(process.pid)) as file:
+            return int(file.readline().split()[1])
+
+    def follows(self, paths, words, begun, over):
+        """How many bytes it reads while somebody enters and leaves ten times, and the journal is moved away in between."""
+        with running(self.words(*words), stdout=subprocess.PIPE) as process:
+            self.until(process, over)
+            before = self.read_by(process)
+            for number in range(10):
+                with paths("write"):
+                    self.until(process, begun)
+                if number == 5:
+                    paths.rotate()
+                self.until(process, over)
+            read = self.read_by(process) - before
+            process.kill()
+        return read
+
+    def until(self, process, wanted):
+        line = process.stdout.readline()
+        while not re.search(wanted, line):
+            self.assertTrue(line)
+            line = process.stdout.readline()
+
+    def test_new_lines_alone_are_read(self):
+        with Paths(BOOK, store=self.file, sync=False) as paths:
+            for _ in range(self.MANY):
+                paths.enter("read").leave()
+            size = os.stat(self.file).st_size
+            paths.enter("write").leave()
+            for words, begun, over in (
+                (["watch"], b"start write", b"finish 2[0-9]{4}: "),
+                (["status", "--watch", "600"], b"^live .* write", b"^startable read write"),
+                (["status", "--json", "--watch", "600"], b'"in_progress": ?1[,}]', b'"in_progress": ?0[,}]'),
+            ):
+                with self.subTest(words):
+                    self.assertLess(self.follows(paths, words, begun, over), size / 4)
 
 
 if __name__ == "__main__":

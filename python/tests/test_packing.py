@@ -31,6 +31,18 @@ class Packing(unittest.TestCase):
         wanted |= {"share/zsh/site-functions/_wanzoche", "share/fish/vendor_completions.d/wanzoche.fish"}
         self.assertEqual(shared, wanted)
 
+    def test_all_modules_come(self):
+        """Those in folders of the package, too."""
+        top = os.path.join(HERE, "wanzoche")
+        with open(native._at, "rb") as file, tempfile.TemporaryDirectory() as folder:
+            made = packing().write_wheel(file.read(), None, folder)
+            with zipfile.ZipFile(os.path.join(folder, made)) as wheel:
+                found = {name for name in wheel.namelist() if name.startswith("wanzoche/")}
+        wanted = {os.path.relpath(os.path.join(at, name), HERE) for at, _, names in os.walk(top) for name in names}
+        wanted = {name for name in wanted if name.endswith((".py", ".sql", ".html", ".typed"))}
+        self.assertEqual(wanted - found, set())
+        self.assertIn("wanzoche/_served/__init__.py", found)
+
     def test_elsewhere_than_on_linux(self):
         """One line, in place of what `make` and a compiler say there, or that they are missing."""
         for platform in ("darwin", "win32", "cygwin", "freebsd14"):

@@ -22,10 +22,6 @@ from wanzoche import (
     Paths,
     StoreError,
     Timeout,
-    _clerk,
-    _log,
-    _postgresql,
-    _requests,
     _served,
 )
 
@@ -147,7 +143,7 @@ class Sharing(both_stores.Sharing, OnServer, unittest.TestCase):
 
     def test_who_waits_is_woken(self):
         """By a notification: nobody looks by itself so soon."""
-        with mock.patch.object(_clerk, "CHECK", 1000.0):
+        with mock.patch.object(_served.times, "CHECK", 1000.0):
             a, b = self.open(SLOT), self.open(SLOT)
             got = []
 
@@ -165,13 +161,13 @@ class Sharing(both_stores.Sharing, OnServer, unittest.TestCase):
 
     def test_a_leave_wakes_one_of_each_operation(self):
         """Eight wait to write; each leave wakes one process, and each of the others is woken by who came before it."""
-        with mock.patch.object(_clerk, "CHECK", 1000.0):
+        with mock.patch.object(_served.times, "CHECK", 1000.0):
             all_paths = [self.open(BOOK) for _ in range(9)]
             woken = [0] * 9
             threads = []
             entry = all_paths[0].enter("write")
             for number, paths in enumerate(all_paths[1:], 1):
-                session = paths._served._log.session
+                session = paths.served.log.session
                 take, notices = session._take_notices, session.notices
 
                 def counts(number=number, take=take, notices=notices):
@@ -222,8 +218,8 @@ class Sharing(both_stores.Sharing, OnServer, unittest.TestCase):
             thread.start()
         self.until(lambda: b.waiting() == {"read": 10} and len(self.waiters()) == 10)
         calls = []
-        call = b._served._log.session.call
-        b._served._log.session.call = lambda *given: (calls.append(given[0][0]), call(*given))[1]
+        call = b.served.log.session.call
+        b.served.log.session.call = lambda *given: (calls.append(given[0][0]), call(*given))[1]
         entry.leave()
         for thread in threads:
             thread.join(LONGEST)
@@ -241,18 +237,18 @@ class Sharing(both_stores.Sharing, OnServer, unittest.TestCase):
             waits.start()
             self.until(lambda: len(self.waiters()) == 1)
         waits.join(LONGEST)
-        time.sleep(1.5 * _clerk.CHECK)
-        sleeps, sleep = [], b._served.clerk._sleep
-        b._served.clerk._sleep = lambda: (sleeps.append(1), sleep())
-        b._served.clerk.ring()
+        time.sleep(1.5 * _served.times.CHECK)
+        sleeps, sleep = [], b.served.clerk._sleep
+        b.served.clerk._sleep = lambda: (sleeps.append(1), sleep())
+        b.served.clerk.desk.ring()
         time.sleep(0.3)
         self.assertLess(len(sleeps), 4)
 
     def test_an_attempt_that_meets_nobody_is_one_round_trip(self):
         paths = self.open(BOOK)
         calls = []
-        call = paths._served._log.session.call
-        paths._served._log.session.call = lambda *given: (calls.append(1), call(*given))[1]
+        call = paths.served.log.session.call
+        paths.served.log.session.call = lambda *given: (calls.append(1), call(*given))[1]
         for _ in range(5):
             with paths("write"):
                 pass
@@ -261,8 +257,8 @@ class Sharing(both_stores.Sharing, OnServer, unittest.TestCase):
     def test_a_start_that_came_too_late_waits_for_no_disk(self):
         a, b = self.open(BOOK), self.open(BOOK)
         a.enter("write").leave()
-        self.until(lambda: a._served.clerk._is_asleep)
-        session, waited = a._served._log.session, []
+        self.until(lambda: a.served.clerk.desk.is_asleep)
+        session, waited = a.served.log.session, []
         call = session.call
 
         def calls(given, until):
@@ -323,7 +319,7 @@ class Sharing(both_stores.Sharing, OnServer, unittest.TestCase):
         self.assertEqual(self.server.run("select count(*) from wanzoche.log where name = 'none'"), [(0,)])
 
     def test_many_lines_are_read_in_parts(self):
-        with mock.patch.object(_log, "MOST", 20000):
+        with mock.patch.object(_served.known, "MOST", 20000):
             a = self.open(BOOK)
             a.enter("read").leave()
             told = (
@@ -350,7 +346,7 @@ class AtTheDesk(OnServer, unittest.TestCase):
 
     def around_calls(self, paths, before=None, behind=None):
         """Does that around each call at the server; the threads that made one."""
-        session, threads = paths._served._log.session, []
+        session, threads = paths.served.log.session, []
         call = session.call
 
         def calls(*given):
@@ -381,13 +377,13 @@ class AtTheDesk(OnServer, unittest.TestCase):
             waits.start()
             self.until(lambda: a.waiting() == {"put": 1} and waits in threads)
             self.assertEqual(a.journal().count("started"), 2)
-            self.assertEqual(set(threads), {waits, a._served.clerk.thread})
+            self.assertEqual(set(threads), {waits, a.served.clerk.thread})
         waits.join(LONGEST)
         self.assertTrue(a.audit())
 
     def sleeps(self, paths):
         """Waits until the clerk sleeps."""
-        self.until(lambda: paths._served.clerk._is_asleep)
+        self.until(lambda: paths.served.clerk.desk.is_asleep)
 
     def test_a_handler_that_comes_between(self):
         """It can't wait for the thread that it interrupts. What it drops is finished all the same."""
@@ -421,12 +417,12 @@ class AtTheDesk(OnServer, unittest.TestCase):
         self.sleeps(a)
         entry = a.enter("read") if wanted == "leave" else None
         other = threading.Thread(target=lambda: found.append(a.enter("read", timeout=LONGEST)))
-        session = a._served._log.session
+        session = a.served.log.session
 
         def comes():
             if threading.current_thread() is not other and not found:
                 other.start()
-                self.until(lambda: a._served.clerk._inbox)
+                self.until(lambda: a.served.clerk.wanted.inbox)
                 del session.call, session._read
                 found.append("interrupted")
                 interrupt()
@@ -451,7 +447,7 @@ class AtTheDesk(OnServer, unittest.TestCase):
         """A thread that does this, and waits at its own process for the session."""
         waits = threading.Thread(target=work)
         waits.start()
-        self.until(lambda: paths._served.clerk._waits_here is not None)
+        self.until_it_waits(paths)
         return waits
 
     def test_who_waits_makes_its_calls(self):
@@ -467,7 +463,7 @@ class AtTheDesk(OnServer, unittest.TestCase):
                 self.assertEqual(a.report().live[0].operation, "write")
             entry.leave()
             waits.join(LONGEST)
-            self.assertEqual(set(threads), {waits, a._served.clerk.thread} if wants else {waits})
+            self.assertEqual(set(threads), {waits, a.served.clerk.thread} if wants else {waits})
         self.assertTrue(a.audit())
 
     def test_who_waits_looks_for_the_dead(self):
@@ -485,28 +481,27 @@ class AtTheDesk(OnServer, unittest.TestCase):
 
     def test_who_waits_has_a_time_limit(self):
         """By itself: nothing else wakes it so soon."""
-        with mock.patch.object(_clerk, "CHECK", 1000.0):
+        with mock.patch.object(_served.times, "CHECK", 1000.0):
             a, b = self.open(BOOK), self.open(BOOK)
             with b("write"):
                 for seconds in (0.05, 0.4, 1.3):
                     self.sleeps(a)
                     began = time.monotonic()
                     self.assertRaises(Timeout, a.enter, "read", timeout=seconds)
-                    self.assertTrue(seconds <= time.monotonic() - began < _clerk.CHECK)
-        self.until(lambda: a.waiting() == {} and a._served.clerk._waits_here is None)
+                    self.assertTrue(seconds <= time.monotonic() - began < _served.times.CHECK)
+        self.until(lambda: a.waiting() == {} and not self.waiting_rows(a))
         a.enter("read").leave()
         self.assertTrue(a.audit())
 
     def test_a_session_that_is_cut_while_a_thread_waits(self):
         """The clerk begins another, and does the rest."""
-        for cut in (lambda paths: self.ends_session_of(paths), lambda paths: paths._served.clerk.ring()):
+        for cut in (self.ends_session_of, lambda paths: paths.served.clerk.desk.ring()):
             self.name += "'"
             a, b = self.open(BOOK), self.open(BOOK)
             self.sleeps(a)
             entry, got = b.enter("write"), []
             waits = self.waits_itself(a, lambda: got.append(a.enter("read", timeout=LONGEST)))
             cut(a)
-            self.until(lambda: a._served.clerk._waits_here is None)
             entry.leave()
             waits.join(LONGEST)
             self.assertEqual((len(got), a.worker), (1, "process 1"))
@@ -514,11 +509,14 @@ class AtTheDesk(OnServer, unittest.TestCase):
             self.assertTrue(a.audit())
 
     def ends_session_of(self, paths):
-        told = "select pg_terminate_backend(pid) from wanzoche.worker join wanzoche.log using (log) where worker = %s and name = %s"
-        self.server.run(told, paths._served.worker, self.name)
+        """And waits until it has another."""
+        told = "select {} from wanzoche.worker join wanzoche.log using (log) where worker = %s and name = %s"
+        before = self.server.run(told.format("pid"), paths.served.worker, self.name)
+        self.server.run(told.format("pg_terminate_backend(pid)"), paths.served.worker, self.name)
+        self.until(lambda: self.server.run(told.format("pid"), paths.served.worker, self.name) != before)
 
     def test_a_close_while_a_thread_waits(self):
-        with mock.patch.object(_clerk, "CHECK", 1000.0):
+        with mock.patch.object(_served.times, "CHECK", 1000.0):
             a, b, told = self.open(BOOK), self.open(BOOK), []
 
             def enters():
@@ -536,19 +534,25 @@ class AtTheDesk(OnServer, unittest.TestCase):
 
     def test_an_interrupt_while_a_thread_waits(self):
         """It costs no session and no reading of the log."""
+        patched = mock.patch.object(_served.times, "CHECK", 1000.0)  # so that it does nothing else meanwhile
+        patched.start()
+        self.addCleanup(patched.stop)
         a, b, alarms = self.open(BOOK), self.open(BOOK), Alarms(self)
-        session = a._served._log.session
+        session = a.served.log.session
 
         def waits():
             time.sleep(random.uniform(0, 0.02))
-            return a._served.clerk._waits_here is not None
+            if not self.waits_now(a):
+                return False
+            with a.served.clerk.desk.lock:  # it has left the desk then
+                return True
 
         for _ in range(20):
             self.sleeps(a)
             with b("write"):
                 number = session.fileno()
                 self.assertTrue(alarms.cut_off_waiting(lambda: a.enter("read", timeout=LONGEST), waits))
-                self.until(lambda: a.waiting() == {} and a._served.clerk._waits_here is None)
+                self.until(lambda: a.waiting() == {} and not self.waiting_rows(a))
             a.enter("read", timeout=LONGEST).leave()
             self.assertEqual((session.fileno(), a.report().live), (number, ()))
         self.assertTrue(a.audit())
@@ -558,8 +562,8 @@ class AtTheDesk(OnServer, unittest.TestCase):
         a, b = self.open(BOOK), self.open(BOOK)
         a.enter("read").leave()
         self.sleeps(a)
-        a._served.clerk._beaten = _clerk.BEATEN
-        entries, names, session = [b.enter("write")], [], a._served._log.session
+        a.served.clerk.trips.beaten = _served.trips.BEATEN
+        entries, names, session = [b.enter("write")], [], a.served.log.session
         call = session.call
 
         def calls(*given):
@@ -582,7 +586,7 @@ class AtTheDesk(OnServer, unittest.TestCase):
         a, b = self.open(BOOK), self.open(BOOK)
         for _ in range(5):
             self.sleeps(a)
-            a._served._log.session._connection.finish()
+            a.served.log.session._connection.finish()
             with a("write") as entry:
                 self.assertEqual(entry.worker, "process 1")
                 self.assertIsNone(b.try_enter("read"))
@@ -594,9 +598,9 @@ class Libpq(OnServer, unittest.TestCase):
     """The calls of libpq by their addresses, and psycopg's own."""
 
     def each(self, test):
-        for calls in (_postgresql.direct, lambda pq, connection: connection):
+        for calls in (_served.session.direct, lambda pq, connection: connection):
             self.name += "'"
-            with self.subTest(calls.__name__), mock.patch.object(_postgresql, "direct", calls):
+            with self.subTest(calls.__name__), mock.patch.object(_served.session, "direct", calls):
                 test()
 
     def test_both_do_the_same(self):
@@ -618,32 +622,30 @@ class Libpq(OnServer, unittest.TestCase):
         self.each(self.says)
 
     def says(self):
-        session, until = _postgresql.Session(self.server.url), time.monotonic() + LONGEST
+        session, until = _served.session.Session(self.server.url), time.monotonic() + LONGEST
         self.addCleanup(session.close)
-        session.connect(until)
-        session.prepare(_log.STATEMENTS, until)
-        with self.assertRaisesRegex(_postgresql.Complaint, '^invalid input syntax for type integer: "x"') as told:
-            session.call([_postgresql.Call(b"process", (b"x", b"1"))], until)
+        _served.beginning.begin(session, until)
+        session.prepare(_served.statements.STATEMENTS, until)
+        with self.assertRaisesRegex(_served.session.Complaint, '^invalid input syntax for type integer: "x"') as told:
+            session.call([_served.session.Call(b"process", (b"x", b"1"))], until)
         self.assertEqual(told.exception.code, "22P02")
-        lines = [_postgresql.Call(b"lines", (b"0", b"%d" % place, b"3" if place else None)) for place in (0, 7)]
+        lines = [_served.session.Call(b"lines", (b"0", b"%d" % place, b"3" if place else None)) for place in (0, 7)]
         self.assertEqual(session.call(lines[:1] * 2, until), [[[None, b"-1", None]]] * 2)
-        with self.assertRaisesRegex(_postgresql.Complaint, "^line 6 isn't the one") as told:
+        with self.assertRaisesRegex(_served.session.Complaint, "^line 6 isn't the one") as told:
             session.call(lines, until)
         self.assertEqual((told.exception.code, told.exception.detail), ("WZ001", ""))
-        self.assertEqual(session.call([_postgresql.Call(b"begin"), _postgresql.Call(b"rollback")], until), [[], []])
+        self.assertEqual(session.call([_served.session.Call(b"begin"), _served.session.Call(b"rollback")], until), [[], []])
         session._connection.finish()
-        self.assertRaises(_postgresql.Cut, session.call, lines, until)
+        self.assertRaises(_served.connecting.Cut, session.call, lines, until)
 
     def test_no_memory_is_lost(self):
         """psycopg 3.1 in Python doesn't give a notification's memory back."""
-        from wanzoche import _libpq
-
-        patched = mock.patch.object(_clerk, "CHECK", 1000.0)  # so that each is woken by a notification
+        patched = mock.patch.object(_served.times, "CHECK", 1000.0)  # so that each is woken by a notification
         patched.start()
         self.addCleanup(patched.stop)
         a, b = self.open(SLOT), self.open(SLOT)
-        calls = b._served._log.session._calls
-        if not isinstance(calls, _libpq.Direct):
+        calls = b.served.log.session._calls
+        if not isinstance(calls, _served.libpq.Direct):
             self.skipTest("psycopg is in C here")
         library, taken, given_back = calls._library, [], []
         calls._library = copy.copy(library)
@@ -653,7 +655,7 @@ class Libpq(OnServer, unittest.TestCase):
             entry = a.enter("deposit", timeout=LONGEST)
             thread = threading.Thread(target=lambda: b.enter("remove", timeout=LONGEST).leave())
             thread.start()
-            self.until(lambda: b.waiting() == {"remove": 1} and b._served.clerk._waits_here is not None)
+            self.until_it_waits(b)
             entry.leave()
             thread.join(LONGEST)
         self.assertGreaterEqual(len(given_back), 5)
@@ -686,7 +688,7 @@ class Deaths(both_stores.Deaths, OnServer, unittest.TestCase):
 
     def test_paths_that_are_collected_are_closed(self):
         paths, other = self.made(BOOK), self.open(BOOK)
-        thread = paths._served.clerk.thread
+        thread = paths.served.clerk.thread
         del paths
         gc.collect()
         thread.join(LONGEST)
@@ -707,7 +709,7 @@ class Deaths(both_stores.Deaths, OnServer, unittest.TestCase):
         os.kill(child, signal.SIGKILL)
         os.waitpid(child, 0)
         alive = "select cardinality(wanzoche.alive(log)) from wanzoche.log where name = %s"
-        with mock.patch.object(_clerk, "CHECK", 1000.0):
+        with mock.patch.object(_served.times, "CHECK", 1000.0):
             thread = threading.Thread(target=lambda: b.enter("write", timeout=LONGEST).leave())
             thread.start()
             self.until(lambda: self.server.run(told, self.name) == [(2,)])
@@ -804,18 +806,18 @@ class Outages(OnServer, unittest.TestCase):
     def test_no_request_is_lost_when_a_session_is_cut(self):
         """One that doesn't wait, while it is looked whether a dead worker is in its way; and questions behind one that is cut off."""
         a, b = self.open(BOOK), self.open(BOOK)
-        clerk, cuts = b._served.clerk, [1, 1]
-        bury = clerk._bury_dead
+        clerk, cuts = b.served.clerk, [1, 1]
+        bury = clerk.burying.bury_dead
 
         def is_cut():
             if cuts:
                 cuts.pop()
-                clerk.log.session.close()
-                raise _postgresql.Cut("as if")
+                b.served.log.session.close()
+                raise _served.connecting.Cut("as if")
             return bury()
 
         with a("write"):
-            with mock.patch.object(clerk, "_bury_dead", is_cut):
+            with mock.patch.object(clerk.burying, "bury_dead", is_cut):
                 told = []
                 threads = [threading.Thread(target=lambda: told.append(b.try_enter("read"))) for _ in range(3)]
                 threads += [threading.Thread(target=lambda: told.append(b.why("read"))) for _ in range(3)]
@@ -835,7 +837,7 @@ class Outages(OnServer, unittest.TestCase):
             with self.assertRaisesRegex(StoreError, "the server doesn't answer: "):
                 call()
         self.proxy.is_open = True
-        self.until(lambda: a._served.clerk.away is None)
+        self.until(lambda: a.served.clerk.trouble.away is None)
         self.assertEqual(entry.look(), 0)
         entry.leave()
         self.assertEqual(a.report().live, ())
@@ -847,7 +849,7 @@ class Outages(OnServer, unittest.TestCase):
         entry = a.enter("write")
         self.proxy.is_open = False
         self.proxy.cut()
-        with mock.patch.object(_clerk, "CLOSING", 1.0):
+        with mock.patch.object(_served.times, "CLOSING", 1.0):
             with self.assertRaisesRegex(StoreError, "the server doesn't answer: "):
                 a.close()
             b.close()  # it has nothing to say
@@ -858,15 +860,15 @@ class Outages(OnServer, unittest.TestCase):
         """As when the network was cut and the server doesn't know yet."""
         a = self.open(BOOK)
         entry = a.enter("write")
-        session = a._served._log.session
+        session = a.served.log.session
         kept = session._connection  # which stays open
 
         def forgets(session):
             session._connection, session._is_in_pipeline = None, False
 
         with mock.patch.object(type(session), "close", forgets):
-            a._served.clerk.submit(_requests.Question(lambda: None, self.once(self.cuts)))
-            self.until(lambda: session._connection is not kept and session.fileno() >= 0 and a._served.clerk.away is None)
+            a.served.clerk.submit(_served.requests.Question(lambda: None, self.once(self.cuts)))
+            self.until(lambda: session._connection is not kept and session.fileno() >= 0 and a.served.clerk.trouble.away is None)
         self.assertEqual(entry.look(), 0)
         entry.leave()
         self.assertEqual(a.worker, "process 1")
@@ -874,7 +876,7 @@ class Outages(OnServer, unittest.TestCase):
 
     @staticmethod
     def cuts():
-        raise _postgresql.Cut("as if")
+        raise _served.connecting.Cut("as if")
 
     @staticmethod
     def once(does):
@@ -884,17 +886,17 @@ class Outages(OnServer, unittest.TestCase):
 
     def test_a_turn_that_is_held_too_long_is_taken_away(self):
         a, b = self.open(BOOK), self.open(BOOK)
-        log, begun, over = a._served._log, threading.Event(), threading.Event()
+        log, begun, over = a.served.log, threading.Event(), threading.Event()
         self.addCleanup(over.set)
 
         def stalls():
-            log.turn()
+            log.appends.turn()
             begun.set()
             over.wait()  # longer than the server lets it
-            log.end_turn()
+            log.appends.end_turn()
 
-        question = _requests.Question(lambda: None, self.once(stalls))
-        a._served.clerk.submit(question)
+        question = _served.requests.Question(lambda: None, self.once(stalls))
+        a.served.clerk.submit(question)
         self.assertTrue(begun.wait(LONGEST))
         b.enter("write", timeout=LONGEST).leave()
         self.assertEqual(self.server.run("select wanzoche.alive(log) from wanzoche.log where name = %s", self.name), [([2],)])
@@ -958,10 +960,10 @@ class Crashes(OnServer, unittest.TestCase):
         self.server.run("update wanzoche.line set stamp = stamp + 1")
         entries = []
         threads = [threading.Thread(target=lambda: entries.append(a.enter("read", timeout=LONGEST))) for _ in range(3)]
-        with a._served.clerk._desk:  # so that all go in one turn
+        with a.served.clerk.desk.lock:  # so that all go in one turn
             for thread in threads:
                 thread.start()
-            self.until(lambda: len(a._served.clerk._inbox) == 3)
+            self.until(lambda: len(a.served.clerk.wanted.inbox) == 3)
         for thread in threads:
             thread.join(LONGEST)
         self.assertEqual(len(entries), 3)
@@ -1058,11 +1060,11 @@ class Refusals(OnServer, unittest.TestCase):
     def test_another_schema(self):
         self.open(BOOK).close()
         self.server.run("update wanzoche.schema set number = 7")
-        self.addCleanup(self.server.run, "update wanzoche.schema set number = {}".format(_log.SCHEMA))
-        self.refused(StoreError, "^the schema wanzoche is number 7, and this package has {}$".format(_log.SCHEMA))
+        self.addCleanup(self.server.run, "update wanzoche.schema set number = {}".format(_served.schema.SCHEMA))
+        self.refused(StoreError, "^the schema wanzoche is number 7, and this package has {}$".format(_served.schema.SCHEMA))
 
     def test_a_server_that_is_not_there(self):
-        with mock.patch.object(_served, "OPENING", 0.3):
+        with mock.patch.object(_served.times, "OPENING", 0.3):
             with self.assertRaisesRegex(StoreError, "the server doesn't answer: .*refused"):
                 Paths(BOOK, store=self.server.tcp_url(port=1), name="x")
 
@@ -1110,7 +1112,7 @@ class Interrupts(OnServer, unittest.TestCase):
         """Whether a call has come to the instruction of this number, where it was cut off. The clerk may take some of its work away now and
         then, so it is tried several times."""
         for _ in range(5):
-            self.until(lambda: paths._served.clerk._is_asleep)
+            self.until(lambda: paths.served.clerk.desk.is_asleep)
             if at_instruction(number, interrupt, lambda: call(paths)):
                 return True
         return False

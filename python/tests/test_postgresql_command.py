@@ -265,7 +265,7 @@ class Commands(OnServer, unittest.TestCase):
         told = "update wanzoche.segment set text = replace(text, 'started 2', 'started 3') where log = (select log from wanzoche.log where name = %s)"
         self.server.run(told, self.name)
         told, why, status = self.runs("audit")
-        self.assertEqual((told, status), ("", 5))
+        self.assertEqual((told, status), ("wrong line 4\n", 5))
         self.assertRegex(why, "at place 4: .1 start write: started 3., where .started 2. is owed")
 
     def test_faults(self):

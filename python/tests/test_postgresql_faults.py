@@ -14,7 +14,7 @@ import time
 import unittest
 from unittest import mock
 
-from wanzoche import StoreError, _clerk, _log, _postgresql
+from wanzoche import StoreError, _served
 
 from .declarations import BOOK
 from .limits import LONGEST
@@ -66,7 +66,7 @@ class Notifications(Faulty, unittest.TestCase):
 
     def notify(self, paths, payload):
         told = "select pg_notify('wanzoche_' || log || '_' || %s, %s) from wanzoche.log where name = %s"
-        self.server.run(told, paths._served.worker, payload, self.name)
+        self.server.run(told, paths.served.worker, payload, self.name)
 
     def listens(self, paths, beside):
         """Has waited once, so its session listens."""
@@ -116,8 +116,8 @@ class Failing:
         code = self._codes.pop(0)
         if code == CUT:
             self._session.close()
-            raise _postgresql.Cut("as if")
-        raise _postgresql.Complaint(code, "as if", "")
+            raise _served.connecting.Cut("as if")
+        raise _served.session.Complaint(code, "as if", "")
 
     def is_over(self):
         return not self._codes
@@ -162,16 +162,16 @@ class Refusals(Faulty, unittest.TestCase):
             waits = self.thread(lambda: self.enters("read"))
             self.until(lambda: self.a.waiting() or not waits[0].is_alive())
         self.ends(waits)
-        clerk = self.a._served.clerk
-        with clerk._desk:  # so that all go in one turn
+        clerk = self.a.served.clerk
+        with clerk.desk.lock:  # so that all go in one turn
             waits = [self.thread(lambda: self.enters("read")) for _ in range(3)]
-            self.until(lambda: len(clerk._inbox) == 3)
+            self.until(lambda: len(clerk.wanted.inbox) == 3)
         self.ends(*waits)
         told = self.tries(self.a.report)
         self.assertEqual(told and told.live, told and ())
 
     def each(self, behind, *codes):
-        session, number, is_over = self.a._served._log.session, 0, True
+        session, number, is_over = self.a.served.log.session, 0, True
         while is_over:
             number += 1
             failing = Failing(session, number, behind, codes)
@@ -195,7 +195,7 @@ class Refusals(Faulty, unittest.TestCase):
         """What was done is found, and isn't done again."""
         self.name += " of sums"
         paths, sums = self.open("resource sum tally operation count path count end end"), []
-        session = paths._served._log.session
+        session = paths.served.log.session
         for number in range(1, 6):
             for behind in (1, None):
                 for code in (CANCELLED, CUT):
@@ -207,7 +207,7 @@ class Refusals(Faulty, unittest.TestCase):
 
     def test_what_was_done_is_not_refused(self):
         """Though a call behind it was."""
-        session = self.a._served._log.session
+        session = self.a.served.log.session
         for _ in range(2):
             with mock.patch.object(session, "call", Failing(session, 1, None, [NO_RIGHT])):
                 entry = self.a.enter("write", timeout=LONGEST)
@@ -216,7 +216,7 @@ class Refusals(Faulty, unittest.TestCase):
 
     def test_what_was_finished_is_not_finished_again(self):
         """By who drops an entry, is refused, is cancelled though it was done, and finds that line in a segment."""
-        entry, session, finishes = self.a.enter("read"), self.a._served._log.session, []
+        entry, session, finishes = self.a.enter("read"), self.a.served.log.session, []
         call = session.call
 
         def failing(calls, until):
@@ -224,18 +224,18 @@ class Refusals(Faulty, unittest.TestCase):
                 return call(calls, until)
             finishes.append(calls[0].name)
             if len(finishes) == 1:
-                raise _postgresql.Complaint(NO_RIGHT, "as if", "")
+                raise _served.session.Complaint(NO_RIGHT, "as if", "")
             found = call(calls, until)
             if len(finishes) == 2:
                 self.b.enter("read").leave()
                 self.b.rotate()
-                raise _postgresql.Complaint(CANCELLED, "as if", "")
+                raise _served.session.Complaint(CANCELLED, "as if", "")
             return found
 
         with mock.patch.object(session, "call", failing):
             del entry
             gc.collect()
-            self.until(lambda: len(finishes) > 1 and self.a._served.clerk._is_asleep)
+            self.until(lambda: len(finishes) > 1 and self.a.served.clerk.desk.is_asleep)
         self.all_enter(self.a, self.b)
         self.assertEqual(self.b.journal().count("finish 0: finished"), 1)
         self.assertTrue(self.b.audit())
@@ -247,8 +247,8 @@ class Refusals(Faulty, unittest.TestCase):
 
     def test_who_was_refused_waits_no_more(self):
         """The server has heard that it waits, and it was told that this was refused: another is woken in its place."""
-        c, session = self.open(BOOK), self.a._served._log.session
-        with mock.patch.object(_clerk, "CHECK", 1000.0):  # nobody looks by itself so soon
+        c, session = self.open(BOOK), self.a.served.log.session
+        with mock.patch.object(_served.times, "CHECK", 1000.0):  # nobody looks by itself so soon
             entry = self.b.enter("write")
             self.a.report()
             with mock.patch.object(session, "call", Failing(session, 1, None, [NO_RIGHT])):
@@ -260,8 +260,8 @@ class Refusals(Faulty, unittest.TestCase):
 
     def test_who_is_cut_off_hands_its_wake_on(self):
         """One that was woken first wakes the next, though a call of it is cancelled."""
-        c, session = self.open(BOOK), self.a._served._log.session
-        with mock.patch.object(_clerk, "CHECK", 1000.0):
+        c, session = self.open(BOOK), self.a.served.log.session
+        with mock.patch.object(_served.times, "CHECK", 1000.0):
             for number in range(1, 6):
                 for behind in (0, None):
                     entry = self.b.enter("write", timeout=LONGEST)
@@ -283,7 +283,7 @@ class Refusals(Faulty, unittest.TestCase):
 
     def statements_behind(self, code, step):
         """What a step gives, and the statements that are called behind the first, which goes wrong though it was done."""
-        session, names = self.a._served._log.session, []
+        session, names = self.a.served.log.session, []
         failing = Failing(session, 1, 1, [code])
 
         def noted(calls, until):
@@ -365,7 +365,7 @@ class Rights(Faulty, unittest.TestCase):
 
     def test_it_is_asked_later_and_later(self):
         """What nobody leaves is finished when that can be, and until then few calls are made."""
-        entry, session, calls = self.a.enter("write"), self.a._served._log.session, []
+        entry, session, calls = self.a.enter("write"), self.a.served.log.session, []
         call = session.call
         self.server.run("revoke insert on wanzoche.line from app")
         try:
@@ -384,7 +384,7 @@ class Rights(Faulty, unittest.TestCase):
         kept = self.a.enter("write")
         self.server.run("revoke insert on wanzoche.line from app")
         try:
-            with mock.patch.object(_clerk, "CLOSING", 1.0):
+            with mock.patch.object(_served.times, "CLOSING", 1.0):
                 with self.assertRaisesRegex(StoreError, "permission denied for table line"):
                     self.a.close()
             self.assertTrue(kept)
@@ -399,7 +399,7 @@ class Odd(Faulty, unittest.TestCase):
         """Who asks is told, and nobody enters beside the process that has it."""
         a, b = self.open(BOOK), self.open(BOOK)
         entry, odd = a.enter("write"), mock.Mock(side_effect=ValueError("odd"))
-        with mock.patch.multiple(a._served._log, follow=odd, look=odd):
+        with mock.patch.object(a.served.log.known, "follow", odd), mock.patch.object(a.served.log.waits, "look", odd):
             for call in (a.report, lambda: a.try_enter("read"), lambda: a.why("read")):
                 with self.assertRaisesRegex(ValueError, "^odd$"):
                     call()
@@ -479,7 +479,7 @@ class Traps(Faulty, unittest.TestCase):
     def test_nobody_runs_them(self):
         """Who makes the schema, appends, waits, wakes, looks for the dead, moves lines, and comes back."""
         a, b = self.open(BOOK, store=self.url), self.open(BOOK, store=self.url)
-        entry, number = a.enter("write"), a._served.worker
+        entry, number = a.enter("write"), a.served.worker
         waits = [self.thread(lambda: b.enter("read", timeout=LONGEST).leave()) for _ in range(2)]
         self.until(lambda: b.waiting() == {"read": 2})
         entry.put(3)
@@ -491,7 +491,7 @@ class Traps(Faulty, unittest.TestCase):
         a.rotate()
         self.server.run("select pg_terminate_backend(pid) from pg_stat_activity where application_name = 'wanzoche'")
         self.all_enter(b, a)
-        self.assertEqual(a._served.worker, number)
+        self.assertEqual(a.served.worker, number)
         self.assertTrue(a.audit())
         a.close()
         b.close()
@@ -507,7 +507,7 @@ class Traps(Faulty, unittest.TestCase):
         self.assertEqual(self.server.run(told), [])
 
     def test_the_schema_is_made_in_one_transaction(self):
-        with open(os.path.join(os.path.dirname(os.path.abspath(_log.__file__)), "schema.sql")) as file:
+        with open(_served.schema.SCRIPT) as file:
             script = file.read()
         first = script[script.index("do $$ begin") : script.index("end $$;") + len("end $$;")]
         with self.assertRaisesRegex(Exception, "run this in one transaction"):
@@ -571,8 +571,8 @@ class Removals(Faulty, unittest.TestCase):
         self.assertFalse(self.removes())
 
     def test_one_that_dies_has_it(self):
-        begun = time.monotonic()
-        self.dies(lambda: self.made(BOOK))
+        begun, held = time.monotonic(), []
+        self.dies(lambda: held.append(self.made(BOOK)))  # which nobody drops, as that is a close
         self.until(self.removes)
         self.assertGreater(time.monotonic() - begun, self.grace - 0.1)
 
@@ -645,7 +645,7 @@ class Pooler:
 class Poolers(Faulty, unittest.TestCase):
     def setUp(self):
         super().setUp()
-        patched = mock.patch.object(_postgresql, "BESIDE", LONGEST)
+        patched = mock.patch.object(_served.beginning, "BESIDE", LONGEST)
         patched.start()
         self.addCleanup(patched.stop)
 
@@ -676,7 +676,7 @@ class Poolers(Faulty, unittest.TestCase):
 
     def test_one_that_has_no_other(self):
         """Only one session, which is kept."""
-        with mock.patch.object(_postgresql, "BESIDE", 0.3):
+        with mock.patch.object(_served.beginning, "BESIDE", 0.3):
             pooler = Pooler(self, self.server, pool_mode="session", default_pool_size=1)
             a = self.open(BOOK, store=pooler.url)
             self.all_enter(a)
@@ -758,15 +758,15 @@ class Cancellations(unittest.TestCase):
 
     def test_a_statement_that_takes_too_long(self):
         """While somebody has locked a table."""
-        heartbeat = _postgresql.HEARTBEAT.replace("statement_timeout = 60000", "statement_timeout = 1000")
-        self.assertNotEqual(heartbeat, _postgresql.HEARTBEAT)
+        heartbeat = _served.beginning.HEARTBEAT.replace("statement_timeout = 60000", "statement_timeout = 1000")
+        self.assertNotEqual(heartbeat, _served.beginning.HEARTBEAT)
 
         def locks(chance):
             for table in ("line", "waiter"):
                 the_server().run("begin; lock table wanzoche.{}; select pg_sleep(1.4); commit".format(table))
                 time.sleep(chance.random() * 0.3)
 
-        with mock.patch.object(_log, "HEARTBEAT", heartbeat):
+        with mock.patch.object(_served.beginning, "HEARTBEAT", heartbeat):
             self.is_right(locks)
 
     def test_statements_that_somebody_cancels(self):

@@ -8,7 +8,7 @@ import time
 import unittest
 from unittest import mock
 
-from wanzoche import Paths, StoreError, Timeout, _clerk, _log, _postgresql, _served
+from wanzoche import Paths, StoreError, Timeout, _served
 
 from .declarations import BOOK
 from .limits import LONGEST
@@ -28,20 +28,20 @@ class Held(OnServer):
 
     def setUp(self):
         super().setUp()
-        for kind, name, value in ((_clerk, "SPARE", 0.1), (_log, "ANSWER", NEVER), (_clerk, "CONNECTING", NEVER)):
+        for kind, name, value in ((_served.times, "SPARE", 0.1), (_served.times, "ANSWER", NEVER), (_served.times, "CONNECTING", NEVER)):
             patched = mock.patch.object(kind, name, value)
             patched.start()
             self.addCleanup(patched.stop)
         self.proxy = Cutting(self.server.port)
         self.addCleanup(self.proxy.close)
-        libpq = {**_postgresql.FOR_LIBPQ, "tcp_user_timeout": str(1000 * LONGEST), "keepalives": "0"}
-        with mock.patch.object(_postgresql, "FOR_LIBPQ", libpq):
+        libpq = {**_served.connecting.FOR_LIBPQ, "tcp_user_timeout": str(1000 * LONGEST), "keepalives": "0"}
+        with mock.patch.object(_served.connecting, "FOR_LIBPQ", libpq):
             self.a = self.open(BOOK, store=self.server.tcp_url(port=self.proxy.port), outage=self.outage)
         self.b = self.open(BOOK)
         self.addCleanup(self.proxy.release)
 
     def hold(self):
-        self.until(lambda: self.a._served.clerk._is_asleep)
+        self.until(lambda: self.a.served.clerk.desk.is_asleep)
         self.proxy.hold()
 
     def comes_back(self, call):
@@ -68,12 +68,12 @@ class Held(OnServer):
 
     def goes_on(self):
         """Nothing is left of what was given up, and the session goes on."""
-        session = self.a._served._log.session.fileno()
+        session = self.a.served.log.session.fileno()
         self.proxy.release()
         for paths in (self.a, self.b):
             paths.enter("write", timeout=LONGEST).leave()
         self.assertEqual((self.b.report().live, self.a.worker), ((), "process 1"))
-        self.assertEqual(self.a._served._log.session.fileno(), session)
+        self.assertEqual(self.a.served.log.session.fileno(), session)
         self.assertTrue(self.b.audit())
 
     async def enters(self):
@@ -100,9 +100,9 @@ class OwnLimits(Held, unittest.TestCase):
         with self.b("write"):
             waits = threading.Thread(target=lambda: self.a.enter("read", timeout=LONGEST).leave())
             waits.start()
-            self.until(lambda: self.a.waiting() == {"read": 1} and self.a._served.clerk._waits_here is not None)
+            self.until_it_waits(self.a)
             self.proxy.hold()
-            self.until(lambda: self.a._served._log.session.asked_at is not None)
+            self.until(lambda: self.a.served.log.session.asked_at is not None)
             self.is_silent_now(lambda: self.a.enter("read", timeout=LIMIT))
             self.is_silent_now(lambda: asyncio.run(self.enters()))
         self.proxy.release()
@@ -116,8 +116,8 @@ class OwnLimits(Held, unittest.TestCase):
     def test_a_start_that_waited_for_its_turn(self):
         """It is told what was in its way."""
         with self.b("write"):
-            self.until(lambda: self.a._served.clerk._is_asleep)
-            clerk, told = self.a._served.clerk, []
+            self.until(lambda: self.a.served.clerk.desk.is_asleep)
+            told = []
 
             def enters():
                 try:
@@ -125,10 +125,13 @@ class OwnLimits(Held, unittest.TestCase):
                 except Exception as error:
                     told.append(error)
 
-            with mock.patch.object(_clerk, "CHECK", 1000.0):
-                waits = threading.Thread(target=enters)
-                waits.start()
-                self.until(lambda: clerk._waits_here is not None or told)
+            with mock.patch.object(_served.times, "CHECK", 1000.0):
+                waits = None
+                while waits is None or told:  # again, where its time was over before it waited
+                    told.clear()
+                    waits = threading.Thread(target=enters)
+                    waits.start()
+                    self.until(lambda: told or self.waits_now(self.a))
                 self.proxy.hold()
                 waits.join(LONGEST)
             self.assertTrue(self.proxy.is_held)
@@ -138,7 +141,7 @@ class OwnLimits(Held, unittest.TestCase):
 
     def test_a_close(self):
         entry = self.a.enter("write")
-        with mock.patch.object(_clerk, "CLOSING", LIMIT):
+        with mock.patch.object(_served.times, "CLOSING", LIMIT):
             self.is_silent(self.a.close)
         self.assertTrue(entry)
         self.proxy.release()
@@ -155,8 +158,8 @@ class OwnLimits(Held, unittest.TestCase):
         self.hold()
         waits = threading.Thread(target=enters)
         waits.start()
-        self.until(lambda: self.a._served._log.session.asked_at is not None)
-        with mock.patch.object(_clerk, "CLOSING", LIMIT), mock.patch.object(self, "hold"):
+        self.until(lambda: self.a.served.log.session.asked_at is not None)
+        with mock.patch.object(_served.times, "CLOSING", LIMIT), mock.patch.object(self, "hold"):
             self.is_silent(self.a.close)
         waits.join(LONGEST)
         self.assertEqual((len(told), bool(entry)), (1, True))
@@ -166,7 +169,7 @@ class OwnLimits(Held, unittest.TestCase):
         """At each step: the link is held when so many bytes have come from the server."""
         whole = self.opened_behind(1 << 30)
         for eighth in range(8):
-            with self.subTest(eighth), mock.patch.object(_served, "OPENING", LIMIT):
+            with self.subTest(eighth), mock.patch.object(_served.times, "OPENING", LIMIT):
                 with self.assertRaisesRegex(StoreError, SILENT):
                     self.opened_behind(eighth * whole // 8)
 
@@ -184,7 +187,7 @@ class OwnLimits(Held, unittest.TestCase):
         """Its process takes what is sent, and says nothing."""
         told = "select pid from wanzoche.worker join wanzoche.log using (log) where name = %s and worker = 1"
         ((pid,),) = self.server.run(told, self.name)
-        self.until(lambda: self.a._served.clerk._is_asleep)
+        self.until(lambda: self.a.served.clerk.desk.is_asleep)
         os.kill(pid, signal.SIGSTOP)
         try:
             for call in (lambda: self.a.enter("write", timeout=LIMIT), lambda: asyncio.run(self.enters())):
@@ -207,7 +210,7 @@ class Outages(Held, unittest.TestCase):
         for call in (*starts, self.a.report, self.a.journal, lambda: self.a.why("read"), entry.look, entry.leave):
             self.is_silent(call)
             self.proxy.release()
-            self.until(lambda: self.a._served.clerk.away is None and self.a._served._log.session.asked_at is None)
+            self.until(lambda: self.a.served.clerk.trouble.away is None and self.a.served.log.session.asked_at is None)
         entry.leave()
         self.goes_on()
 
@@ -228,7 +231,7 @@ class Outages(Held, unittest.TestCase):
         with self.b("write"):
             waits = threading.Thread(target=enters)
             waits.start()
-            self.until(lambda: self.a._served.clerk._waits_here is not None)
+            self.until_it_waits(self.a)
             self.proxy.hold()
             waits.join(LONGEST)
             self.assertRegex(str(told), SILENT[1:])
@@ -250,7 +253,7 @@ class Outages(Held, unittest.TestCase):
         entry = self.a.enter("write")
         self.is_silent(lambda: entry.put(7))
         self.proxy.forget()
-        self.until(lambda: self.a._served.clerk.away is None)
+        self.until(lambda: self.a.served.clerk.trouble.away is None)
         self.assertEqual(entry.look(), 0)
         entry.leave()
         self.b.enter("write", timeout=LONGEST).leave()
@@ -283,11 +286,11 @@ class Sessions(OnServer, unittest.TestCase):
         for each in ("statement_timeout", "lock_timeout", "idle_session_timeout", "idle_in_transaction_session_timeout"):
             self.server.run("alter role {} set {} = '1ms'".format(name, each))
         a = self.open(BOOK, store=self.server.url.replace("postgres@", name + "@"))
-        session = a._served._log.session.fileno()
+        session = a.served.log.session.fileno()
         time.sleep(0.2)
         with a("write") as entry:
             self.assertEqual(entry.put(3), 0)
-        self.assertEqual(a._served._log.session.fileno(), session)
+        self.assertEqual(a.served.log.session.fileno(), session)
         self.assertTrue(a.audit())
 
     def test_who_is_denied_a_session_is_told_at_once(self):
@@ -314,11 +317,11 @@ class Sessions(OnServer, unittest.TestCase):
             (url.format("app", server.port, "postgres?options=-c%20nonsense%3D1"), "unrecognized configuration parameter"),
             ("postgresql://app@127.0.0.1:1,127.0.0.1:{}/none".format(server.port), 'database "none" does not exist'),
         )
-        for tells in (_postgresql.tells_codes, lambda pq, connection: None):
+        for tells in (_served.session.tells_codes, lambda pq, connection: None):
             for url, told in cases:
-                if tells is not _postgresql.tells_codes and "parameter" in told:
+                if tells is not _served.session.tells_codes and "parameter" in told:
                     continue  # nothing but a code says that this stays so
-                with self.subTest(told), mock.patch.object(_postgresql, "tells_codes", tells):
+                with self.subTest(told), mock.patch.object(_served.session, "tells_codes", tells):
                     with self.assertRaisesRegex(StoreError, "(?s)^the log x: there is no session: .*" + told) as raised:
                         Paths(BOOK, store=url, name="x")
                     self.assertNotIn("LOCATION", str(raised.exception))

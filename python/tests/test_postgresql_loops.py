@@ -7,7 +7,7 @@ import threading
 import unittest
 from unittest import mock
 
-from wanzoche import _clerk, _log, _order
+from wanzoche import _order, _served
 
 from .declarations import BOOK
 from .limits import LONGEST
@@ -47,13 +47,13 @@ class Deaths(OnLog, unittest.TestCase):
         self.assertTrue(a.audit())
 
     def test_one_whose_session_is_ended_keeps_its_place(self):
-        patch = mock.patch.object(_clerk, "SELDOM", NOBODY_LOOKS)
+        patch = mock.patch.object(_served.times, "SELDOM", NOBODY_LOOKS)
         patch.start()
         self.addCleanup(patch.stop)
         a, b, c = self.strict(), self.strict(), self.strict()
         entry = a.enter("write")
         threads = [self.waits(b, "write"), self.waits(c, "write")]
-        session = b._served._log.session
+        session = b.served.log.session
         before = session._connection
         told = "select pg_terminate_backend(pid) from wanzoche.worker join wanzoche.log using (log) where name = %s and worker = 2"
         self.server.run(told, self.name)
@@ -77,7 +77,7 @@ class FromFour(Earlier, unittest.TestCase):
         old, woken = self.old_process(), []
         old.connection.add_notify_handler(lambda notice: woken.append(notice.payload))
         a, b = self.open(BOOK, patience=0), self.open(BOOK, patience=0)
-        self.assertEqual(self.number(), _log.SCHEMA)
+        self.assertEqual(self.number(), _served.schema.SCHEMA)
         entry = a.enter("read")
         known = len(self.lines())
         mark = self.server.run("select stamp from wanzoche.line order by place desc limit 1")[0][0]
@@ -90,7 +90,7 @@ class FromFour(Earlier, unittest.TestCase):
         mark = self.server.run("select stamp from wanzoche.line order by place desc limit 1")[0][0]
         old.call(b"append", 1, len(self.lines()), mark, "1 start write: started 2", "{}", "{}", "{}", "{1}", "f")
         waits = threading.Thread(target=lambda: a.enter("read", timeout=LONGEST).leave())
-        with mock.patch.object(_clerk, "CHECK", NOBODY_LOOKS):
+        with mock.patch.object(_served.times, "CHECK", NOBODY_LOOKS):
             waits.start()
             self.until(lambda: self.server.run("select 1 from wanzoche.waiter where since is not null"))
             old.call(b"append", 1, 0, None, None, "{2}", "{0,1}", "{}", "{}", "f")
@@ -107,20 +107,20 @@ class Loops(OnLog, unittest.TestCase):
 
     def noted(self, paths):
         """Notes from now on, of each start that has to wait, how many lines were known when the server knew of it, and its number."""
-        clerk, waited = paths._served.clerk, {}
-        note, started = clerk._note_slots, clerk._started
+        clerk, waited = paths.served.clerk, {}
+        note, begin, known = clerk.slots.note, clerk.holding.begin, paths.served.log.known
 
         def notes(wishes, has_left):
             note(wishes, has_left)
-            for each in wishes.waits:
-                waited[clerk._slots[each.slot]] = clerk.log.place.lines
+            for start in clerk.slots.starts([each.slot for each in wishes.waits]):
+                waited[start.held] = known.place.lines
 
-        def begins(start, number):
-            if start in waited:
-                self.waited.append((waited.pop(start), number))
-            started(start, number)
+        def begins(held, number, caller):
+            if held in waited:
+                self.waited.append((waited.pop(held), number))
+            begin(held, number, caller)
 
-        clerk._note_slots, clerk._started = notes, begins
+        clerk.slots.note, clerk.holding.begin = notes, begins
 
     def setUp(self):
         super().setUp()

@@ -12,7 +12,7 @@ import unittest
 from unittest import mock
 
 import wanzoche
-from wanzoche import Lost, Paths, Timeout, _clerk, _log, _postgresql
+from wanzoche import Lost, Paths, Timeout, _served
 
 from . import witness
 from .declarations import BOOK, SLOT
@@ -41,7 +41,7 @@ class Worker(witness.Worker):
     def run(self, entries):
         paths = self.opened()
         if self.round.kills:
-            self.dies_around(_postgresql.Session, "call", 0.002)
+            self.dies_around(_served.session.Session, "call", 0.002)
         is_book = self.round.text == BOOK
         for each in range(entries):
             operation = random.choice(paths.operations) if is_book else paths.operations[each % 2]
@@ -222,7 +222,7 @@ class Many(unittest.TestCase):
 
     def moving(self, *given, **named):
         """While lines are moved, by who appends and by another, too."""
-        with mock.patch.object(_log, "KEPT", 3):
+        with mock.patch.object(_served.segments, "KEPT", 3):
             self.rounds(*given, **{"room": 20, "disturb": moves_lines(the_server(), 0.05), **named})
 
     def test_lines_that_are_moved(self):
@@ -281,12 +281,12 @@ class WrongStores(unittest.TestCase):
 
     def test_a_right_one_that_looks_often_passes(self):
         with self.assertRaisesRegex(AssertionError, "nothing was noticed"):
-            self.found(mock.patch.object(_clerk, "CHECK", 0.02), kills=0.05)
+            self.found(mock.patch.object(_served.times, "CHECK", 0.02), kills=0.05)
 
     def test_it_takes_the_living_for_dead(self):
         dead = "create or replace function wanzoche.dead(l int, workers int[], grace interval) returns setof int language sql as "
         # Who waits looks for the dead each second; here it does so before the round is over.
-        self.found(mock.patch.object(_clerk, "CHECK", 0.02), sql=dead + "$$ select unnest(workers) $$")
+        self.found(mock.patch.object(_served.times, "CHECK", 0.02), sql=dead + "$$ select unnest(workers) $$")
 
     def test_it_appends_without_the_place(self):
         """A start goes behind whatever there is."""
@@ -308,18 +308,18 @@ class WrongStores(unittest.TestCase):
         self.found(sql=wrong, **self.cutting)
 
     def test_it_never_finishes_for_the_dead(self):
-        self.found(mock.patch.object(_clerk.Clerk, "_bury_dead", lambda self: False), kills=0.05, patience=8)
+        self.found(mock.patch.object(_served.burying.Burying, "bury_dead", lambda self: False), kills=0.05, patience=8)
 
     def test_it_answers_before_the_line_lasts(self):
         self.server = Server(wal_writer_delay="10s")
         self.addCleanup(self.server.end)
-        message, statements = "pg_logical_emit_message(true, 'wanzoche', '')", _log.STATEMENTS
+        message, statements = "pg_logical_emit_message(true, 'wanzoche', '')", _served.statements.STATEMENTS
         patched = {name: statements[name].replace(message, "pg_current_xact_id()") for name in (b"lasts", b"line_lasts")}
-        self.found(mock.patch.dict(_log.STATEMENTS, patched), disturb=restarts(self.server, 3), grace=10.0)
+        self.found(mock.patch.dict(_served.statements.STATEMENTS, patched), disturb=restarts(self.server, 3), grace=10.0)
 
     def test_it_wakes_nobody(self):
         wake = "create or replace function wanzoche.wake(l int, w int, operations int[]) returns void language sql as $$ $$"
-        self.found(mock.patch.object(_clerk, "CHECK", 1000.0), sql=wake, patience=8)
+        self.found(mock.patch.object(_served.times, "CHECK", 1000.0), sql=wake, patience=8)
 
 
 if __name__ == "__main__":

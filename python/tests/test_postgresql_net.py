@@ -7,7 +7,7 @@ import time
 import unittest
 from unittest import mock
 
-from wanzoche import Lost, Paths, Timeout, _postgresql
+from wanzoche import Lost, Paths, Timeout, _served
 
 from .declarations import BOOK
 from .limits import LONGEST
@@ -92,9 +92,9 @@ class Client:
 @needs_server
 class Partitions(unittest.TestCase):
     def setUp(self):
-        heartbeat = _postgresql.HEARTBEAT.replace("idle = 5", "idle = 1").replace("interval = 2", "interval = 1").replace("= 10000", "= 3000")
-        libpq = {**_postgresql.FOR_LIBPQ, "keepalives_idle": "1", "keepalives_interval": "1", "tcp_user_timeout": "3000"}
-        for patch in (mock.patch("wanzoche._log.HEARTBEAT", heartbeat), mock.patch.object(_postgresql, "FOR_LIBPQ", libpq)):
+        heartbeat = _served.beginning.HEARTBEAT.replace("idle = 5", "idle = 1").replace("interval = 2", "interval = 1").replace("= 10000", "= 3000")
+        libpq = {**_served.connecting.FOR_LIBPQ, "keepalives_idle": "1", "keepalives_interval": "1", "tcp_user_timeout": "3000"}
+        for patch in (mock.patch("wanzoche._served.beginning.HEARTBEAT", heartbeat), mock.patch.object(_served.connecting, "FOR_LIBPQ", libpq)):
             patch.start()
             self.addCleanup(patch.stop)
         self.networks = [Network(self, number) for number in (1, 2)]

@@ -8,7 +8,7 @@ import time
 import unittest
 from unittest import mock
 
-from wanzoche import Blocked, Paths, Timeout, _clerk, _order
+from wanzoche import Blocked, Paths, Timeout, _order, _served
 
 from . import test_order
 from .declarations import BOOK
@@ -30,7 +30,7 @@ class OverOpenings(OnServer):
     def setUp(self):
         super().setUp()
         self.openings = {}
-        for module, name, value in ((_clerk, "CHECK", NOBODY_LOOKS), (test_order, "Paths", self.opened)):
+        for module, name, value in ((_served.times, "CHECK", NOBODY_LOOKS), (test_order, "Paths", self.opened)):
             patch = mock.patch.object(module, name, value)
             patch.start()
             self.addCleanup(patch.stop)
@@ -237,7 +237,7 @@ class Told(OnLog, unittest.TestCase):
         a, b, c = self.strict(), self.strict(), self.strict()
         entry = a.enter("read")
         writer = self.waits(b, "write")
-        with mock.patch.object(_clerk, "CHECK", 0.1), self.assertLogs("wanzoche", "INFO") as seen:
+        with mock.patch.object(_served.times, "CHECK", 0.1), self.assertLogs("wanzoche", "INFO") as seen:
             reader = self.waits(c, "read")
             self.until(lambda: any("read is withheld: behind write by process 2" in each for each in seen.output))
         entry.leave()
@@ -300,7 +300,7 @@ class Patience(OnLog, unittest.TestCase):
         waits = self.waits(b, "b")
         for _ in range(2):  # the log's first line, and one that learns who waits
             a.enter("c").leave()
-        calls, session = [], a._served._log.session
+        calls, session = [], a.served.log.session
         call = session.call
         with mock.patch.object(session, "call", lambda *given: (calls.append([each.name for each in given[0]]), call(*given))[1]):
             for _ in range(5):

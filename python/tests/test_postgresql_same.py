@@ -56,7 +56,7 @@ class ServedMetrics(OverServer, test_watching.Counted):
     def is_refused(self, paths):
         """Who has only asked waits for an answer."""
         try:
-            return any(each.has_waited for queue in list(paths._served.clerk._starts.values()) for each in list(queue))
+            return any(each.has_waited for queue in list(paths.served.clerk.wanted.starts.values()) for each in list(queue))
         except RuntimeError:  # the clerk has changed a queue meanwhile
             return False
 

@@ -10,7 +10,7 @@ import unittest
 from unittest import mock
 
 import wanzoche
-from wanzoche import CorruptStore, Lost, StoreError, _clerk, _log
+from wanzoche import CorruptStore, Lost, StoreError, _served
 
 from .declarations import BOOK, LINE, SLOT
 from .limits import LONGEST
@@ -64,7 +64,7 @@ class Rotating(OnServer):
 
     def asks(self, paths, question):
         """What a question gives at the desk."""
-        return paths._served.ask(question)
+        return paths.served.ask(question)
 
 
 @needs_server
@@ -94,7 +94,7 @@ class Segments(Rotating, unittest.TestCase):
 
     def test_a_long_table_goes_into_several(self):
         a = self.open(BOOK, room=8)
-        with mock.patch.object(a._served._log, "due", 1000):
+        with mock.patch.object(a.served.log.segments, "due", 1000):
             self.enters(a, 15)
         a.rotate()
         self.assertEqual(self.segments(), [(0, 8), (8, 8), (16, 8), (24, 5)])
@@ -103,7 +103,7 @@ class Segments(Rotating, unittest.TestCase):
         self.assertEqual(len(self.standing()), 30)
 
     def test_by_itself(self):
-        with mock.patch.object(_log, "KEPT", 3):
+        with mock.patch.object(_served.segments, "KEPT", 3):
             a, b = self.open(BOOK, room=10), self.open(BOOK, room=10)
             for _ in range(20):
                 self.enters(a, 1, "write")
@@ -120,19 +120,19 @@ class Segments(Rotating, unittest.TestCase):
 
     def test_a_long_table_holds_nobody_up(self):
         """It is moved bit by bit, without anybody's call, and what somebody wants comes between."""
-        with mock.patch.object(_log, "KEPT", 1):
+        with mock.patch.object(_served.segments, "KEPT", 1):
             a = self.open(BOOK, room=4)
-            log, clerk, names = a._served._log, a._served.clerk, []
-            log.due = 1000
+            log, clerk, names = a.served.log, a.served.clerk, []
+            log.segments.due = 1000
             self.enters(a, 40)
             call = log.session.call
             log.session.call = lambda calls, until: (names.append(calls[0].name), call(calls, until))[1]
             waits = [threading.Thread(target=self.enters, args=(a, 1)) for _ in range(3)]
-            with clerk._desk:
+            with clerk.desk.lock:
                 for thread in waits:
                     thread.start()
-                self.until(lambda: len(clerk._inbox) == 3)
-                log.due = 5
+                self.until(lambda: len(clerk.wanted.inbox) == 3)
+                log.segments.due = 5
             for thread in waits:
                 thread.join(LONGEST)
             self.until(lambda: len(self.lines()) < 5)
@@ -200,10 +200,10 @@ class Segments(Rotating, unittest.TestCase):
 
     def enters_together(self, paths):
         threads = [threading.Thread(target=self.enters, args=(paths, 3)) for _ in range(6)]
-        with paths._served.clerk._desk:  # so that they begin in one turn
+        with paths.served.clerk.desk.lock:  # so that they begin in one turn
             for thread in threads:
                 thread.start()
-            self.until(lambda: len(paths._served.clerk._inbox) == 6)
+            self.until(lambda: len(paths.served.clerk.wanted.inbox) == 6)
         for thread in threads:
             thread.join(LONGEST)
 
@@ -225,7 +225,7 @@ class Segments(Rotating, unittest.TestCase):
         self.assertTrue(a.audit() and b.audit())
 
     def test_who_waits_behind_a_rotation(self):
-        with mock.patch.object(_clerk, "CHECK", 1000.0):
+        with mock.patch.object(_served.times, "CHECK", 1000.0):
             a, b = self.open(SLOT), self.open(SLOT)
             for _ in range(3):
                 waits = threading.Thread(target=lambda: b.enter("remove", timeout=LONGEST).leave())
@@ -243,16 +243,16 @@ class Segments(Rotating, unittest.TestCase):
         a, b = self.open(BOOK), self.open(BOOK)
         entry = b.enter("read")
         self.assertEqual(len(a.report().live), 1)
-        found = self.asks(a, lambda: a._served._replica.live())
+        found = self.asks(a, lambda: a.served.log.replica.live())
         entry.leave()
         self.moves(b)
-        self.assertTrue(a._served.clerk.log.place.lines < len(self.standing()))
+        self.assertTrue(a.served.log.known.place.lines < len(self.standing()))
 
         def buries():
             # as if the log had been followed before
-            return [a._served.clerk.bury(2, found, True)]
+            return [a.served.clerk.burying.bury(2, found, True)]
 
-        with mock.patch.object(a._served.clerk, "_follow", lambda: None):
+        with mock.patch.object(a.served.clerk.following, "follow", lambda: None):
             self.assertEqual(self.asks(a, buries), [True])
         self.assertEqual(sum("finish 0" in line for line in self.standing()), 1)
         self.assertTrue(a.audit() and b.audit())
@@ -272,8 +272,8 @@ class Segments(Rotating, unittest.TestCase):
     def test_many_finishes_of_which_some_are_others(self):
         a, b = self.open(BOOK), self.open(BOOK)
         entries, told = [a.enter("read") for _ in range(4)], []
-        found = self.asks(b, lambda: b._served._replica.live())[:2]
-        self.assertTrue(self.asks(b, lambda: b._served.clerk.bury(1, found, True)))
+        found = self.asks(b, lambda: b.served.log.replica.live())[:2]
+        self.assertTrue(self.asks(b, lambda: b.served.clerk.burying.bury(1, found, True)))
         self.moves(b)
 
         def leaves(entry):
@@ -283,12 +283,12 @@ class Segments(Rotating, unittest.TestCase):
             except Lost:
                 told.append("lost")
 
-        clerk = a._served.clerk
-        with clerk._desk:  # so that all go in one call
+        clerk = a.served.clerk
+        with clerk.desk.lock:  # so that all go in one call
             threads = [threading.Thread(target=leaves, args=(entry,)) for entry in entries]
             for thread in threads:
                 thread.start()
-            self.until(lambda: len(clerk._inbox) == 4)
+            self.until(lambda: len(clerk.wanted.inbox) == 4)
         for thread in threads:
             thread.join(LONGEST)
         self.assertEqual(sorted(told), ["left", "left", "lost", "lost"])
@@ -298,13 +298,13 @@ class Segments(Rotating, unittest.TestCase):
     def test_own_finishes_are_known_when_all_is_read_anew(self):
         a, b = self.open(BOOK), self.open(BOOK)
         own, others, lives = [a.enter("read") for _ in range(3)]
-        log = a._served._log
-        given = (log._log, b"1", b"3", log.place.stamp, None, b"{0}", b"{}", b"{}")
-        self.asks(a, lambda: log._call(_log.Call(b"append", given)))
-        self.asks(b, lambda: b._served._log.bury(1, [1], [], True))
+        log = a.served.log
+        given = (log.calls.log, b"1", b"3", log.known.place.stamp, None, b"{0}", b"{}", b"{}")
+        self.asks(a, lambda: log.calls.call(_served.session.Call(b"append", given)))
+        self.asks(b, lambda: b.served.log.dead.bury(1, [1], [], True))
         self.moves(b)
-        a._served.clerk._is_unsure = True
-        a._served.clerk.ring()
+        a.served.clerk.trouble.is_unsure = True
+        a.served.clerk.desk.ring()
         own.leave()
         with self.assertRaises(Lost):
             others.leave()
@@ -313,8 +313,8 @@ class Segments(Rotating, unittest.TestCase):
         self.assertTrue(a.audit() and b.audit())
 
     def test_options(self):
-        self.open(BOOK, room=_log.MOST_IN_SEGMENT)
-        for room in (0, _log.MOST_IN_SEGMENT + 1, 1 << 20):
+        self.open(BOOK, room=_served.segments.MOST_IN_SEGMENT)
+        for room in (0, _served.segments.MOST_IN_SEGMENT + 1, 1 << 20):
             with self.assertRaisesRegex(ValueError, "^the room (of a log in PostgreSQL )?is 1 to "):
                 self.made(BOOK, room=room)
 
@@ -377,7 +377,7 @@ class Answers(Rotating, unittest.TestCase):
         self.enters(self.b, 1)
         self.a.report()
         self.does = None
-        log = self.a._served._log
+        log = self.a.served.log
         come_back = log.come_back
 
         def comes_back(until):
@@ -446,11 +446,11 @@ class Answers(Rotating, unittest.TestCase):
     def test_several_lines(self):
         entries = []
         threads = [threading.Thread(target=lambda: entries.append(self.a.enter("read", timeout=LONGEST))) for _ in range(6)]
-        with self.a._served.clerk._desk:  # so that all go in one call
+        with self.a.served.clerk.desk.lock:  # so that all go in one call
             for thread in threads:
                 thread.start()
-            self.until(lambda: len(self.a._served.clerk._inbox) == 6)
-            call, names = self.a._served._log.session.call, []
+            self.until(lambda: len(self.a.served.clerk.wanted.inbox) == 6)
+            call, names = self.a.served.log.session.call, []
 
             def calls(given, until):
                 if given[0].name == b"append":
@@ -459,7 +459,7 @@ class Answers(Rotating, unittest.TestCase):
                         self.loses_answer()
                 return call(given, until)
 
-            self.a._served._log.session.call = calls
+            self.a.served.log.session.call = calls
         for thread in threads:
             thread.join(LONGEST)
         self.assertEqual(len({entry.token for entry in entries}), 6)
@@ -470,10 +470,10 @@ class Answers(Rotating, unittest.TestCase):
     def leave_together(self, entries):
         """And lose the answer."""
         threads = [threading.Thread(target=entry.leave) for entry in entries]
-        with self.a._served.clerk._desk:
+        with self.a.served.clerk.desk.lock:
             for thread in threads:
                 thread.start()
-            self.until(lambda: len(self.a._served.clerk._inbox) == len(entries))
+            self.until(lambda: len(self.a.served.clerk.wanted.inbox) == len(entries))
             self.loses_answer()
         for thread in threads:
             thread.join(LONGEST)
@@ -553,8 +553,8 @@ class Forged(Rotating, unittest.TestCase):
         self.moves(a)
         self.run_on_log("update wanzoche.segment set stamps[5] = stamps[5] + 1 where log = {}")
         reads = []
-        forget = b._served._log.forget
-        b._served._log.forget = lambda: (reads.append(1), forget())
+        forget = b.served.log.known.forget
+        b.served.log.known.forget = lambda: (reads.append(1), forget())
         self.assertEqual([each.activation for each in b.report().live], [2])
         self.assertEqual(reads, [1])
         kept.leave()
@@ -577,13 +577,13 @@ class Inserts(Rotating, unittest.TestCase):
         a, b = self.open(BOOK), self.open(BOOK)
         self.enters(a, 2)
         b.report()
-        place, stamp = self.asks(a, lambda: a._served._log.place)
+        place, stamp = self.asks(a, lambda: a.served.log.known.place)
         # The same statement, but that it is held up on its way to its turn.
-        put, holds = _log.PUT.format("", "").replace("from (select from", "from (select pg_advisory_xact_lock(4711) from"), self.connection()
+        put, holds = _served.statements.PUT.format("", "").replace("from (select from", "from (select pg_advisory_xact_lock(4711) from"), self.connection()
         holds.execute("select pg_advisory_lock(4711)")
         connection, found = self.connection().pgconn, []
         connection.prepare(b"put", put.encode())
-        log = a._served._log._log
+        log = a.served.log.calls.log
         given = [log, b"9", b"%d" % place, stamp, b"9 start read: started 2"]
         late = threading.Thread(target=lambda: found.append(connection.exec_prepared(b"put", given).ntuples))
         late.start()
@@ -605,14 +605,14 @@ class Inserts(Rotating, unittest.TestCase):
         """It knows only lines that are moved while it waits for its turn, and began behind all that has to be waited for."""
         a, b = self.open(BOOK), self.open(BOOK)
         self.enters(a, 2)
-        place, stamp = self.asks(a, lambda: a._served._log.place)
+        place, stamp = self.asks(a, lambda: a.served.log.known.place)
         self.enters(b, 4)
         connection, found = self.connection().pgconn, []
-        connection.prepare(b"put", _log.PUT.format("", "").encode())
-        log = a._served._log._log
+        connection.prepare(b"put", _served.statements.PUT.format("", "").encode())
+        log = a.served.log.calls.log
         given = [log, b"9", b"%d" % place, stamp, b"9 start read: started 2"]
         late = threading.Thread(target=lambda: found.append(connection.exec_prepared(b"put", given).ntuples))
-        with mock.patch.object(b._served._log, "_move", self.while_locked(b, late)):
+        with mock.patch.object(b.served.log.segments, "move", self.while_locked(b, late)):
             b.rotate()
         late.join(LONGEST)
         self.assertEqual(found, [0])
@@ -621,18 +621,18 @@ class Inserts(Rotating, unittest.TestCase):
 
     def while_locked(self, paths, late):
         """Moves lines in a transaction that has its turn until the late thread waits for something, or has ended."""
-        log = paths._served._log
+        log = paths.served.log
 
-        def moves(lines):
+        def moves(lines, known):
             other = self.connection()
             other.execute("begin")
-            stamp = int(log.place.stamp)
+            stamp = int(log.known.place.stamp)
             told = "select wanzoche.rotate(%s, %s, %s, %s, %s, '1 second')"
-            other.execute(told, (int(log._log), log.place.lines, stamp, log._moved, lines))
+            other.execute(told, (int(log.calls.log), log.known.place.lines, stamp, log.segments.moved, lines))
             late.start()
             self.until(lambda: self.server.run("select 1 from pg_locks where not granted") or not late.is_alive())
             other.execute("commit")
-            log._know_moved(log._moved + lines)
+            log.segments.know(log.segments.moved + lines)
 
         return moves
 
@@ -641,12 +641,12 @@ class Inserts(Rotating, unittest.TestCase):
         a, b = self.open(BOOK), self.open(BOOK)
         entry = b.enter("read")
         self.assertEqual(len(a.report().live), 1)
-        found, told = self.asks(a, lambda: a._served._replica.live()), []
+        found, told = self.asks(a, lambda: a.served.log.replica.live()), []
         entry.leave()
         self.enters(b, 1)
-        late = threading.Thread(target=lambda: told.append(self.asks(a, lambda: a._served.clerk.bury(2, found, True))))
-        with mock.patch.object(a._served.clerk, "_follow", lambda: None):  # as if it had been followed before
-            with mock.patch.object(b._served._log, "_move", self.while_locked(b, late)):
+        late = threading.Thread(target=lambda: told.append(self.asks(a, lambda: a.served.clerk.burying.bury(2, found, True))))
+        with mock.patch.object(a.served.clerk.following, "follow", lambda: None):  # as if it had been followed before
+            with mock.patch.object(b.served.log.segments, "move", self.while_locked(b, late)):
                 b.rotate()
             late.join(LONGEST)
         self.assertEqual(told, [True])
@@ -656,12 +656,12 @@ class Inserts(Rotating, unittest.TestCase):
     def test_one_that_knows_what_was_moved(self):
         a = self.open(BOOK)
         self.enters(a, 2)
-        log = a._served._log
-        place = self.asks(a, lambda: log.place)
+        log = a.served.log
+        place = self.asks(a, lambda: log.known.place)
         self.moves(a)
-        for known in (place, _log.Place(1, None), _log.Place(0, None)):
-            given = (log._log, b"9", b"%d" % known.lines, known.stamp, b"9 start read: started 5")
-            self.assertEqual(self.asks(a, lambda: log._call(_log.Call(b"put_finish", (*given, b"{}"))))[0], [])
+        for known in (place, _served.wishes.Place(1, None), _served.wishes.Place(0, None)):
+            given = (log.calls.log, b"9", b"%d" % known.lines, known.stamp, b"9 start read: started 5")
+            self.assertEqual(self.asks(a, lambda: log.calls.call(_served.session.Call(b"put_finish", (*given, b"{}"))))[0], [])
         self.assertEqual(len(self.standing()), 10)
 
     def test_a_transaction_that_stays_open(self):
@@ -674,10 +674,10 @@ class Inserts(Rotating, unittest.TestCase):
         with self.assertRaisesRegex(StoreError, "^the log .*: somebody has been inserting lines for too long$"):
             a.rotate()
         self.enters(a, 1)
-        with mock.patch.object(_log, "KEPT", 1):
-            a._served._log.due = 8
+        with mock.patch.object(_served.segments, "KEPT", 1):
+            a.served.log.segments.due = 8
             self.enters(a, 1)
-            self.until(lambda: a._served._log.due > 8)  # it was tried, and will be again
+            self.until(lambda: a.served.log.segments.due > 8)  # it was tried, and will be again
             self.assertEqual(self.segments(), [])
             connection.execute("rollback")
             self.enters(a, 8)
@@ -691,9 +691,9 @@ class Inserts(Rotating, unittest.TestCase):
         a = self.open(BOOK)
         self.moves(a)
         told = "show transaction_isolation"
-        with mock.patch.dict(_log.STATEMENTS, {b"isolation": told}):
+        with mock.patch.dict(_served.statements.STATEMENTS, {b"isolation": told}):
             b = self.open(BOOK)
-        found = self.asks(b, lambda: b._served._log._call(_log.Call(b"isolation")))
+        found = self.asks(b, lambda: b.served.log.calls.call(_served.session.Call(b"isolation")))
         self.assertEqual(found, [[[b"read committed"]]])
 
 
@@ -780,7 +780,7 @@ class Crashes(Rotating, unittest.TestCase):
         self.server.stop_writing()
         entry = b.enter("read")
         self.assertEqual(len(a.report().live), 2)  # a knows what will be gone
-        with a._served.clerk._desk:
+        with a.served.clerk.desk.lock:
             self.server.kill()
             self.server.start()
             c = self.open(BOOK)
@@ -868,7 +868,7 @@ class Earlier(Rotating):
         old.call(b"append", 1, 0, None, "1 start read: started 0", "{}", "{}", "{}", "{}", "f")
         old.connection.close()
         a = self.open(BOOK)
-        self.assertEqual((self.number(), a.worker), (_log.SCHEMA, "process 2"))
+        self.assertEqual((self.number(), a.worker), (_served.schema.SCHEMA, "process 2"))
         self.enters(a, 2, "write")  # what the dead one had is finished
         self.until(lambda: self.server.run("select worker from wanzoche.worker") == [(2,)])
         a.rotate()
@@ -887,7 +887,7 @@ class FromOne(Earlier, unittest.TestCase):
         old = self.old_process()
         told = old.call(b"put", 1, 0, None, "1 start read: started 0")
         a = self.open(BOOK, room=4)
-        self.assertEqual(self.number(), _log.SCHEMA)
+        self.assertEqual(self.number(), _served.schema.SCHEMA)
         old.call(b"append", 1, 1, told[0][0], None, "{0}", "{}", "{}", "{}", "f")
         self.enters(a, 2)
         news, final, mark = old.call(b"lines", 0, None)[0]
@@ -896,10 +896,10 @@ class FromOne(Earlier, unittest.TestCase):
         self.assertEqual(old.call(b"dead", "{1}", "1 second"), [])
         with self.assertRaisesRegex(StoreError, "^the log .*: process 1 is of a package that reads no segments, and may be alive$"):
             a.rotate()
-        with mock.patch.object(_log, "KEPT", 1):
-            a._served._log.due = 8
+        with mock.patch.object(_served.segments, "KEPT", 1):
+            a.served.log.segments.due = 8
             self.enters(a, 3)
-            self.until(lambda: a._served._log.due > 8)
+            self.until(lambda: a.served.log.segments.due > 8)
         self.assertEqual(self.segments(), [])
         kept = a.enter("read")
         self.assertEqual(old.call(b"bury", 1, 2, "{%d}" % kept.token, "{}", "1 second", "t"), [("t",)])
@@ -942,7 +942,7 @@ class FromOne(Earlier, unittest.TestCase):
             self.server.run("grant select, insert, update, delete on all tables in schema wanzoche to {}".format(role))
         url = self.server.url.replace("postgres@", "app@")
         told = "^the schema wanzoche is number 1, and can't be brought to {}, so its owner has to run schema.sql: permission denied for"
-        with self.assertRaisesRegex(StoreError, told.format(_log.SCHEMA)):
+        with self.assertRaisesRegex(StoreError, told.format(_served.schema.SCHEMA)):
             self.made(BOOK, store=url)
         self.open(BOOK).close()
         a = self.open(BOOK, store=url)
@@ -961,7 +961,7 @@ class FromTwo(Earlier, unittest.TestCase):
         old = self.old_process()
         old.call(b"append", 1, 0, None, "1 start read: started 0", "{}", "{}", "{}", "{}", "f")
         a = self.open(BOOK)
-        self.assertEqual(self.number(), _log.SCHEMA)
+        self.assertEqual(self.number(), _served.schema.SCHEMA)
         old.call(b"append", 1, 1, old.call(b"lines", 0, None)[0][2], None, "{0}", "{}", "{}", "{}", "f")
         self.moves(a)
         news, final, mark = old.call(b"lines", len(self.standing()) - 1, self.stamps()[-1])[0]
@@ -978,14 +978,14 @@ class FromTwo(Earlier, unittest.TestCase):
         self.assertTrue(a.audit() and self.open(BOOK).audit())
 
     def test_it_may_be_brought_up_by_hand_and_twice(self):
-        with open(os.path.join(os.path.dirname(os.path.abspath(_log.__file__)), "schema.sql")) as file:
+        with open(_served.schema.SCRIPT) as file:
             script = file.read()
         for _ in range(2):
             self.server.run(script)
-            self.assertEqual(self.number(), _log.SCHEMA)
+            self.assertEqual(self.number(), _served.schema.SCHEMA)
             self.moves(self.open(BOOK), 2)
         self.server.run("update wanzoche.schema set number = 9")
-        with self.assertRaisesRegex(Exception, "the schema wanzoche is number 9, and this makes {}".format(_log.SCHEMA)):
+        with self.assertRaisesRegex(Exception, "the schema wanzoche is number 9, and this makes {}".format(_served.schema.SCHEMA)):
             self.server.run(script)
 
     def test_many_bring_it_up_at_once(self):
@@ -995,7 +995,7 @@ class FromTwo(Earlier, unittest.TestCase):
             thread.start()
         for thread in threads:
             thread.join(LONGEST)
-        self.assertEqual((len(found), self.number()), (6, _log.SCHEMA))
+        self.assertEqual((len(found), self.number()), (6, _served.schema.SCHEMA))
         self.moves(found[0])
         self.assertTrue(all(each.audit() for each in found))
 

@@ -7,7 +7,7 @@ import time
 import unittest
 from unittest import mock
 
-from wanzoche import Paths, StoreError, Timeout, _log
+from wanzoche import Paths, StoreError, Timeout, _served
 
 from .declarations import BOOK, SLOT
 from .limits import LONGEST
@@ -27,7 +27,7 @@ class OfALog(OnServer):
         return found
 
     def known(self, paths):
-        return tuple(paths._served._log.settings)
+        return tuple(paths.served.log.settings)
 
 
 @needs_server
@@ -101,8 +101,8 @@ class Settings(OfALog, unittest.TestCase):
         self.assertRaises(Timeout, a.enter, "read", timeout=0.05)
         self.assertEqual(a.recover(2), 1)
         told = "select count(*) from wanzoche.segment join wanzoche.log using (log) where name = %s"
-        with mock.patch.object(_log, "KEPT", 1):
-            a._served._log.due = 0
+        with mock.patch.object(_served.segments, "KEPT", 1):
+            a.served.log.segments.due = 0
             while self.server.run(told, self.name) == [(0,)]:
                 a.enter("read").leave()
         self.assertTrue(a.audit())
@@ -150,7 +150,7 @@ class FromThree(OfALog, Earlier, unittest.TestCase):
 
     def test_the_first_opening_writes_them(self):
         self.open(BOOK, lost="keep", room=9)
-        self.assertEqual((self.number(), self.settings()), (_log.SCHEMA, ("keep", 5.0, 9)))
+        self.assertEqual((self.number(), self.settings()), (_served.schema.SCHEMA, ("keep", 5.0, 9)))
         with self.assertRaisesRegex(StoreError, "was made with room=9, and not with room=8"):
             self.made(BOOK, room=8)
 

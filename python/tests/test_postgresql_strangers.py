@@ -8,7 +8,7 @@ import time
 import unittest
 from unittest import mock
 
-from wanzoche import StoreError, _clerk, _log
+from wanzoche import StoreError, _served
 
 from .declarations import BOOK
 from .limits import LONGEST
@@ -112,11 +112,11 @@ class Strangers(AtOwnServer, unittest.TestCase):
         a, b = self.open(BOOK), self.open(BOOK)
         self.stranger.take_what_others_have()
         self.all_enter(a, b, a)
-        with mock.patch.object(_clerk, "CHECK", 1000.0):  # nobody looks by itself so soon
+        with mock.patch.object(_served.times, "CHECK", 1000.0):  # nobody looks by itself so soon
             entry = a.enter("write")
             waits = threading.Thread(target=lambda: b.enter("read", timeout=LONGEST).leave())
             waits.start()
-            self.until(lambda: b._served.clerk._waits_here is not None)
+            self.until_it_waits(b)
             entry.leave()
             waits.join(LONGEST)
         a.rotate()
@@ -180,8 +180,8 @@ class Strangers(AtOwnServer, unittest.TestCase):
         a, b = self.open(BOOK), self.open(BOOK)
         with b("write"):
             self.assertRaises(TimeoutError, a.enter, "read", timeout=0.05)  # from now on it listens
-        session, calls = a._served._log.session, []
-        self.until(lambda: a._served.clerk._is_asleep)
+        session, calls = a.served.log.session, []
+        self.until(lambda: a.served.clerk.desk.is_asleep)
         with mock.patch.object(session, "call", lambda *given: calls.append(1)):
             for payload in PAYLOADS:
                 told = "select pg_notify('wanzoche_' || l || '_' || w, %s) from generate_series(1, 20) l, generate_series(1, 40) w"
@@ -206,7 +206,7 @@ class Lookers(AtOwnServer, unittest.TestCase):
         super().setUp()
         self.server.run("create role watcher login")
         self.a = self.open(BOOK)
-        with open(os.path.join(os.path.dirname(os.path.abspath(_log.__file__)), "look.sql")) as file:
+        with open(os.path.join(os.path.dirname(_served.schema.SCRIPT), "look.sql")) as file:
             self.server.run(file.read().replace(':"role"', "watcher"))
         self.url = self.url_of("watcher")
 

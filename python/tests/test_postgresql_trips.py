@@ -8,7 +8,7 @@ import time
 import unittest
 from unittest import mock
 
-from wanzoche import Lost, StoreError, _clerk, _log, _order, _postgresql, _served, _served_order
+from wanzoche import Lost, StoreError, _order, _served
 
 from .declarations import BOOK
 from .limits import LONGEST
@@ -40,11 +40,11 @@ class Counting(OnServer):
 
     def calls_of(self, paths):
         """The names of what a process calls, a list for each trip, from now on."""
-        session, trips = paths._served._log.session, []
+        session, trips = paths.served.log.session, []
 
         def calls(given, until):
             trips.append([each.name.decode() for each in given])
-            return _postgresql.Session.call(session, given, until)
+            return _served.session.Session.call(session, given, until)
 
         session.call = calls
         return trips
@@ -107,7 +107,7 @@ class Starts(Counting, unittest.TestCase):
     def test_not_behind_more_than_it_is_told_of(self):
         """It comes later by a trip where much is in progress, or many lines were appended."""
         a, b = self.met(LIBRARY)
-        with a("note"), mock.patch.object(_clerk, "FEW", 0):
+        with a("note"), mock.patch.object(_served.drafts, "FEW", 0):
             b.enter("look").leave()
             trips = self.calls_of(a)
             a.enter("read").leave()
@@ -122,7 +122,7 @@ class Starts(Counting, unittest.TestCase):
     def test_who_is_answered_by_another_session(self):
         """It finds its line, whatever number that has, and has it once."""
         a, b = self.met(LIBRARY)
-        session = a._served._log.session
+        session = a.served.log.session
         for code in (CANCELLED, CUT):
             for behind in (0, 1, None):
                 with self.subTest(code=code, behind=behind):
@@ -199,7 +199,7 @@ class Woken(OnLog, Counting, unittest.TestCase):
     def setUp(self):
         super().setUp()
         never = LONGEST * 1_000_000_000
-        for module, name, value in ((_clerk, "CHECK", NOBODY_LOOKS), (_served_order, "LATEST", never), (_served_order, "EARLIEST", -never)):
+        for module, name, value in ((_served.times, "CHECK", NOBODY_LOOKS), (_served.order, "LATEST", never), (_served.order, "EARLIEST", -never)):
             patch = mock.patch.object(module, name, value)
             patch.start()
             self.addCleanup(patch.stop)
@@ -220,10 +220,10 @@ class Woken(OnLog, Counting, unittest.TestCase):
         a, b, c = self.strict(BOOK), self.strict(BOOK), self.strict(BOOK)
         reads = [a.enter("read"), a.enter("read")]
         waits = self.waits(b, "write")
-        trips, log = self.calls_of(b), b._served._log
-        known = log.place.lines
+        trips, log = self.calls_of(b), b.served.log
+        known = log.known.place.lines
         reads.pop().leave()
-        self.until(lambda: log.place.lines > known)
+        self.until(lambda: log.known.place.lines > known)
         self.assertEqual(trips, [])
         reads.pop().leave()
         waits.join(LONGEST)
@@ -237,7 +237,7 @@ class Woken(OnLog, Counting, unittest.TestCase):
         for _ in range(60):
             c.enter("look").leave()
         trips = self.calls_of(b)
-        with mock.patch.object(b._served._log, "forget", side_effect=AssertionError("it is read anew")):
+        with mock.patch.object(b.served.log.known, "forget", side_effect=AssertionError("it is read anew")):
             entry.leave()
             waits.join(LONGEST)
         self.assertEqual([trip[0] for trip in trips], ["lines_and_waiters", "start", "finish"])
@@ -332,7 +332,7 @@ class Sent(unittest.TestCase):
 
     def test_rows(self):
         """All of them can be read, or none is taken."""
-        line, now = _served_order.ServedLine(None), 5_000_000_000_000
+        line, now = _served.order.ServedLine(None), 5_000_000_000_000
         line.take(b"5000000000", 1, now)
         self.assertTrue(line.take_sent(b"5000000000\n" + self.RIGHT, 1, now))
         self.assertEqual((len(line.others), line.known), (1, b"{7}"))
@@ -372,7 +372,7 @@ class Faults(unittest.TestCase):
 class Sessions(OnServer, unittest.TestCase):
     def setUp(self):
         super().setUp()
-        self.left, prepare = 1, _postgresql.Session.prepare
+        self.left, prepare = 1, _served.session.Session.prepare
 
         def prepares(session, *given):
             if self.left:
@@ -380,7 +380,7 @@ class Sessions(OnServer, unittest.TestCase):
                 session._connection.finish()
             return prepare(session, *given)
 
-        patch = mock.patch.object(_postgresql.Session, "prepare", prepares)
+        patch = mock.patch.object(_served.session.Session, "prepare", prepares)
         patch.start()
         self.addCleanup(patch.stop)
 
@@ -391,7 +391,7 @@ class Sessions(OnServer, unittest.TestCase):
 
     def test_all_that_do(self):
         self.left = 1000
-        with mock.patch.object(_served, "OPENING", 0.5), self.assertRaisesRegex(StoreError, "the server doesn't answer"):
+        with mock.patch.object(_served.times, "OPENING", 0.5), self.assertRaisesRegex(StoreError, "the server doesn't answer"):
             self.made(BOOK)
 
 

@@ -370,7 +370,7 @@ class Refusals(InFolder, unittest.TestCase):
     def test_a_line_of_another_declaration(self):
         with open(self.file, "wb") as file:
             file.write(b"journal 3 room 100\n1 start steal: started 0\n")
-        error = self.refused(CorruptStore, "in line 2: `1 start steal: started 0` isn't a line of this journal$")
+        error = self.refused(CorruptStore, "in line 2: `1 start steal: started 0` isn't a line of a journal$")
         self.assertEqual(error.line, 2)
 
     def test_other_versions(self):

@@ -9,7 +9,7 @@ import unittest
 from unittest import mock
 
 from wanzoche import CorruptStore, Paths
-from wanzoche._paths import all_paths
+from wanzoche._forks import all_paths
 from wanzoche.testing import nothing_left
 
 from .declarations import BOOK
