@@ -91,8 +91,8 @@ fn apply<L: Live, D: Devices, A: Allocator + Copy>(
 /// own activation has its place since the start. Without room, or once 4,294,967,295 activations were begun, the reply is `NoRoom`, and
 /// nothing changes.
 ///
-/// The gate and what is live agree: what is live is in progress if a path names it. Where a start has room and a number, there is a place for
-/// its activation, and fewer than 4,294,967,295 were admitted at the gate.
+/// The gate and what is live agree: what is live is in progress if a path names it. Where a start has room and a number, there is a place
+/// for its activation, and fewer than 4,294,967,295 were admitted at the gate.
 ///
 /// Fails only as `live` does at a start, and `devices` at a use. Allocates nothing of its own. The cost is that of the gate for a start or
 /// a finish, of the search for the activation for a use or a finish, and for a use that of serving it.

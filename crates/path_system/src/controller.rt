@@ -1,6 +1,7 @@
 //! A controller: a system that keeps no lines. It answers attempts over devices, and a journal is what contracts see of it.
 
-ghost use Rattle.std.specs.Prelude.{◌≡◌, ◌↔◌, ◌<◌, List, [], None, length, map, slice_get, slice_set, IfOk, IfErr, IsOk, IsTrue, OnOk, OnErr};
+ghost use Rattle.std.specs.Prelude.{◌≡◌, ◌↔◌, ◌<◌, List, [], None, length, map, slice_get, slice_set};
+ghost use Rattle.std.specs.Prelude.{IfOk, IfErr, IsOk, IsTrue, OnOk, OnErr};
 ghost use Rattle.path_model.specs.declared.journal.Reply.TheVariants as replies;
 ghost use Rattle.path_model.specs.Asked.{resource_asked};
 ghost use Rattle.path_model.specs.Contents.{contents_after};
@@ -36,8 +37,8 @@ use std::marker::Model;
 /// from these. Dropping a controller drops each device.
 ///
 /// A controller may also go on behind the lines of others, of which it knows only the state that they left. So what is owed is said of all
-/// lines that may have come before (`BehindEach`): of those that led to the state at which it was opened; where it was opened at none, of no
-/// lines.
+/// lines that may have come before (`BehindEach`): of those that led to the state at which it was opened; where it was opened at none, of
+/// no lines.
 #[derive(Drop)]
 pub struct Controller<D: Device, A: Allocator + Copy = Global> {
     pub(crate) openings: Openings<A>,
@@ -247,9 +248,9 @@ impl<D: Device, A: Allocator + Copy> Controller<D, A> {
     /// Puts this device in place of a declared resource's own, which is dropped. What the new device contains now counts as what
     /// the resource contained from the opening on, and its count of failures becomes the resource's; all else stays.
     ///
-    /// Fails with `Busy` if an activation of the resource is live, else with `Used` if a line, also an earlier one, asked its device, or may
-    /// have asked it before the state at which the controller was opened, and else with `OtherLaw` if the new device has another law. The
-    /// new device then comes back, and the controller is as it was.
+    /// Fails with `Busy` if an activation of the resource is live, else with `Used` if a line, also an earlier one, asked its device, or
+    /// may have asked it before the state at which the controller was opened, and else with `OtherLaw` if the new device has another law.
+    /// The new device then comes back, and the controller is as it was.
     ///
     /// Allocates nothing. The cost is that of a look at each live activation, and at each number in the device.
     pub fn replace(&mut self, resource: ResId, device: D) -> Result<(), (ReplaceFault, D)>

@@ -142,7 +142,8 @@ pub record AreSound (parts : PartsValue) (room lines : ℕ) : Type 0 where
   pub laws : laws_of parts.devices.states ≡ declared_laws parts.declaration
   pub marks : length parts.devices.asked ≡ length parts.declaration.resources
 
--- the parts agree with all lines, and these are the segments of an honest journal, behind lines that came before over these opening contents
+-- the parts agree with all lines, and these are the segments of an honest journal, behind lines that came before over these opening
+-- contents
 pub record AreTrueTo (parts : PartsValue) (room : ℕ) (openings : List (List ℕ)) (before : List Line) (past : Lines) : Type 0 where
   pub left : IsLeftBy parts.present (contents parts.devices) parts.declaration openings ((before ++ joined past.earlier) ++ past.present)
   pub segments : AreHonestFrom parts.declaration room openings before (past.earlier ++ past.present ∷ [])
@@ -153,8 +154,8 @@ AreMarked d asked past =
     (r : ℕ) → r < length d.resources
     → (slice_index_or asked r false ≡ true) ↔ WasAsked d past.opened (joined past.earlier ++ past.present) r
 
--- what always holds of a controller: its parts are sound, and agree with all lines, whichever came before; the present ones are counted; and
--- there are places for the numbers of any device that may replace another
+-- what always holds of a controller: its parts are sound, and agree with all lines, whichever came before; the present ones are counted;
+-- and there are places for the numbers of any device that may replace another
 pub record IsTold (parts : PartsValue) (room : ℕ) (rows : List Row) (past : Lines) (count : ℕ) : Type 0 where
   pub sound : AreSound parts room count
   pub marked : AreMarked parts.declaration parts.devices.asked past
