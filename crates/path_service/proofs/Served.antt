@@ -1,10 +1,29 @@
 -- A step of a service is one of its controller, behind which the line is kept or given up.
-use Rattle.std.proofs.Common.{◌≡◌, ◌∙◌, ℕ, Bool, ap, subst, sym}
+use Rattle.std.proofs.Common.{◌≡◌, ◌≢◌, ◌∙◌, ℕ, Bool, None, ap, subst, sym}
 use Rattle.path_model.specs.declared.journal.Attempt.{Attempt}
 use Rattle.path_model.specs.declared.journal.Reply.{Reply}
-use Rattle.path_system.specs.Accounts.{Account}
+use Rattle.path_model.specs.declared.journal.Reply.TheVariants.{DeviceFailed}
+use Rattle.path_model.specs.Asked.{resource_asked}
+use Rattle.path_model.specs.Journals.{with_line}
+use Rattle.path_model.specs.Segments.{OwedBehind}
+use Rattle.path_system.specs.Accounts.{Account, StayBut}
+use Rattle.path_system.specs.Before.{BehindEach, earlier_behind, lines_behind}
+use Rattle.path_system.proofs.CallerLemmas.{of_system}
 use Rattle.path_service.specs.Services.{IsServed, IsStep}
 use Rattle.path_service.specs.Serving.{Serving, settled}
+
+-- a step of a controller that was opened at no state
+pub stepped : (old new : Account) (worker : ℕ) (attempt : Attempt) (reply : Reply) → old.opened ≡ None
+    → BehindEach old (λ openings before. OwedBehind old.declaration old.room openings (earlier_behind before old) old.journal worker attempt reply)
+    → new ≡ record old { journal = with_line old.journal worker attempt reply; failures = new.failures }
+    → BehindEach old (λ openings before. StayBut (resource_asked old.declaration (lines_behind before old) attempt reply) old.failures new.failures)
+    → reply ≢ DeviceFailed → IsStep old worker attempt reply new
+stepped old new worker attempt reply first owed line failures served = record {
+  owed = of_system old first _ owed;
+  line = line;
+  failures = of_system old first _ failures;
+  served = served;
+}
 
 module _ (old : Serving) (worker : ℕ) (attempt : Attempt) (reply : Reply) where
   pub served : (account behind new : Account) (keeps kept : Bool) → record { account = account; keeps = keeps } ≡ old → keeps ≡ kept → IsStep account worker attempt reply behind

@@ -92,7 +92,7 @@ every_schedule_ends_done : EveryScheduleEndsDone declaration plans
 every_schedule_ends_done ls schedule = record { unstalled = unstalled ls; unrefused = unrefused ls }
 
 abbrev before : Account
-before = record { declaration = declaration; room = 4; openings = own_openings declaration; earlier = []; journal = []; failures = 0 ∷ [] }
+before = record { declaration = declaration; room = 4; opened = None; openings = own_openings declaration; earlier = []; journal = []; failures = 0 ∷ [] }
 
 abbrev journal : List Line
 journal = line_of 0 (Start visit) (Started first) ∷ line_of 0 (Finish first) Finished ∷ []
