@@ -16,4 +16,5 @@ pub loop-n-preserved : goal.loop-n-preserved
 loop-n-preserved g c =
     let first = c.loop-n.invariant.is_system.first in
     one_taken c.args.system.now c.args.lines.now c.loop-n.n _ c.loop-n.system c.take_over.new.self c.loop-n-test.true c.loop-n.invariant
-    (of_system _ first _ c.in_default.ensures.taken.each) (is_system_of _ (taken_first _ first _ _ c.in_default.ensures.taken) c.in_default.ensures.controlled)
+    (of_system c.loop-n.system first _ c.in_default.ensures.taken.each)
+    (is_system_of c.take_over.new.self (taken_first c.loop-n.system first _ _ c.in_default.ensures.taken) c.in_default.ensures.controlled)
