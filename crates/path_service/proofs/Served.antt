@@ -1,18 +1,28 @@
 -- A step of a service is one of its controller, behind which the line is kept or given up.
-use Rattle.std.proofs.Common.{◌≡◌, ◌≢◌, ◌∙◌, ℕ, Bool, None, ap, subst, sym}
+use Rattle.std.proofs.Common.{◌≡◌, ◌≢◌, ◌∙◌, ℕ, Bool, List, None, ap, subst, sym}
 use Rattle.path_model.specs.declared.journal.Attempt.{Attempt}
+use Rattle.path_model.specs.declared.journal.Line.{Line}
 use Rattle.path_model.specs.declared.journal.Reply.{Reply}
 use Rattle.path_model.specs.declared.journal.Reply.TheVariants.{DeviceFailed}
 use Rattle.path_model.specs.Asked.{resource_asked}
 use Rattle.path_model.specs.Journals.{with_line}
 use Rattle.path_model.specs.Segments.{OwedBehind}
-use Rattle.path_system.specs.Accounts.{Account, StayBut}
+use Rattle.path_system.specs.Accounts.{Account, IsSystem, StayBut, rotated}
 use Rattle.path_system.specs.Before.{BehindEach, earlier_behind, lines_behind}
-use Rattle.path_system.proofs.CallerLemmas.{of_system}
+use Rattle.path_system.specs.Controllers.{IsControlled}
+use Rattle.path_system.proofs.CallerLemmas.{is_system_of, of_system}
 use Rattle.path_service.specs.Services.{IsServed, IsStep}
 use Rattle.path_service.specs.Serving.{Serving, settled}
 
--- a step of a controller that was opened at no state
+-- a controller that was opened at no state is a system where its lines go on, and behind a rotation
+pub gone_on : (old new : Account) (lines : List Line) (failures : List ℕ) → old.opened ≡ None → new ≡ record old { journal = lines; failures = failures }
+    → IsControlled new → IsSystem new
+gone_on old new lines failures first is controlled = is_system_of new (ap (λ (a : Account). a.opened) is ∙ first) controlled
+
+pub turned : (old new : Account) → old.opened ≡ None → new ≡ rotated old → IsControlled new → IsSystem new
+turned old new first is controlled = is_system_of new (ap (λ (a : Account). a.opened) is ∙ first) controlled
+
+-- a step of such a controller
 pub stepped : (old new : Account) (worker : ℕ) (attempt : Attempt) (reply : Reply) → old.opened ≡ None
     → BehindEach old (λ openings before. OwedBehind old.declaration old.room openings (earlier_behind before old) old.journal worker attempt reply)
     → new ≡ record old { journal = with_line old.journal worker attempt reply; failures = new.failures }

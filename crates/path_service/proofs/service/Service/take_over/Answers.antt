@@ -1,8 +1,12 @@
 -- The line is kept or given up.
-use Rattle.std.proofs.Common.{◌≡◌, ◌∙◌, ap, sym, true, false}
+use Rattle.std.proofs.Common.{◌≡◌, ◌∙◌, None, ap, rules, sym, subst, true, false}
 use Rattle.std.specs.Prelude.{is_some}
-use Rattle.path_service.specs.Serving.{settled}
-use Rattle.path_system.proofs.CallerLemmas.{of_system}
+use Rattle.path_system.specs.Accounts.{Account}
+use Rattle.path_system.proofs.CallerLemmas.{of_system, take_fault, taken_first}
+use Rattle.tell_base.proofs.CallerLemmas.{unfailing}
+use Rattle.path_service.specs.Inner.{IsReady}
+use Rattle.path_service.specs.Serving.{Serving, settled}
+use Rattle.path_service.proofs.Served.{gone_on, turned}
 use Rattle.path_service.proofs.service.Service.take_over.Goals as goal
 
 pub returns-in-None-clause-taken : goal.returns-in-None-clause-taken
@@ -22,3 +26,41 @@ returns-in-Some-clause-taken c =
       taken = of_system c.self.inside.controller c.self.invariant.system.first _ c.in-Ok.ensures.taken.each;
       left = λ i. record { account = settled (some i) c.take_over.new.self; keeps = some i };
     })
+
+pub returns-in-Err-NotOwed-clause-owed : goal.returns-in-Err-NotOwed-clause-owed
+returns-in-Err-NotOwed-clause-owed c =
+    let told = take_fault c.self.inside.controller c.self.invariant.system.first _ _ _ _ (rw c.in-Err-NotOwed.field-0-is at c.in-Err-NotOwed.ensures.fault) in
+    rw (← c.self.view_is) (record { other = told.other; owed = record { owed = told.owed; served = told.served } })
+
+pub returns-in-Err-NotOwed-clause-kept : goal.returns-in-Err-NotOwed-clause-kept
+returns-in-Err-NotOwed-clause-kept c =
+    let fault = rw c.in-Err-NotOwed.field-0-is at c.in-Err-NotOwed.ensures.fault in
+    ap (λ (a : Account). let s : Serving = record { account = a; keeps = is_some c.self.inside.lines } in s) fault.kept.1 ∙ c.self.view_is
+
+pub invariant_of-self : goal.invariant_of-self
+invariant_of-self c =
+    let fault = rw c.in-Err-NotOwed.field-0-is at c.in-Err-NotOwed.ensures.fault in
+    subst (λ (a : Account). IsReady a c.self.inside.lines c.self.inside.order) (sym fault.kept.1) c.self.invariant
+
+pub unreachable-unreachable : goal.unreachable-unreachable
+unreachable-unreachable c =
+    let fault = rw c.in-Err-DeviceFailed.field-0-is at c.in-Err-DeviceFailed.ensures.fault in
+    unfailing fault.kept.0
+
+pub invariant_of-self-in-None : goal.invariant_of-self-in-None
+invariant_of-self-in-None c =
+    let first : c.take_over.new.self.opened ≡ None = taken_first c.self.inside.controller c.self.invariant.system.first _ _ c.in-Ok.ensures.taken in
+    record {
+      system = turned c.take_over.new.self c.rotate.new.self first c.rotate.ensures.rotated c.rotate.ensures.controlled;
+      logged = search rules;
+      ordered = search rules;
+    }
+
+pub invariant_of-self-in-Some : goal.invariant_of-self-in-Some
+invariant_of-self-in-Some c =
+    let taken = of_system c.self.inside.controller c.self.invariant.system.first _ c.in-Ok.ensures.taken.each in
+    record {
+      system = gone_on c.self.inside.controller c.take_over.new.self _ _ c.self.invariant.system.first taken.written c.in-Ok.ensures.controlled;
+      logged = search rules;
+      ordered = search rules;
+    }
