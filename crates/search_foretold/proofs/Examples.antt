@@ -138,6 +138,7 @@ visit_finishes = OwedToFinish.finished (record { act = first; worker = 0; op = v
 
 system : IsSystem after
 system = record {
+  first = refl;
   lawful = lawful;
   good_room = (omega arith, omega arith);
   honest = ((visit_starts, (λ e. cc), (visit_finishes, (λ e. cc), tt)), tt);
