@@ -9,10 +9,10 @@ pub returns : goal.returns
 returns g c =
     let present = c.in_ok-present.present in
     record {
-  startable = present.startable.items;
-  blocked = present.blocked.items;
-  live = present.live.items;
-  frozen = present.frozen;
-  told = rw c.requires.whole at (of_system c.args.system.now c.requires.first _ c.in_ok-present.ensures);
-  spelled = (rw (c.as_bytes.ensures.value, c.requires.empty) at c.in_ok-extend_from_slice.ensures.items) ∙ c.in_ok-text.ensures ∙ ap (λ (d : Declaration). report_text d present.startable.items present.blocked.items present.live.items present.frozen) c.decl.ensures;
-}
+      startable = present.startable.items;
+      blocked = present.blocked.items;
+      live = present.live.items;
+      frozen = present.frozen;
+      told = rw c.requires.whole at (of_system c.args.system.now c.requires.first _ c.in_ok-present.ensures);
+      spelled = (rw (c.as_bytes.ensures.value, c.requires.empty) at c.in_ok-extend_from_slice.ensures.items) ∙ c.in_ok-text.ensures ∙ ap (λ (d : Declaration). report_text d present.startable.items present.blocked.items present.live.items present.frozen) c.decl.ensures;
+    }
