@@ -1,12 +1,12 @@
 -- The line is kept or given up.
-use Rattle.std.proofs.Common.{◌≡◌, ◌∙◌, None, ap, rules, sym, subst, true, false}
+use Rattle.std.proofs.Common.{◌≡◌, ◌∙◌, None, ap, arith, rules, sym, subst, true, false}
 use Rattle.std.specs.Prelude.{is_some}
 use Rattle.path_system.specs.Accounts.{Account}
 use Rattle.path_system.proofs.CallerLemmas.{of_system, take_fault, taken_first}
 use Rattle.tell_base.proofs.CallerLemmas.{unfailing}
 use Rattle.path_service.specs.Inner.{IsReady}
 use Rattle.path_service.specs.Serving.{Serving, settled}
-use Rattle.path_service.proofs.Served.{gone_on, turned}
+use Rattle.path_service.proofs.Served.{gone_on, has_a_place, turned}
 use Rattle.path_service.proofs.service.Service.take_over.Goals as goal
 
 pub returns-in-None-clause-taken : goal.returns-in-None-clause-taken
@@ -30,7 +30,7 @@ returns-in-Some-clause-taken c =
 pub returns-in-Err-NotOwed-clause-owed : goal.returns-in-Err-NotOwed-clause-owed
 returns-in-Err-NotOwed-clause-owed c =
     let told = take_fault c.self.inside.controller c.self.invariant.system.first _ _ _ _ (rw c.in-Err-NotOwed.field-0-is at c.in-Err-NotOwed.ensures.fault) in
-    rw (← c.self.view_is) (record { other = told.other; owed = record { owed = told.owed; served = told.served } })
+    rw (← c.self.view_is, c.in-Err-NotOwed.field-0-is) (record { other = told.other; owed = record { owed = told.owed; served = told.served } })
 
 pub returns-in-Err-NotOwed-clause-kept : goal.returns-in-Err-NotOwed-clause-kept
 returns-in-Err-NotOwed-clause-kept c =
@@ -46,6 +46,12 @@ pub unreachable-unreachable : goal.unreachable-unreachable
 unreachable-unreachable c =
     let fault = rw c.in-Err-DeviceFailed.field-0-is at c.in-Err-DeviceFailed.ensures.fault in
     unfailing fault.kept.0
+
+pub push_reserved-requires : goal.push_reserved-requires
+push_reserved-requires c =
+    let taken = of_system c.self.inside.controller c.self.invariant.system.first _ c.in-Ok.ensures.taken.each in
+    let roomy = has_a_place c.self.inside.controller c.take_over.new.self c.self.inside.lines _ c.args.line c.in-Some.is c.self.invariant.logged taken c.in-Ok.ensures.controlled in
+    omega (arith, roomy)
 
 pub invariant_of-self-in-None : goal.invariant_of-self-in-None
 invariant_of-self-in-None c =
