@@ -39,6 +39,7 @@ fn explained_behind<A: Allocator + Copy>(
     behind: Behind<A>,
     attempts: &[u8],
 ) -> Result<String<A>, Fault<'static>>
+    requires { behind.system.opened ≡ None }
     ensures ok { IfOk result (λ text. IsExplanationBy (MayFail (own_state {Y = A})) behind.system attempts.now (string_bytes text)) }
     ensures err { IfErr result (λ fault. RefusesText ⊥ (IsBadAttempts behind.system.declaration attempts.now) (status_of fault)) }
 {

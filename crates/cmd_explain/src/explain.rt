@@ -1,6 +1,6 @@
 //! From bytes to bytes: a declaration, or attempts under it, in words.
 
-ghost use Rattle.std.specs.Prelude.{◌≡◌, [], map, IfOk, IfErr, OnOk};
+ghost use Rattle.std.specs.Prelude.{◌≡◌, None, [], map, IfOk, IfErr, OnOk};
 ghost use Rattle.std.specs.String.{string_bytes};
 ghost use Rattle.path_model.specs.Declarations.{paths_of};
 ghost use Rattle.path_shelf.specs.States.{MayFail};
@@ -105,6 +105,7 @@ fn push_step<D: Device, A: Allocator + Copy>(
     attempt: Attempt,
     told: &mut Told<A>,
 ) -> Result<(), OutOfMemory>
+    requires { system.old.opened ≡ None }
     ensures { OnOk result (IsExplainedStep (MayFail D.state) system.old system.new number worker attempt
         (string_bytes told.old.text) (string_bytes told.new.text)) }
 {
@@ -130,7 +131,8 @@ fn steps<D: Device, A: Allocator + Copy>(
     entries: &[(u32, Attempt)],
     told: &mut Told<A>,
 ) -> Result<(), OutOfMemory>
-    requires { string_bytes told.old.text ≡ [] }
+    requires first { system.old.opened ≡ None }
+    requires empty { string_bytes told.old.text ≡ [] }
     ensures { OnOk result (AreExplained (MayFail D.state) system.old entries.now system.new.journal (string_bytes told.new.text)) }
 {
     for (i, entry) in entries.iter().enumerate() {
@@ -149,6 +151,7 @@ pub fn explained<D: Device, A: Allocator + Copy>(
     is_behind: bool,
     entries: &[(u32, Attempt)],
 ) -> Result<String<A>, Fault<'static>>
+    requires { system.old.opened ≡ None }
     ensures memory { IfErr result (λ fault. fault ≡ Fault.OutOfMemory) }
     ensures ok { IfOk result (λ text. IsExplanation (MayFail D.state) system.old entries.now (string_bytes text)) }
 {

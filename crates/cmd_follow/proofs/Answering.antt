@@ -1,5 +1,5 @@
 -- What answers a line, and why one is refused.
-use Rattle.std.proofs.Common.{◌≡◌, ℕ, Bool, List, [], ◌∷◌, ◌++◌, codes, inl, inr, refl, sym, ap, ◌∙◌, subst}
+use Rattle.std.proofs.Common.{◌≡◌, ℕ, Bool, List, [], ◌∷◌, ◌++◌, append_assoc, codes, inl, inr, refl, sym, ap, ◌∙◌, subst}
 use Rattle.std.proofs.lemmas.List.{append-nil}
 use Rattle.path_model.specs.declared.journal.Attempt.{Attempt}
 use Rattle.path_model.specs.declared.journal.Line.{Line}
@@ -26,6 +26,11 @@ use Rattle.cmd_follow.specs.Inner.Taken.{Answers, IfAnswered, IfRefused, TookLin
 own_first : (line text : List ℕ) → HasNone 10 text → IsFirstLine line text → text ≡ line
 own_first line text one (none, inl is) = is
 own_first line text one (none, inr (rest, is)) = absurd (cut_none 10 line rest (subst (λ x. HasNone 10 x) is one))
+
+-- a text has grown by a line, and by the reply to it with a line feed
+pub grown_by : (old line more all reply : List ℕ) → more ≡ old ++ line → all ≡ more ++ (codes ": " ++ (reply ++ 10 ∷ []))
+    → all ≡ old ++ ((line ++ (codes ": " ++ reply)) ++ 10 ∷ [])
+grown_by old line more all reply a b = rw (b, a) (simp append_assoc refl)
 
 pub answers_report : (may_fail : Type 0) (a : Account) (line bytes : List ℕ) → line ≡ 63 ∷ [] → IsReportText a.declaration a.journal bytes
     → Answers may_fail a a line bytes

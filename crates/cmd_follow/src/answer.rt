@@ -1,6 +1,6 @@
 //! What answers a line.
 
-ghost use Rattle.std.specs.Prelude.{◌≡◌, ◌++◌, [], List, IfOk, OnOk};
+ghost use Rattle.std.specs.Prelude.{◌≡◌, ◌++◌, [], None, List, IfOk, OnOk};
 ghost use Rattle.path_model.specs.declared.journal.Line.{Line};
 ghost use Rattle.path_model.specs.Journals.{with_line};
 ghost use Rattle.path_fields.specs.Splits.{HasNone};
@@ -50,6 +50,7 @@ fn push_reply_to<D: Device, A: Allocator + Copy>(
     line: &[u8],
     told: &mut Vec<u8, A>,
 ) -> Result<Reply, OutOfMemory>
+    requires { system.old.opened ≡ None }
     ensures journal { IfOk result (λ reply. system.new.journal ≡ with_line system.old.journal worker attempt reply) }
     ensures answered { OnOk result (IsAnswered (MayFail D.state) system.old system.new worker attempt line.now
         told.old.items told.new.items) }
@@ -66,6 +67,7 @@ fn push_present<D: Device, A: Allocator + Copy>(
     system: &Controller<D, A>,
     told: &mut Vec<u8, A>,
 ) -> Result<(), OutOfMemory>
+    requires first { system.now.opened ≡ None }
     requires whole { system.now.earlier ≡ [] }
     requires empty { told.old.items ≡ [] }
     ensures { OnOk result (IsReportText system.now.declaration system.now.journal told.new.items) }
@@ -84,6 +86,7 @@ pub fn answer<D: Device, A: Allocator + Copy>(
     line: &[u8],
     told: &mut Vec<u8, A>,
 ) -> Result<Answered, OutOfMemory>
+    requires first { system.old.opened ≡ None }
     requires whole { system.old.earlier ≡ [] }
     requires one { HasNone 10 line.now }
     ensures answered { IfOk result (λ a. IfAnswered a

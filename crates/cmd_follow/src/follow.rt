@@ -1,6 +1,6 @@
 //! From a reader of attempts to the answers, one after the other.
 
-ghost use Rattle.std.specs.Prelude.{◌≡◌, ◌≢◌, ◌⊎◌, true, false, List, [], map, IfOk, IfErr, OnOk};
+ghost use Rattle.std.specs.Prelude.{◌≡◌, ◌≢◌, ◌⊎◌, true, false, List, [], None, map, IfOk, IfErr, OnOk};
 ghost use Rattle.std.specs.Io.KnownBytes.{Keeps};
 ghost use Rattle.path_model.specs.declared.journal.Line.{Line};
 ghost use Rattle.path_model.specs.Rooms.{IsBadRoom};
@@ -36,7 +36,8 @@ fn followed<D: Device, A: Allocator + Copy, K: Keeper, R: Read, O: Write, E: Wri
     out: &mut O,
     err: &mut E,
 ) -> Result<(), Stop>
-    requires { follower.old.system.earlier ≡ [] }
+    requires first { follower.old.system.opened ≡ None }
+    requires whole { follower.old.system.earlier ≡ [] }
     ensures ok { IfOk result (λ _. GaveAll (R.remaining input.old) (λ text. Through (MayFail D.state) follower.old.system text
         follower.old.refused follower.new.refused follower.new.system.journal (O.contents out.old) (O.contents out.new))) }
     ensures kept { (first : K) (found : List Line) → K.keeps first keeper.old found follower.old.system.journal
@@ -72,7 +73,8 @@ pub fn follow_kept<D: Device, A: Allocator + Copy, K: Keeper, R: Read, O: Write,
     out: &mut O,
     err: &mut E,
 ) -> Status
-    requires { system.earlier ≡ [] }
+    requires first { system.opened ≡ None }
+    requires whole { system.earlier ≡ [] }
     // Done: the answers to all lines were written, and the keeper has kept all lines of the journal.
     ensures done { result ≡ Status.Done → (end : List Line)
         × GaveAll (R.remaining input.old) (λ text.

@@ -1,6 +1,6 @@
 //! One line after the other.
 
-ghost use Rattle.std.specs.Prelude.{◌≡◌, ◌++◌, false, [], List, IfErr, OnOk};
+ghost use Rattle.std.specs.Prelude.{◌≡◌, ◌++◌, false, [], None, List, IfErr, OnOk};
 ghost use Rattle.std.specs.Io.KnownBytes.{Appends};
 ghost use Rattle.path_model.specs.declared.journal.Line.{Line};
 ghost use Rattle.path_fields.specs.Splits.{HasNone};
@@ -115,6 +115,7 @@ impl<D: Device, A: Allocator + Copy> Follower<D, A> {
         out: &mut O,
         err: &mut E,
     ) -> Result<(), Stop>
+        requires first { self.old.system.opened ≡ None }
         requires whole { self.old.system.earlier ≡ [] }
         requires one { HasNone 10 line.now }
         ensures ok { OnOk result (Takes (MayFail D.state) self.old.system self.new.system line.now self.old.refused self.new.refused
@@ -151,6 +152,7 @@ impl<D: Device, A: Allocator + Copy> Follower<D, A> {
         out: &mut O,
         err: &mut E,
     ) -> Result<(), Stop>
+        requires first { self.old.system.opened ≡ None }
         requires whole { self.old.system.earlier ≡ [] }
         requires one { HasNone 10 pending.old.items }
         ensures one { OnOk result (HasNone 10 pending.new.items) }

@@ -1,6 +1,6 @@
 //! Follows whose lines stand in a file.
 
-ghost use Rattle.std.specs.Prelude.{◌≡◌, ◌≢◌, ◌⊎◌, ◌++◌, ◌∷◌, [], true, false, List, ℕ, IfNone, IfOk, IfErr, OnOk, OnErr};
+ghost use Rattle.std.specs.Prelude.{◌≡◌, ◌≢◌, ◌⊎◌, ◌++◌, ◌∷◌, [], None, true, false, List, ℕ, IfNone, IfOk, IfErr, OnOk, OnErr};
 ghost use Rattle.std.specs.Io.KnownBytes.{Keeps};
 ghost use Rattle.path_model.specs.declared.journal.Line.{Line};
 ghost use Rattle.path_model.specs.Rooms.{IsRoom};
@@ -115,6 +115,7 @@ fn go_on<D: path_shelf::Device, A: Allocator + Copy>(
     system: &mut Controller<D, A>,
     lines: &[Line],
 ) -> Option<(usize, TakeFault)>
+    requires { system.old.opened ≡ None }
     ensures { IfNone result (GoesOn system.old system.new × (system.new.journal ≡ system.old.journal ++ lines.now)) }
 {
     for (n, line) in lines.iter().enumerate() {

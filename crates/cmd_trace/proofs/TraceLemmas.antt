@@ -28,6 +28,11 @@ pub record AnswersSoFar (may_fail : Type 0) (start now : Account) (text rest byt
   pub rest_stays : now ≡ record start { journal = now.journal; failures = now.failures }
   pub forth : (es : List Entry) (end : List Line) (bs : List ℕ) → Traced start.declaration start.room start.openings (joined start.earlier) may_fail now.journal es end bs → Traced start.declaration start.room start.openings (joined start.earlier) may_fail start.journal (done ++ es) end (bytes ++ bs)
 
+-- a text has grown by a line, and by the reply to it with a line feed
+pub grown_by : (old line more all reply : List ℕ) → more ≡ old ++ line → all ≡ more ++ (codes ": " ++ (reply ++ 10 ∷ []))
+    → all ≡ old ++ ((line ++ (codes ": " ++ reply)) ++ 10 ∷ [])
+grown_by old line more all reply a b = rw (b, a) (simp append_assoc refl)
+
 pub answers_none : (may_fail : Type 0) (start : Account) (text bytes : List ℕ) → bytes ≡ [] → AnswersSoFar may_fail start start text text bytes 0
 answers_none may_fail start text bytes none = record {
   done = [];

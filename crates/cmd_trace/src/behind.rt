@@ -1,6 +1,6 @@
 //! Traces of a system that goes on behind a journal.
 
-ghost use Rattle.std.specs.Prelude.{◌≡◌, map, IfOk, IfErr};
+ghost use Rattle.std.specs.Prelude.{◌≡◌, None, map, IfOk, IfErr};
 ghost use Rattle.path_shelf.specs.Own.{own_state};
 ghost use Rattle.path_shelf.specs.States.{MayFail};
 ghost use Rattle.tell_base.specs.Ends.{Ends, RefusesText};
@@ -24,6 +24,7 @@ fn traced_on<A: Allocator + Copy>(
     attempts: &[u8],
     made: &mut Made,
 ) -> Result<Vec<u8, A>, Fault<'static>>
+    requires { behind.system.opened ≡ None }
     ensures ok { IfOk result (λ bytes. IsToldBy (MayFail (own_state {Y = A})) behind.system report attempts.now bytes.items) }
     ensures err { IfErr result (λ fault. RefusesText ⊥ (IsBadAttempts behind.system.declaration attempts.now) (status_of fault)) }
 {

@@ -1,6 +1,6 @@
 //! From bytes to bytes: attempts in, each with its reply out, and a report of the system at the end.
 
-ghost use Rattle.std.specs.Prelude.{◌≡◌, ◌≢◌, ◌≤◌, ◌++◌, length, map, IfOk, IfErr, IfSome, IfNone, OnOk};
+ghost use Rattle.std.specs.Prelude.{◌≡◌, ◌≢◌, ◌≤◌, ◌++◌, length, map, None, IfOk, IfErr, IfSome, IfNone, OnOk};
 ghost use Rattle.path_model.specs.Rooms.{IsBadRoom};
 ghost use Rattle.path_model.specs.Segments.{joined};
 ghost use Rattle.path_shelf.specs.States.{MayFail, laws_of};
@@ -66,6 +66,7 @@ fn answer<D: Device, A: Allocator + Copy>(
     trace: &mut Vec<u8, A>,
     made: &mut Made,
 ) -> Result<(), Fault<'static>>
+    requires { system.old.opened ≡ None }
     ensures ok { OnOk result (IsAnswered (MayFail D.state) system.old system.new worker attempt line.now trace.old.items trace.new.items) }
     ensures memory { IfErr result (λ fault. fault ≡ Fault.OutOfMemory) }
 {
@@ -84,10 +85,12 @@ fn answers<D: Device, A: Allocator + Copy>(
     attempts: &[u8],
     made: &mut Made,
 ) -> Result<Vec<u8, A>, Fault<'static>>
-    requires { length attempts.now ≤ LIMIT }
+    requires short { length attempts.now ≤ LIMIT }
+    requires first { system.old.opened ≡ None }
     ensures ok { IfOk result (λ bytes.
         IsTraceBy (MayFail D.state) system.old attempts.now system.new.journal bytes.items) }
     ensures declaration { OnOk result (system.new.declaration ≡ system.old.declaration) }
+    ensures opened { OnOk result (system.new.opened ≡ system.old.opened) }
     ensures earlier { OnOk result (system.new.earlier ≡ system.old.earlier) }
     ensures err { IfErr result (λ fault. RefusesText ⊥ (IsBadAttempts system.old.declaration attempts.now) (status_of fault)) }
 {
@@ -115,6 +118,7 @@ fn push_report_if<D: Device, A: Allocator + Copy>(
     report: bool,
     trace: &mut Vec<u8, A>,
 ) -> Result<(), OutOfMemory>
+    requires { system.now.opened ≡ None }
     ensures { OnOk result (GrowsByReport system.now.declaration (joined system.now.earlier ++ system.now.journal) report
         trace.old.items trace.new.items) }
 {
@@ -134,7 +138,8 @@ pub fn replies_and_report<D: Device, A: Allocator + Copy>(
     attempts: &[u8],
     made: &mut Made,
 ) -> Result<Vec<u8, A>, Fault<'static>>
-    requires { length attempts.now ≤ LIMIT }
+    requires short { length attempts.now ≤ LIMIT }
+    requires first { system.old.opened ≡ None }
     ensures ok { IfOk result (λ bytes. IsToldBy (MayFail D.state) system.old report attempts.now bytes.items) }
     ensures err { IfErr result (λ fault. RefusesText ⊥ (IsBadAttempts system.old.declaration attempts.now) (status_of fault)) }
 {

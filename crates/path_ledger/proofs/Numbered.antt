@@ -1,5 +1,5 @@
 -- Activations whose numbers ascend: the index of one, and that one more or one less keeps the order.
-use Rattle.std.proofs.Common.{◌≡◌, ◌≢◌, ℕ, ◌+◌, ◌<◌, ◌≤◌, suc, zero, List, [], ◌∷◌, ◌++◌, length, get_or, arith, refl, ap, sym, Result, Ok, Err, inl, inr}
+use Rattle.std.proofs.Common.{◌≡◌, ◌≢◌, ℕ, ◌+◌, ◌<◌, ◌≤◌, suc, zero, List, [], ◌∷◌, ◌++◌, length, get_or, arith, refl, ap, sym, subst, take, Result, Ok, Err, inl, inr}
 use Rattle.std.specs.Prelude.{MatchOption}
 use Rattle.std.specs.Result.{result_ok}
 use Rattle.std.specs.List.{remove}
@@ -7,6 +7,7 @@ use Rattle.std.specs.List.Sorted.{IsSearchInRange, IsBinarySearchResult, IsNonDe
 use Rattle.std.specs.Ordering.{nat_cmp, ordering_index}
 use Rattle.std.proofs.lemmas.Cmp.{ranked}
 use Rattle.std.proofs.lemmas.List.Sorted.{IsNonDecreasingBy-from_default}
+use Rattle.std.proofs.lemmas.List.{take_more}
 use Rattle.std.proofs.lemmas.Bool.{cases_lt}
 use Rattle.std.proofs.lemmas.Bool.Decides.{nat_tests}
 use Rattle.path_model.specs.declared.ids.ActId.{ActId}
@@ -23,6 +24,44 @@ numbered_lower low low' (a ∷ live) end h n = (omega (arith, n.0), n.1)
 pub numbered_push : (low : ℕ) (live : List Activation) (end : ℕ) (a : Activation) → a.act.0 ≡ end → AreNumberedFrom low live end → AreNumberedFrom low (live ++ a ∷ []) (end + 1)
 numbered_push low [] end a is n = (omega arith, omega arith)
 numbered_push low (b ∷ live) end a is n = (n.0, numbered_push (b.act.0 + 1) live end a is n.1)
+
+-- with more left behind the last
+pub numbered_raise : (low : ℕ) (live : List Activation) (end more : ℕ) → end ≤ more → AreNumberedFrom low live end → AreNumberedFrom low live more
+numbered_raise low [] end more h n = omega (arith, n, h)
+numbered_raise low (a ∷ live) end more h n = (n.0, numbered_raise (a.act.0 + 1) live end more h n.1)
+
+-- the last is below the end
+last_below : (low : ℕ) (live : List Activation) (a : Activation) (end : ℕ) → AreNumberedFrom low (live ++ a ∷ []) end → a.act.0 + 1 ≤ end
+last_below low [] a end n = n.1
+last_below low (b ∷ live) a end n = last_below (b.act.0 + 1) live a end n.1
+
+-- the numbers ascend, and this is the least that is above them all
+pub record EndsLeast (live : List Activation) (end : ℕ) : Type 0 where
+  pub numbered : AreNumberedFrom 0 live end
+  pub least : (other : ℕ) → AreNumberedFrom 0 live other → end ≤ other
+
+pub none_end : EndsLeast [] 0
+none_end = record { numbered = omega arith; least = λ other n. omega arith }
+
+-- one more, whose number isn't below it
+one_more_ends : (live : List Activation) (end : ℕ) (a : Activation) → EndsLeast live end → end ≤ a.act.0 → EndsLeast (live ++ a ∷ []) (a.act.0 + 1)
+one_more_ends live end a so_far above = record {
+  numbered = numbered_push 0 live a.act.0 a refl (numbered_raise 0 live end a.act.0 above so_far.numbered);
+  least = λ other n. last_below 0 live a other n;
+}
+
+pub ends_next : (live : List Activation) (i : ℕ) (d : Activation) (end : ℕ) → i < length live → EndsLeast (take i live) end → end ≤ (get_or live i d).act.0
+    → EndsLeast (take (i + 1) live) ((get_or live i d).act.0 + 1)
+ends_next live i d end within so_far above =
+    subst (λ xs. EndsLeast xs ((get_or live i d).act.0 + 1)) (sym (take_more live i d within)) (one_more_ends (take i live) end (get_or live i d) so_far above)
+
+-- a number that is below it isn't above those before
+pub too_low : (live : List Activation) (end number : ℕ) → EndsLeast live end → number < end → AreNumberedFrom 0 live number → ⊥
+too_low live end number so_far below numbered = let k = so_far.least number numbered in omega (arith, k, below)
+
+-- what follows one that is below a bound is within it
+pub next_within : (n bound : ℕ) → n < bound → n + 1 ≤ bound
+next_within n bound below = omega (arith, below)
 
 -- one leaves
 pub numbered_remove : (low : ℕ) (live : List Activation) (i end : ℕ) → AreNumberedFrom low live end → AreNumberedFrom low (remove live i) end

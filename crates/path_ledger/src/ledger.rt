@@ -1,8 +1,9 @@
 //! The live activations, in the order of their starts.
 
-ghost use Rattle.std.specs.Prelude.{◌≡◌, ◌<◌, ◌≤◌, [], ℕ, length, IfOk, OnOk, OnErr, MatchOption};
+ghost use Rattle.std.specs.Prelude.{◌≡◌, ◌+◌, ◌<◌, ◌≤◌, [], ℕ, length, IfOk, IfErr, OnOk, OnErr, MatchOption, IfSome, IfNone};
 ghost use Rattle.path_model.specs.Journals.{AreNumbered, activation_of, without};
-ghost use Rattle.path_ledger.specs.Ledgers.{IsNowhere, IsPlaceOf, one_begun, own_of};
+ghost use Rattle.path_ledger.specs.declared.ledger.HoldFault.TheVariants as faults;
+ghost use Rattle.path_ledger.specs.Ledgers.{IsHoldFault, IsMisplaced, IsNowhere, IsPlaceOf, one_begun, own_of};
 
 use crate::row::Row;
 use path_model::{ActId, Activation, OpId, OutOfMemory};
@@ -18,10 +19,32 @@ pub enum EndFault {
     NotYours,
 }
 
+/// Why a ledger can't begin with these activations.
+#[derive(Clone, Copy, Debug, PartialEq, Eq)]
+pub enum HoldFault {
+    /// There are more of them than the room.
+    TooMany,
+    /// The activation at this place, counted from 0, is the first whose number isn't above that of the one before it.
+    NotAscending(u32),
+    /// The activation at this place, counted from 0, is the first whose number wasn't given: it isn't below the next number.
+    NotGiven(u32),
+    /// An allocation failed.
+    OutOfMemory,
+}
+
+impl From<OutOfMemory> for HoldFault {
+    ghost from_gives = { λ _ fault. fault ≡ faults.OutOfMemory };
+
+    fn from(_error: OutOfMemory) -> HoldFault {
+        HoldFault::OutOfMemory
+    }
+}
+
 /// The activations that were begun and haven't ended, in the order of their starts.
 #[derive(Drop)]
 pub struct Ledger<A: Allocator + Copy = Global> {
     live: Row<A>,
+    first: u64,
     begun: u32,
     room: u32,
 }
@@ -31,9 +54,9 @@ impl<A: Allocator + Copy> Model for Ledger<A> {
 
     ghost Value = { Book };
 
-    ghost view = { λ l. record { live = l.live.items; begun = l.begun; room = l.room } };
+    ghost view = { λ l. record { live = l.live.items; first = l.first; begun = l.begun; room = l.room } };
 
-    ghost invariant = { λ l. IsKept l.live.items l.begun l.room l.live.room };
+    ghost invariant = { λ l. IsKept l.live.items l.first l.begun l.room l.live.room };
 }
 
 /// The index of the activation with this number, if there is one.
@@ -45,31 +68,84 @@ fn place_of(live: &[Activation], act: ActId) -> Option<usize>
         .ok()
 }
 
+/// What is wrong with the first activation whose number isn't above that of the one before it, or isn't below the next one; `None` if there
+/// is no such. The cost is that of a look at each.
+fn misplaced(live: &[Activation], next: u64) -> Option<HoldFault>
+    requires { length live.now < 4294967296 }
+    ensures some { IfSome result (IsMisplaced live.now next) }
+    ensures none { IfNone result (AreNumbered live.now next) }
+{
+    let mut low = 0;
+    for (place, activation) in live.iter().enumerate() {
+        if activation.act.0 < low {
+            return Some(HoldFault::NotAscending(place as u32));
+        }
+        if activation.act.0 >= next {
+            return Some(HoldFault::NotGiven(place as u32));
+        }
+        low = activation.act.0 + 1;
+    }
+    None
+}
+
 impl<A: Allocator + Copy> Ledger<A> {
     /// An empty ledger, in which `room` activations may be live at once. Allocates two places for each of them now, so no later call
     /// allocates. Fails only if allocation fails.
     pub fn with_room(alloc: A, room: u32) -> Result<Ledger<A>, OutOfMemory>
-        ensures { IfOk result (λ l. l ≡ record { live = []; begun = 0; room = room }) }
+        ensures { IfOk result (λ l. l ≡ record { live = []; first = 0; begun = 0; room = room }) }
     {
         let live = Row::with_room(alloc, room)?;
         Ok(Ledger {
             live,
+            first: 0,
             begun: 0,
             room,
         })
     }
 
-    /// Appends an activation of this worker and operation, and returns its number: how many were begun before it.
+    /// A ledger that begins with these activations, which others have begun, in the order of their starts. `next` is the number that the
+    /// next one gets; each number below it was given. In the ledger `room` activations may be live at once.
     ///
-    /// Fewer than `room` activations must be live, and fewer than 4,294,967,295 begun. Takes constant time, taken over many calls: one
-    /// call in many moves the live ones.
+    /// Fails with `TooMany` if they are more than the room; else with `NotAscending` or `NotGiven` for the first whose number isn't above
+    /// that of the one before it, or isn't below `next`; and else with `OutOfMemory`. Allocates as [`with_room`](Ledger::with_room) does.
+    /// The cost is that of a look at each.
+    pub fn holding(
+        alloc: A,
+        room: u32,
+        live: &[Activation],
+        next: u64,
+    ) -> Result<Ledger<A>, HoldFault>
+        ensures ok { IfOk result (λ l. l ≡ record { live = live.now; first = next; begun = 0; room = room }) }
+        ensures fault { IfErr result (IsHoldFault live.now next room) }
+    {
+        if live.len() > room as usize {
+            return Err(HoldFault::TooMany);
+        }
+        if let Some(fault) = misplaced(live, next) {
+            return Err(fault);
+        }
+        let live = Row::holding(alloc, room, live)?;
+        Ok(Ledger {
+            live,
+            first: next,
+            begun: 0,
+            room,
+        })
+    }
+
+    /// Appends an activation of this worker and operation, and returns its number, the [`next`](Ledger::next): how many were begun before
+    /// it, those before the ledger was made included.
+    ///
+    /// Fewer than `room` activations must be live, and fewer than 4,294,967,295 begun, and the next number must be below `u64::MAX`. Takes
+    /// constant time, taken over many calls: one call in many moves the live ones.
     pub fn begin(&mut self, worker: u32, op: OpId) -> ActId
         requires room { length self.old.live < self.old.room }
         requires number { self.old.begun < 4294967295 }
-        ensures number { result.0 ≡ self.old.begun }
+        requires next { self.old.first + self.old.begun < 18446744073709551615 }
+        ensures number { result.0 ≡ self.old.first + self.old.begun }
         ensures appended { self.new ≡ one_begun self.old (record { act = result; worker = worker; op = op }) }
     {
-        let act = ActId(u64::from(self.begun));
+        let act = ActId(self.next());
         self.live.push(Activation { act, worker, op });
         self.begun += 1;
         act
@@ -119,13 +195,20 @@ impl<A: Allocator + Copy> Ledger<A> {
         }
     }
 
-    /// The live activations, in the order of their starts; so their numbers ascend, and each is below `begun`.
+    /// The live activations, in the order of their starts; so their numbers ascend, and each is below the [`next`](Ledger::next).
     pub fn live(&self) -> &[Activation]
         ensures value { result.now ≡ self.now.live }
-        ensures numbered { AreNumbered self.now.live self.now.begun }
+        ensures numbered { AreNumbered self.now.live (self.now.first + self.now.begun) }
         ensures within { length self.now.live ≤ self.now.room }
     {
         self.live.as_slice()
+    }
+
+    /// The number of the next activation: how many were begun, those before the ledger was made included.
+    pub fn next(&self) -> u64
+        ensures value { result ≡ self.now.first + self.now.begun }
+    {
+        self.first + u64::from(self.begun)
     }
 
     /// How many activations were begun since the ledger was made.

@@ -4,4 +4,4 @@
 mod ledger;
 mod row;
 
-pub use ledger::{EndFault, Ledger};
+pub use ledger::{EndFault, HoldFault, Ledger};

@@ -56,6 +56,18 @@ impl<A: Allocator + Copy> Row<A> {
         })
     }
 
+    /// A row of these activations, for at most `room`. Allocates as [`with_room`](Row::with_room) does. Fails only if allocation fails.
+    pub fn holding(alloc: A, room: u32, items: &[Activation]) -> Result<Row<A>, OutOfMemory>
+        requires { length items.now ≤ room }
+        ensures { IfOk result (λ r. r ≡ record { items = items.now; room = room }) }
+    {
+        let mut row = Row::with_room(alloc, room)?;
+        for activation in items {
+            row.push(*activation);
+        }
+        Ok(row)
+    }
+
     /// Appends an activation; fewer than `room` must be in the row. Now and then it moves all of them, but never more than have left
     /// at the front since it did so last.
     pub fn push(&mut self, activation: Activation)

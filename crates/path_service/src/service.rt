@@ -196,7 +196,8 @@ impl Service {
 
     /// What steps it: it knows what is live, what may start, which room is left, and how many lines are kept.
     pub fn controller(&self) -> &Controller<OwnDevice>
-        ensures { result.now ≡ self.now.account }
+        ensures value { result.now ≡ self.now.account }
+        ensures system { IsSystem self.now.account }
     {
         &self.controller
     }

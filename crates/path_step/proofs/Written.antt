@@ -1,8 +1,9 @@
 -- With the line of a step, what is left is that of the journal.
-use Rattle.std.proofs.Common.{◌≡◌, ◌≢◌, ℕ, ◌<◌, Bool, true, false, cond, List, [], ◌∷◌, ◌++◌, All, length, get_or, arith, refl, ap, sym, subst, ◌∙◌, Option, Some, None, inl, inr, eq-eqb, ne_eqb}
-use Rattle.std.specs.Prelude.{◌==◌, not}
+use Rattle.std.proofs.Common.{◌≡◌, ◌≢◌, ℕ, ◌+◌, ◌<◌, ◌≤◌, Bool, true, false, cond, List, [], ◌∷◌, ◌++◌, All, length, get_or, arith, refl, ap, sym, subst, ◌∙◌, Option, Some, None, inl, inr, eq-eqb, ne_eqb}
+use Rattle.std.specs.Prelude.{◌==◌, ◌||◌, nat_le, not}
 use Rattle.std.proofs.Math.ListN.{set}
 use Rattle.std.proofs.lemmas.Bool.{cases_eq, cond-true, cond-false}
+use Rattle.std.proofs.lemmas.Bool.Decides.{nat_tests}
 use Rattle.std.proofs.lemmas.List.{length-set, get_or-set_same, get_or-set_other}
 use Rattle.std.proofs.lemmas.List.Elements.{All-cons, All-append, All-filter}
 use Rattle.path_model.specs.declared.ids.OpId.{OpId}
@@ -21,13 +22,15 @@ use Rattle.path_model.specs.Declarations.{Declaration, resource_of, law_of}
 use Rattle.path_model.specs.Devices.{Outcome, serves, refuses, outcome_of, contents_left}
 use Rattle.path_model.specs.Journals.{IsQuiet, activation_of, admitted_history, without}
 use Rattle.path_model.specs.Contents.{contents_after, line_applied, verb_applied}
-use Rattle.path_model.specs.Honest.{IsHonest}
-use Rattle.path_model.proofs.CallerLemmas.{begun_more, begun_quiet, live_quiet, history_quiet, contents_more, quiet_use, quiet_reply, line_of, honest_more, live_started, live_finished, live_found, history_started, history_finished}
+use Rattle.path_model.proofs.CallerLemmas.{begun_more, begun_quiet, live_quiet, history_quiet, contents_more, quiet_use, quiet_reply, line_of, honest_more, more_room_keeps_honest, live_started, live_finished, live_found, history_started, history_finished}
+use Rattle.path_model.specs.Places.{has_room, has_place, wanted_places}
 use Rattle.path_decl.specs.Lawful.{Lawful}
+use Rattle.path_gate.proofs.CallerLemmas.{both_left}
 use Rattle.path_gate.specs.Standings.{IsAt}
+use Rattle.path_state.specs.States.{WereOwed}
 use Rattle.path_step.specs.Steps.{Present, Register, Acts, held_at, MayStart, IsStarted, IsOver, MovesStart, MovesUse, MovesFinish, Moves, Answers, can_take}
-use Rattle.path_step.specs.Presents.{IsPresentOf}
-use Rattle.path_step.proofs.Answered.{owed_taken, found_live, resource_in}
+use Rattle.path_step.specs.Presents.{IsLeftBy}
+use Rattle.path_step.proofs.Answered.{owed_inside, found_live, resource_in}
 
 -- a refusal is none of the replies to what is served
 pub record IsRefusal (reply : Reply) : Type 0 where
@@ -70,16 +73,28 @@ refusal_of (Queue n) Look [] r is = refusal_by r Empty is empty
 refusal_of (Queue n) Look (x ∷ held) r is = absurd (cc)
 refusal_of (Queue n) (Add x) held r is = refusal_by r NotOffered is not_offered
 
-module _ (d : Declaration) (lawful : Lawful d) (old : Present) (before : List (List ℕ)) (room : ℕ) (openings : List (List ℕ)) (journal : List Line) (s : IsPresentOf old before d room openings journal) where
+or_more : (a b c : Bool) → (a ≡ true → b ≡ true) → (a || c) ≡ true → (b || c) ≡ true
+or_more true b c to e = ap (λ x. x || c) (to refl)
+or_more false true c to e = refl
+or_more false false c to e = e
+
+fits_more : (m room more : ℕ) → room ≤ more → nat_le m room ≡ true → nat_le m more ≡ true
+fits_more m room more wider fits = grind (arith, nat_tests)
+
+-- what has room has it in more, too
+roomier : (room more lines : ℕ) (live : List Activation) (w : ℕ) (attempt : Attempt) → room ≤ more → has_room room lines live w attempt ≡ true → has_room more lines live w attempt ≡ true
+roomier room more lines live w attempt wider has =
+    or_more _ _ (has_place live w attempt) (fits_more (lines + length live + wanted_places attempt) room more wider) has
+
+module _ (d : Declaration) (lawful : Lawful d) (old : Present) (before : List (List ℕ)) (room : ℕ) (openings : List (List ℕ)) (journal : List Line) (s : IsLeftBy old before d openings journal) where
   -- a line that moves nothing
   still_quiet : (w : ℕ) (attempt : Attempt) (reply : Reply) → IsQuiet w attempt reply
       → ((r : ℕ) → line_applied d r journal attempt reply (contents_after d openings journal r) ≡ contents_after d openings journal r)
-      → IsHonest d room openings (journal ++ line_of w attempt reply ∷ []) → IsPresentOf old before d room openings (journal ++ line_of w attempt reply ∷ [])
+      → WereOwed d openings (journal ++ line_of w attempt reply ∷ []) → IsLeftBy old before d openings (journal ++ line_of w attempt reply ∷ [])
   still_quiet w attempt reply quiet kept honest = record {
     honest = honest;
     paths = s.paths;
     at = subst (IsAt old.standing) (sym (history_quiet journal (line_of w attempt reply) quiet)) s.at;
-    admitted = s.admitted ∙ sym (begun_quiet journal (line_of w attempt reply) quiet);
     live = s.live ∙ sym (live_quiet journal (line_of w attempt reply) quiet);
     begun = s.begun ∙ sym (begun_quiet journal (line_of w attempt reply) quiet);
     declared = s.declared;
@@ -89,7 +104,7 @@ module _ (d : Declaration) (lawful : Lawful d) (old : Present) (before : List (L
 
   -- a start that was admitted
   now_started : (w : ℕ) (a : OpId) (n : ActId) (new : Present) → MayStart (length d.operations) old a n → IsStarted old w a n new
-      → IsHonest d room openings (journal ++ line_of w (Start a) (Started n) ∷ []) → IsPresentOf new before d room openings (journal ++ line_of w (Start a) (Started n) ∷ [])
+      → WereOwed d openings (journal ++ line_of w (Start a) (Started n) ∷ []) → IsLeftBy new before d openings (journal ++ line_of w (Start a) (Started n) ∷ [])
   now_started w a n new may m honest =
       let line : Line = line_of w (Start a) (Started n) in
       let begun = begun_more journal line in
@@ -97,8 +112,7 @@ module _ (d : Declaration) (lawful : Lawful d) (old : Present) (before : List (L
         honest = honest;
         paths = m.standing.paths ∙ s.paths;
         at = subst (IsAt new.standing) (sym (history_started journal w a n)) (m.standing.moved (admitted_history journal) s.at);
-        admitted = (let k = m.standing.admitted in let l = s.admitted in omega (arith, k, l, begun));
-        live = ap (λ b. b.live) m.register ∙ ap (λ xs. xs ++ record { act = n; worker = w; op = a } ∷ []) s.live ∙ sym (live_started d room openings journal s.honest w a n (may.number ∙ s.begun));
+        live = ap (λ b. b.live) m.register ∙ ap (λ xs. xs ++ record { act = n; worker = w; op = a } ∷ []) s.live ∙ sym (live_started d s.honest.0 openings journal s.honest.1 w a n (may.number ∙ s.begun));
         begun = (let k = ap (λ (b : Register). b.begun) m.register in let l = s.begun in omega (arith, k, l, begun));
         declared = subst (λ (b : Register). All (λ a. a.op.0 < length d.operations) b.live) (sym m.register)
             (All-append (λ (a : Activation). a.op.0 < length d.operations) old.register.live _ s.declared
@@ -109,7 +123,7 @@ module _ (d : Declaration) (lawful : Lawful d) (old : Present) (before : List (L
 
   -- a finish of one's own live activation
   now_over : (w : ℕ) (n : ActId) (a : Activation) (reply : Reply) (new : Present) → activation_of n old.register.live ≡ Some a → IsOver old n a reply new
-      → IsHonest d room openings (journal ++ line_of w (Finish n) Finished ∷ []) → IsPresentOf new before d room openings (journal ++ line_of w (Finish n) Finished ∷ [])
+      → WereOwed d openings (journal ++ line_of w (Finish n) Finished ∷ []) → IsLeftBy new before d openings (journal ++ line_of w (Finish n) Finished ∷ [])
   now_over w n a reply new is m honest =
       let line : Line = line_of w (Finish n) Finished in
       let found = found_live d lawful old before room openings journal s n (Some a) is in
@@ -118,7 +132,6 @@ module _ (d : Declaration) (lawful : Lawful d) (old : Present) (before : List (L
         honest = honest;
         paths = m.standing.paths ∙ s.paths;
         at = subst (IsAt new.standing) (sym (history_finished journal w n a found)) (m.standing.moved (admitted_history journal) s.at);
-        admitted = (let k = m.standing.admitted in let l = s.admitted in omega (arith, k, l, begun));
         live = ap (λ b. b.live) m.register ∙ ap (without n) s.live ∙ sym (live_finished journal w n);
         begun = (let k = ap (λ (b : Register). b.begun) m.register in let l = s.begun in omega (arith, k, l, begun));
         declared = subst (λ (b : Register). All (λ a. a.op.0 < length d.operations) b.live) (sym m.register)
@@ -131,8 +144,8 @@ module _ (d : Declaration) (lawful : Lawful d) (old : Present) (before : List (L
   now_used : (w : ℕ) (n : ActId) (verb : Verb) (reply : Reply) (r : ℕ) (left : List ℕ) → r < length d.resources
       → line_applied d r journal (Apply n verb) reply (contents_after d openings journal r) ≡ left
       → ((q : ℕ) → q ≢ r → line_applied d q journal (Apply n verb) reply (contents_after d openings journal q) ≡ contents_after d openings journal q)
-      → IsHonest d room openings (journal ++ line_of w (Apply n verb) reply ∷ [])
-      → IsPresentOf old (set before r left) d room openings (journal ++ line_of w (Apply n verb) reply ∷ [])
+      → WereOwed d openings (journal ++ line_of w (Apply n verb) reply ∷ [])
+      → IsLeftBy old (set before r left) d openings (journal ++ line_of w (Apply n verb) reply ∷ [])
   now_used w n verb reply r left inside here others honest =
       let line : Line = line_of w (Apply n verb) reply in
       let quiet = quiet_use w n verb reply in
@@ -140,7 +153,6 @@ module _ (d : Declaration) (lawful : Lawful d) (old : Present) (before : List (L
         honest = honest;
         paths = s.paths;
         at = subst (IsAt old.standing) (sym (history_quiet journal line quiet)) s.at;
-        admitted = s.admitted ∙ sym (begun_quiet journal line quiet);
         live = s.live ∙ sym (live_quiet journal line quiet);
         begun = s.begun ∙ sym (begun_quiet journal line quiet);
         declared = s.declared;
@@ -178,8 +190,8 @@ module _ (d : Declaration) (lawful : Lawful d) (old : Present) (before : List (L
   -- a resource that doesn't serve keeps what it contains
   now_unserved : (w : ℕ) (n : ActId) (verb : Verb) (a : Activation) (reply : Reply) (left : List ℕ) → activation_of n old.register.live ≡ Some a
       → left ≡ held_at before (resource_of d a.op.0) → ((x : ℕ) → reply ≢ Used x)
-      → IsHonest d room openings (journal ++ line_of w (Apply n verb) reply ∷ [])
-      → IsPresentOf old (set before (resource_of d a.op.0) left) d room openings (journal ++ line_of w (Apply n verb) reply ∷ [])
+      → WereOwed d openings (journal ++ line_of w (Apply n verb) reply ∷ [])
+      → IsLeftBy old (set before (resource_of d a.op.0) left) d openings (journal ++ line_of w (Apply n verb) reply ∷ [])
   now_unserved w n verb a reply left is kept other honest =
       let within = resource_in d lawful old before room openings journal s n a is in
       now_used w n verb reply (resource_of d a.op.0) left within
@@ -189,22 +201,22 @@ module _ (d : Declaration) (lawful : Lawful d) (old : Present) (before : List (L
   -- one that serves has what the law leaves
   now_served : (w : ℕ) (n : ActId) (verb : Verb) (a : Activation) (x : ℕ) (rest : List ℕ) (reply : Reply) (left : List ℕ) → activation_of n old.register.live ≡ Some a
       → outcome_of (law_of d (resource_of d a.op.0)) verb (held_at before (resource_of d a.op.0)) ≡ serves x rest → reply ≡ Used x → left ≡ rest
-      → IsHonest d room openings (journal ++ line_of w (Apply n verb) reply ∷ [])
-      → IsPresentOf old (set before (resource_of d a.op.0) left) d room openings (journal ++ line_of w (Apply n verb) reply ∷ [])
+      → WereOwed d openings (journal ++ line_of w (Apply n verb) reply ∷ [])
+      → IsLeftBy old (set before (resource_of d a.op.0) left) d openings (journal ++ line_of w (Apply n verb) reply ∷ [])
   now_served w n verb a x rest reply left is outcome told kept honest =
       let r : ℕ = resource_of d a.op.0 in
-      subst (λ y. IsPresentOf old (set before r left) d room openings (journal ++ line_of w (Apply n verb) y ∷ [])) (sym told)
+      subst (λ y. IsLeftBy old (set before r left) d openings (journal ++ line_of w (Apply n verb) y ∷ [])) (sym told)
       (now_used w n verb (Used x) r left (resource_in d lawful old before room openings journal s n a is)
       (applied_here n verb a x is ∙ ap (λ o. contents_left o (held_at before r)) outcome ∙ sym kept)
       (applied_other n verb a x is)
-      (subst (λ y. IsHonest d room openings (journal ++ line_of w (Apply n verb) y ∷ [])) told honest))
+      (subst (λ y. WereOwed d openings (journal ++ line_of w (Apply n verb) y ∷ [])) told honest))
 
   now_acted : (w : ℕ) (n : ActId) (verb : Verb) (a : Activation) (outcome : Outcome) (reply : Reply) (left : List ℕ) → activation_of n old.register.live ≡ Some a
       → outcome_of (law_of d (resource_of d a.op.0)) verb (held_at before (resource_of d a.op.0)) ≡ outcome
       → ((r : Reply) → outcome ≡ refuses r → IsRefusal r)
       → Acts outcome reply (held_at before (resource_of d a.op.0)) left
-      → IsHonest d room openings (journal ++ line_of w (Apply n verb) reply ∷ [])
-      → IsPresentOf old (set before (resource_of d a.op.0) left) d room openings (journal ++ line_of w (Apply n verb) reply ∷ [])
+      → WereOwed d openings (journal ++ line_of w (Apply n verb) reply ∷ [])
+      → IsLeftBy old (set before (resource_of d a.op.0) left) d openings (journal ++ line_of w (Apply n verb) reply ∷ [])
   now_acted w n verb a (serves x rest) reply left is outcome refusal acts honest = elim acts [
     | inl served ↦ now_served w n verb a x rest reply left is outcome served.0 served.1 honest
     | inr failed ↦ now_unserved w n verb a reply left is failed.1 (λ y e. (let told = failed.0 in cc)) honest
@@ -213,16 +225,16 @@ module _ (d : Declaration) (lawful : Lawful d) (old : Present) (before : List (L
 
   -- a line that refuses
   still_line : (w : ℕ) (attempt : Attempt) (reply : Reply) (told : Reply) (new : Present) → reply ≡ told → new ≡ old
-      → (IsHonest d room openings (journal ++ line_of w attempt told ∷ []) → IsPresentOf old before d room openings (journal ++ line_of w attempt told ∷ []))
-      → IsHonest d room openings (journal ++ line_of w attempt reply ∷ []) → IsPresentOf new before d room openings (journal ++ line_of w attempt reply ∷ [])
+      → (WereOwed d openings (journal ++ line_of w attempt told ∷ []) → IsLeftBy old before d openings (journal ++ line_of w attempt told ∷ []))
+      → WereOwed d openings (journal ++ line_of w attempt reply ∷ []) → IsLeftBy new before d openings (journal ++ line_of w attempt reply ∷ [])
   still_line w attempt reply told new is same quiet honest =
-      subst (λ y. IsPresentOf new before d room openings (journal ++ line_of w attempt y ∷ [])) (sym is)
-      (subst (λ p. IsPresentOf p before d room openings (journal ++ line_of w attempt told ∷ [])) (sym same)
-      (quiet (subst (λ y. IsHonest d room openings (journal ++ line_of w attempt y ∷ [])) is honest)))
+      subst (λ y. IsLeftBy new before d openings (journal ++ line_of w attempt y ∷ [])) (sym is)
+      (subst (λ p. IsLeftBy p before d openings (journal ++ line_of w attempt told ∷ [])) (sym same)
+      (quiet (subst (λ y. WereOwed d openings (journal ++ line_of w attempt y ∷ [])) is honest)))
 
   -- a start
   after_start : (w : ℕ) (a : OpId) (reply : Reply) (new : Present) → MovesStart (length d.operations) old w a reply new
-      → IsHonest d room openings (journal ++ line_of w (Start a) reply ∷ []) → IsPresentOf new before d room openings (journal ++ line_of w (Start a) reply ∷ [])
+      → WereOwed d openings (journal ++ line_of w (Start a) reply ∷ []) → IsLeftBy new before d openings (journal ++ line_of w (Start a) reply ∷ [])
   after_start w a (Started n) new m honest = now_started w a n new m.0 m.1 honest
   after_start w a (Blocked p) new m honest =
       still_line w (Start a) (Blocked p) (Blocked p) new refl m.1 (still_quiet w (Start a) (Blocked p) (quiet_reply w (Start a) (Blocked p) (λ n e. cc) (λ e. cc)) (λ r. refl)) honest
@@ -233,49 +245,58 @@ module _ (d : Declaration) (lawful : Lawful d) (old : Present) (before : List (L
 
   still_use : (w : ℕ) (n : ActId) (verb : Verb) (reply told : Reply) (after : List (List ℕ)) → reply ≡ told → after ≡ before
       → ((x : ℕ) → told ≢ Used x)
-      → IsHonest d room openings (journal ++ line_of w (Apply n verb) reply ∷ []) → IsPresentOf old after d room openings (journal ++ line_of w (Apply n verb) reply ∷ [])
+      → WereOwed d openings (journal ++ line_of w (Apply n verb) reply ∷ []) → IsLeftBy old after d openings (journal ++ line_of w (Apply n verb) reply ∷ [])
   still_use w n verb reply told after is same plain honest =
-      subst (λ c. IsPresentOf old c d room openings (journal ++ line_of w (Apply n verb) reply ∷ [])) (sym same)
+      subst (λ c. IsLeftBy old c d openings (journal ++ line_of w (Apply n verb) reply ∷ [])) (sym same)
       (still_line w (Apply n verb) reply told old is refl (still_quiet w (Apply n verb) told (quiet_use w n verb told) (λ r. unserved r n verb told _ plain)) honest)
 
   -- a finish
   after_finish : (w : ℕ) (n : ActId) (o : Option Activation) (reply : Reply) (new : Present) → activation_of n old.register.live ≡ o → MovesFinish old w n o reply new
-      → IsHonest d room openings (journal ++ line_of w (Finish n) reply ∷ []) → IsPresentOf new before d room openings (journal ++ line_of w (Finish n) reply ∷ [])
+      → WereOwed d openings (journal ++ line_of w (Finish n) reply ∷ []) → IsLeftBy new before d openings (journal ++ line_of w (Finish n) reply ∷ [])
   after_finish w n None reply new is m honest =
       still_line w (Finish n) reply Stale new m.0 m.1 (still_quiet w (Finish n) Stale (quiet_reply w (Finish n) Stale (λ k e. cc) (λ e. cc)) (λ r. refl)) honest
   after_finish w n (Some a) reply new is m honest = elim (cases_eq a.worker w) [
-    | inl own ↦ subst (λ y. IsPresentOf new before d room openings (journal ++ line_of w (Finish n) y ∷ [])) (sym (m.1 own).told)
-        (now_over w n a reply new is (m.1 own) (subst (λ y. IsHonest d room openings (journal ++ line_of w (Finish n) y ∷ [])) (m.1 own).told honest))
+    | inl own ↦ subst (λ y. IsLeftBy new before d openings (journal ++ line_of w (Finish n) y ∷ [])) (sym (m.1 own).told)
+        (now_over w n a reply new is (m.1 own) (subst (λ y. WereOwed d openings (journal ++ line_of w (Finish n) y ∷ [])) (m.1 own).told honest))
     | inr other ↦ still_line w (Finish n) reply NotYours new (m.0 other).0 (m.0 other).1 (still_quiet w (Finish n) NotYours (quiet_reply w (Finish n) NotYours (λ k e. cc) (λ e. cc)) (λ r. refl)) honest
   ]
 
 module _ {D : Type 0} (contents : D → List (List ℕ)) (asked : D → ℕ → Verb → Reply → D → Type 0) (d : Declaration) (lawful : Lawful d) (old : Present) (before : D) (room : ℕ)
-    (openings : List (List ℕ)) (journal : List Line) (s : IsPresentOf old (contents before) d room openings journal) where
+    (openings : List (List ℕ)) (journal : List Line) (s : IsLeftBy old (contents before) d openings journal) where
   -- a use
   after_use : (w : ℕ) (n : ActId) (verb : Verb) (o : Option Activation) (reply : Reply) (after : D) → activation_of n old.register.live ≡ o → MovesUse contents asked d w verb o before reply after
-      → IsHonest d room openings (journal ++ line_of w (Apply n verb) reply ∷ []) → IsPresentOf old (contents after) d room openings (journal ++ line_of w (Apply n verb) reply ∷ [])
+      → WereOwed d openings (journal ++ line_of w (Apply n verb) reply ∷ []) → IsLeftBy old (contents after) d openings (journal ++ line_of w (Apply n verb) reply ∷ [])
   after_use w n verb None reply after is m honest = still_use d lawful old (contents before) room openings journal s w n verb reply Stale (contents after) m.0 (ap contents m.1) (λ x e. cc) honest
   after_use w n verb (Some a) reply after is m honest = elim (cases_eq a.worker w) [
-    | inl own ↦ subst (λ c. IsPresentOf old c d room openings (journal ++ line_of w (Apply n verb) reply ∷ [])) (sym (m.1 own).serves.others)
+    | inl own ↦ subst (λ c. IsLeftBy old c d openings (journal ++ line_of w (Apply n verb) reply ∷ [])) (sym (m.1 own).serves.others)
         (now_acted d lawful old (contents before) room openings journal s w n verb a _ reply (m.1 own).serves.left is refl (refusal_of (law_of d (resource_of d a.op.0)) verb (held_at (contents before) (resource_of d a.op.0))) (m.1 own).serves.acts honest)
     | inr other ↦ still_use d lawful old (contents before) room openings journal s w n verb reply NotYours (contents after) (m.0 other).0 (ap contents (m.0 other).1) (λ x e. cc) honest
   ]
 
   after_move : (w : ℕ) (attempt : Attempt) (reply : Reply) (new : Present) (after : D) → Moves contents asked d old before w attempt reply new after
-      → IsHonest d room openings (journal ++ line_of w attempt reply ∷ []) → IsPresentOf new (contents after) d room openings (journal ++ line_of w attempt reply ∷ [])
+      → WereOwed d openings (journal ++ line_of w attempt reply ∷ []) → IsLeftBy new (contents after) d openings (journal ++ line_of w attempt reply ∷ [])
   after_move w (Start a) reply new after m honest =
-      subst (λ c. IsPresentOf new (contents c) d room openings (journal ++ line_of w (Start a) reply ∷ [])) (sym m.1) (after_start d lawful old (contents before) room openings journal s w a reply new m.0 honest)
+      subst (λ c. IsLeftBy new (contents c) d openings (journal ++ line_of w (Start a) reply ∷ [])) (sym m.1) (after_start d lawful old (contents before) room openings journal s w a reply new m.0 honest)
   after_move w (Apply n verb) reply new after m honest =
-      subst (λ p. IsPresentOf p (contents after) d room openings (journal ++ line_of w (Apply n verb) reply ∷ [])) (sym m.1) (after_use w n verb (activation_of n old.register.live) reply after refl m.0 honest)
+      subst (λ p. IsLeftBy p (contents after) d openings (journal ++ line_of w (Apply n verb) reply ∷ [])) (sym m.1) (after_use w n verb (activation_of n old.register.live) reply after refl m.0 honest)
   after_move w (Finish n) reply new after m honest =
-      subst (λ c. IsPresentOf new (contents c) d room openings (journal ++ line_of w (Finish n) reply ∷ [])) (sym m.1) (after_finish d lawful old (contents before) room openings journal s w n (activation_of n old.register.live) reply new refl m.0 honest)
+      subst (λ c. IsLeftBy new (contents c) d openings (journal ++ line_of w (Finish n) reply ∷ [])) (sym m.1) (after_finish d lawful old (contents before) room openings journal s w n (activation_of n old.register.live) reply new refl m.0 honest)
+
+  -- a room in which all lines are owed
+  abbrev big : ℕ
+  big = s.honest.0 + room
 
   -- with a line
-  pub with_the_line : (w : ℕ) (attempt : Attempt) (reply : Reply) (new : Present) (after : D) → Answers contents asked d old before room (length journal) w attempt reply new after → reply ≢ NoRoom
-      → IsPresentOf new (contents after) d room openings (journal ++ line_of w attempt reply ∷ [])
-  with_the_line w attempt reply new after answers some = go _ refl
+  pub with_line_left : (w : ℕ) (attempt : Attempt) (reply : Reply) (new : Present) (after : D) → Answers contents asked d old before room (length journal) w attempt reply new after → reply ≢ NoRoom
+      → IsLeftBy new (contents after) d openings (journal ++ line_of w attempt reply ∷ [])
+  with_line_left w attempt reply new after answers some = go _ refl
     where
-      go : (can : Bool) → can_take old room (length journal) w attempt ≡ can → IsPresentOf new (contents after) d room openings (journal ++ line_of w attempt reply ∷ [])
-      go true is = after_move w attempt reply new after (answers.inside is)
-          (honest_more d room openings journal (line_of w attempt reply) s.honest (owed_taken contents asked d lawful old before room openings journal s w attempt reply new after is answers) some)
+      go : (can : Bool) → can_take old room (length journal) w attempt ≡ can → IsLeftBy new (contents after) d openings (journal ++ line_of w attempt reply ∷ [])
+      go true is =
+          after_move w attempt reply new after (answers.inside is) (
+            big,
+            honest_more d big openings journal (line_of w attempt reply) (more_room_keeps_honest d s.honest.0 big openings journal (omega arith) s.honest.1)
+                (owed_inside contents asked d lawful old before big openings journal s w attempt reply new after
+                (roomier room big (length journal) old.register.live w attempt (omega arith) (both_left _ _ is)) (answers.inside is)) some,
+          )
       go false is = absurd (some ((answers.outside is).0))

@@ -1,5 +1,5 @@
 -- What one attempt does to the gate and to what is live.
-use Rattle.std.specs.Prelude.{◌≡◌, ◌≢◌, ◌⊎◌, ◌+◌, ◌<◌, ◌≤◌, ◌&&◌, not, ℕ, Bool, true, false, List, [], ◌∷◌, ◌++◌}
+use Rattle.std.specs.Prelude.{◌≡◌, ◌≢◌, ◌⊎◌, ◌+◌, ◌<◌, ◌≤◌, ◌&&◌, if◌then◌else◌, not, ℕ, Bool, true, false, List, [], ◌∷◌, ◌++◌}
 use Rattle.std.specs.Prelude.{Option, Some, None, length, slice_index, slice_index_or, slice_set}
 use Rattle.path_model.specs.declared.journal.Attempt.{Attempt}
 use Rattle.path_model.specs.declared.journal.Attempt.TheVariants.{Start, Apply, Finish}
@@ -18,6 +18,7 @@ use Rattle.path_model.specs.declared.journal.Reply.{Reply}
 use Rattle.path_model.specs.declared.journal.Reply.TheVariants.{Started, Blocked, UnknownOperation, Used, DeviceFailed}
 use Rattle.path_model.specs.declared.journal.Reply.TheVariants.{Finished, Stale, NotYours, NoRoom}
 use Rattle.path_model.specs.declared.journal.Activation.{Activation}
+use Rattle.path_model.specs.Asked.{is_device_reply, its_resource}
 use Rattle.path_model.specs.Journals.{activation_of, without}
 use Rattle.path_gate.specs.Standings.{Standing, IsAt, IsNamed, Admitted, Released}
 
@@ -123,6 +124,11 @@ pub record AreReady (d : Declaration) (live : List Activation) (contents : List 
   pub resources : (op : ℕ) → op < length d.operations → resource_of d op < length d.resources
   pub one_each : length contents ≡ length d.resources
   pub laws : (r : ℕ) → r < length d.resources → has_law r (law_of d r)
+
+-- the resource whose device the attempt asked, by its reply: that of the activation that it uses, if it is live
+abbrev pub asked_of : Declaration → List Activation → Attempt → Reply → Option ℕ
+asked_of d live (Apply n verb) reply = if is_device_reply reply then its_resource d (activation_of n live) else None
+asked_of d live attempt reply = None
 
 -- whether there is room for the attempt after this number of lines, and a number if it is a start
 abbrev pub can_take : Present → ℕ → ℕ → ℕ → Attempt → Bool

@@ -1,6 +1,6 @@
 //! Who keeps the live activations.
 
-ghost use Rattle.std.specs.Prelude.{◌≡◌, ◌<◌, length, IfOk, OnErr, OnOk};
+ghost use Rattle.std.specs.Prelude.{◌≡◌, ◌+◌, ◌<◌, length, IfOk, OnErr, OnOk};
 ghost use Rattle.path_model.specs.Journals.{activation_of, without};
 ghost use Rattle.path_ledger.specs.Ledgers.{own_of};
 ghost use Rattle.path_step.specs.Steps.{Register, registered};
@@ -10,7 +10,7 @@ use path_model::{ActId, Activation, OpId};
 use std::alloc::Allocator;
 use std::convert::Infallible;
 
-/// What keeps the live activations. Contracts see them, in the order of their starts, and how many were begun.
+/// What keeps the live activations. Contracts see them, in the order of their starts, and how many were begun in all.
 pub trait Live: Drop {
     ghost use Rattle.std.specs.Prelude.{ℕ};
 
@@ -56,9 +56,9 @@ pub trait Live: Drop {
 }
 
 impl<A: Allocator + Copy> Live for Ledger<A> {
-    ghost register = { λ b. record { live = b.live; begun = b.begun } };
+    ghost register = { λ b. record { live = b.live; begun = b.first + b.begun } };
 
-    ghost has_place = { λ b. (length b.live < b.room) × (b.begun < 4294967295) };
+    ghost has_place = { λ b. (length b.live < b.room) × (b.first + b.begun < 4294967295) };
 
     ghost places = { λ b. b.room };
 
@@ -71,7 +71,7 @@ impl<A: Allocator + Copy> Live for Ledger<A> {
 
     #[inline(always)]
     fn begun(&self) -> u64 {
-        u64::from(Ledger::begun(self))
+        Ledger::next(self)
     }
 
     #[inline(always)]

@@ -88,11 +88,11 @@ fn apply<L: Live, D: Devices, A: Allocator + Copy>(
 
 /// Replies to one attempt of a worker after `lines` lines, in a journal of this room, and moves the gate, what is live and what the
 /// resources contain as the reply says. A start takes two places, its own and that of its finish, and a use one; the finish of the worker's
-/// own activation has its place since the start. Without room, or once 4,294,967,295 starts were admitted, the reply is `NoRoom`, and
+/// own activation has its place since the start. Without room, or once 4,294,967,295 activations were begun, the reply is `NoRoom`, and
 /// nothing changes.
 ///
-/// The gate and what is live agree: as many starts were admitted as activations were begun, and what is live is in progress if a path names
-/// it. Where a start has room, there is a place for its activation.
+/// The gate and what is live agree: what is live is in progress if a path names it. Where a start has room and a number, there is a place
+/// for its activation, and fewer than 4,294,967,295 were admitted at the gate.
 ///
 /// Fails only as `live` does at a start, and `devices` at a use. Allocates nothing of its own. The cost is that of the gate for a start or
 /// a finish, of the search for the activation for a use or a finish, and for a use that of serving it.
@@ -112,7 +112,7 @@ pub fn answer<L: Live, D: Devices<Fault = L::Fault>, A: Allocator + Copy>(
     requires few { lines + length (L.register live.old).live ≤ room }
     requires place { lines + length (L.register live.old).live + 2 ≤ room → (L.register live.old).begun < 4294967295
         → L.has_place live.old }
-    requires admitted { gate.old.admitted ≡ (L.register live.old).begun }
+    requires admitted { (L.register live.old).begun < 4294967295 → gate.old.admitted < 4294967295 }
     ensures answers { IfOk result (λ reply. Answers D.contents D.asked decl.now.declaration (present gate.old (L.register live.old))
         devices.old room lines worker attempt reply (present gate.new (L.register live.new)) devices.new) }
     ensures places { L.places live.new ≡ L.places live.old }

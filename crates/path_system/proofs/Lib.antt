@@ -1,4 +1,5 @@
 pub mod Serving
+pub mod Behind
 pub mod Agreed
 pub mod Stepped
 pub mod Counted
@@ -9,6 +10,8 @@ pub mod Controlled
 pub mod Owing
 pub mod Replaced
 pub mod Reported
+pub mod Telling
+pub mod First
 pub mod Narrow
 pub mod Replied
 pub mod Next

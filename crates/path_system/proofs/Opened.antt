@@ -1,9 +1,10 @@
 -- The parts and the rows of a system that was just opened.
-use Rattle.std.proofs.Common.{◌≡◌, ℕ, ◌<◌, true, false, List, [], All, length, get_or, inl, inr, ap, sym, subst, ◌∙◌, arith}
+use Rattle.std.proofs.Common.{◌≡◌, ℕ, ◌<◌, ◌≤◌, true, false, List, [], All, length, get_or, inl, inr, ap, sym, subst, ◌∙◌, arith}
 use Rattle.std.proofs.lemmas.Bool.{cases_lt}
 use Rattle.std.specs.Prelude.{map}
 use Rattle.std.proofs.lemmas.List.{length-map, length-replicate, get_or-replicate}
 use Rattle.path_model.specs.Declarations.{Declaration, Resource}
+use Rattle.path_model.specs.Journals.{live_count}
 use Rattle.path_model.specs.Rooms.{IsRoom, IsBadRoom}
 use Rattle.path_shelf.specs.States.{State, laws_of}
 use Rattle.path_shelf.specs.Shelves.{declared_laws}
@@ -11,7 +12,8 @@ use Rattle.path_shelf.proofs.CallerLemmas.{law_at}
 use Rattle.path_system.specs.Inner.Openings.{Row, AreFor, HavePlaces}
 use Rattle.path_step.specs.Steps.{Register}
 use Rattle.path_system.specs.Accounts.{contents_of}
-use Rattle.path_system.specs.Inner.Parts.{Marked, PartsValue, AreOpened, AreTrueTo, contents}
+use Rattle.path_system.specs.Inner.Pasts.{none}
+use Rattle.path_system.specs.Inner.Parts.{Marked, PartsValue, AreMarked, AreOpened, AreSound, AreTrueTo, contents}
 use Rattle.path_system.proofs.Rows.{places_same}
 
 -- a room that isn't bad is in range
@@ -47,31 +49,45 @@ opened_count states d laws =
     let l = ap length laws in
     omega (arith, e, k, l)
 
--- the parts before any attempt agree with the empty journal
-pub true_opened : (parts : PartsValue) (d : Declaration) (room : ℕ) (states : List State) → laws_of states ≡ declared_laws d → AreOpened parts d room states → AreTrueTo parts room (contents_of states) []
-true_opened parts d room states laws o =
-    let count = opened_count states d laws in
-    let marks : length parts.devices.asked ≡ length d.resources = ap (λ (m : Marked). length m.asked) o.devices ∙ length-replicate (length d.resources) false in
-    let same : contents parts.devices ≡ contents_of states = ap contents o.devices in
+-- the parts before any attempt are sound
+pub sound_opened : (parts : PartsValue) (d : Declaration) (room : ℕ) (states : List State) → laws_of states ≡ declared_laws d → AreOpened parts d room states → AreSound parts room 0
+sound_opened parts d room states laws o =
+    let none : parts.present.register.live ≡ [] = ap (λ (b : Register). b.live) o.idle in
     rw o.declaration (record {
       lawful = o.lawful;
-      present = record {
-        honest = tt;
+      paths = o.paths;
+      together = record {
+        declared = subst (All (λ a. a.op.0 < length d.operations)) (sym none) (λ k a h. absurd (omega arith));
+        running = λ a named. subst (λ xs. live_count a xs ≤ get_or parts.present.standing.in_progress a.0 0) (sym none) (omega arith);
+        admitted = (let k = o.admitted in omega (arith, k));
+      };
+      few = (let k = ap length none in omega (arith, k));
+      places = o.places;
+      laws = ap (λ (m : Marked). laws_of m.states) o.devices ∙ laws;
+      marks = ap (λ (m : Marked). length m.asked) o.devices ∙ length-replicate (length d.resources) false;
+    })
+
+-- no device is marked
+pub unmarked_opened : (parts : PartsValue) (d : Declaration) (room : ℕ) (states : List State) → AreOpened parts d room states → AreMarked d parts.devices.asked none
+unmarked_opened parts d room states o r within =
+    let unmarked : get_or parts.devices.asked r false ≡ false = ap (λ (m : Marked). get_or m.asked r false) o.devices ∙ get_or-replicate (length d.resources) r false false within in
+    ((λ e. cc), (λ k. absurd k))
+
+-- and they are what no lines leave
+pub true_opened : (parts : PartsValue) (d : Declaration) (room : ℕ) (states : List State) → laws_of states ≡ declared_laws d → AreOpened parts d room states → AreTrueTo parts room (contents_of states) [] none
+true_opened parts d room states laws o =
+    let count = opened_count states d laws in
+    let same : contents parts.devices ≡ contents_of states = ap contents o.devices in
+    rw o.declaration (record {
+      left = record {
+        honest = (0, tt);
         paths = o.paths;
         at = o.at;
-        admitted = o.admitted;
         live = ap (λ (b : Register). b.live) o.idle;
         begun = ap (λ (b : Register). b.begun) o.idle;
         declared = subst (λ (b : Register). All (λ a. a.op.0 < length d.operations) b.live) (sym o.idle) (λ k a h. absurd (omega arith));
         one_each = ap length same ∙ length-map states (λ (x : State). x.contents) ∙ count;
         held = λ r within. sym (ap (λ c. get_or c r []) same);
       };
-      laws = ap (λ (m : Marked). laws_of m.states) o.devices ∙ laws;
-      asked_count = marks;
-      asked = λ r within. ((λ e. absurd (none r within e)), (λ k. absurd k));
+      segments = (tt, tt);
     })
-  where
-    none : (r : ℕ) → r < length d.resources → get_or parts.devices.asked r false ≡ true → ⊥
-    none r within e =
-        let k : get_or parts.devices.asked r false ≡ false = ap (λ (m : Marked). get_or m.asked r false) o.devices ∙ get_or-replicate (length d.resources) r false false within in
-        cc

@@ -19,23 +19,24 @@ use Rattle.path_model.specs.Declarations.{Declaration, resource_of, law_of}
 use Rattle.path_model.specs.Devices.{Outcome, serves, refuses}
 use Rattle.path_model.specs.Journals.{activation_of, live}
 use Rattle.path_model.specs.Places.{lacks_number}
-use Rattle.path_model.specs.Segments.{joined, room_behind, OwedBehind}
+use Rattle.path_model.specs.Segments.{OwedBehind}
 use Rattle.path_model.proofs.CallerLemmas.{room_behind_is}
 use Rattle.path_gate.proofs.CallerLemmas.{same_room, owed_without_number, owed_with_number, right_fails}
 use Rattle.path_model.specs.Places.{has_room}
 use Rattle.path_shelf.specs.States.{State, state_at, laws_of}
 use Rattle.path_shelf.proofs.CallerLemmas.{laws_replaced}
-use Rattle.path_step.specs.Steps.{Present, Foretells, IsTold, Tells, TellsFinish, TellsStart, TellsUse, can_take, held_at}
+use Rattle.path_step.specs.Steps.{Present, asked_of, Foretells, IsTold, Tells, TellsFinish, TellsStart, TellsUse, can_take, held_at}
 use Rattle.path_step.proofs.CallerLemmas as step
-use Rattle.path_step.proofs.CallerLemmas.{IsRefusal, refusal_of, AsksNone, AsksOne}
+use Rattle.path_step.proofs.CallerLemmas.{IsRefusal, refusal_of, AsksNone, AsksOne, asked_by_line}
 use Rattle.path_system.specs.Accounts.{contents_of, failures_of, StayBut}
 use Rattle.path_system.specs.Inner.Openings.{Row, numbers_of}
 use Rattle.path_system.specs.Inner.Pasts.{Lines}
-use Rattle.path_system.specs.Inner.Parts.{Marked, PartsValue, Answers, AreTrueTo, FailsUse, HasFailedStill, HasMarked, TakesUse, contents}
+use Rattle.path_system.specs.Before.{LeadTo}
+use Rattle.path_system.specs.Inner.Parts.{Marked, PartsValue, Answers, FailsUse, HasFailedStill, HasMarked, TakesUse, contents}
 use Rattle.path_system.specs.Inner.Parts as parts
 use Rattle.path_system.proofs.Agreed.{states_count}
 use Rattle.path_system.proofs.Stepped.{asked_by, marks_itself}
-use Rattle.path_system.proofs.Controlled.{answers_all, ready_now}
+use Rattle.path_system.proofs.Controlled.{earlier, all, whole, left_now, ready_now}
 
 -- a law that would serve tells no failure, nor does its refusal
 unfailed_outcome : (outcome : Outcome) (reply : Reply) → ((r : Reply) → outcome ≡ refuses r → IsRefusal r) → IsTold outcome reply → reply ≢ DeviceFailed
@@ -85,32 +86,33 @@ foretells_with old room lines k w attempt reply tells =
     record { inside = λ is. tells.inside (sym same ∙ is); outside = λ is. tells.outside (sym same ∙ is) }
 
 module _ (old : PartsValue) (room : ℕ) (rows : List Row) (past : Lines) (count : ℕ) (t : parts.IsTold old room rows past count) where
-  abbrev earlier : List Line
-  earlier = joined past.earlier
+  module _ (openings : List (List ℕ)) (before : List Line) (leads : LeadTo old.declaration past.opened (numbers_of rows) openings before) where
+    abbrev earlier_lines : List Line
+    earlier_lines = earlier old room rows past count t openings before leads
 
-  abbrev all : List Line
-  all = earlier ++ past.present
+    abbrev all_lines : List Line
+    all_lines = all old room rows past count t openings before leads
 
-  abbrev whole : ℕ
-  whole = room_behind earlier room
+    abbrev whole_room : ℕ
+    whole_room = whole old room rows past count t openings before leads
 
-  -- what is foretold is owed behind the earlier lines
-  pub owed_foretold : (w : ℕ) (attempt : Attempt) (reply : Reply) → Foretells old.declaration old.present (contents old.devices) room count w attempt reply
-      → OwedBehind old.declaration room (numbers_of rows) earlier past.present w attempt reply
-  owed_foretold w attempt reply tells = go _ refl
-    where
-      tells_all : Foretells old.declaration old.present (contents old.devices) whole (length all) w attempt reply
-      tells_all =
-          let lines : length all ≡ count + length earlier = (let l = length-append earlier past.present in let n = t.counted in omega (arith, l, n)) in
-          rw (room_behind_is earlier room, lines) (foretells_with old room count (length earlier) w attempt reply tells)
+    -- what is foretold is owed behind the earlier lines
+    pub owed_foretold : (w : ℕ) (attempt : Attempt) (reply : Reply) → Foretells old.declaration old.present (contents old.devices) room count w attempt reply
+        → OwedBehind old.declaration room openings earlier_lines past.present w attempt reply
+    owed_foretold w attempt reply tells = go _ refl
+      where
+        tells_all : Foretells old.declaration old.present (contents old.devices) whole_room (length all_lines) w attempt reply
+        tells_all =
+            let lines : length all_lines ≡ count + length earlier_lines = (let l = length-append earlier_lines past.present in let n = t.counted in omega (arith, l, n)) in
+            rw (room_behind_is earlier_lines room, lines) (foretells_with old room count (length earlier_lines) w attempt reply tells)
 
-      go : (b : Bool) → lacks_number old.present.register.begun attempt ≡ b → OwedBehind old.declaration room (numbers_of rows) earlier past.present w attempt reply
-      go true is =
-          owed_without_number old.declaration room (numbers_of rows) t.good_room w old.present.register.begun reply earlier past.present attempt t.told.present.begun is
-          (tells.outside (right_fails (has_room room count old.present.register.live w attempt) (lacks_number old.present.register.begun attempt) is))
-      go false is =
-          owed_with_number old.declaration room (numbers_of rows) t.good_room w old.present.register.begun reply earlier past.present attempt t.told.present.begun is
-          (step.foretold_is old.declaration t.told.lawful old.present (contents old.devices) whole (numbers_of rows) all t.told.present w attempt reply is tells_all)
+        go : (b : Bool) → lacks_number old.present.register.begun attempt ≡ b → OwedBehind old.declaration room openings earlier_lines past.present w attempt reply
+        go true is =
+            owed_without_number old.declaration room openings t.good_room w old.present.register.begun reply earlier_lines past.present attempt (left_now old room rows past count t openings before leads).begun is
+            (tells.outside (right_fails (has_room room count old.present.register.live w attempt) (lacks_number old.present.register.begun attempt) is))
+        go false is =
+            owed_with_number old.declaration room openings t.good_room w old.present.register.begun reply earlier_lines past.present attempt (left_now old room rows past count t openings before leads).begun is
+            (step.foretold_is old.declaration t.sound.lawful old.present (contents old.devices) whole_room openings all_lines (left_now old room rows past count t openings before leads) w attempt reply is tells_all)
 
   -- a use that is taken over is an answer
   pub answers_use : (w : ℕ) (attempt : Attempt) (n : ActId) (verb : Verb) (owed told : Reply) (new : PartsValue) → attempt ≡ Apply n verb
@@ -143,16 +145,29 @@ module _ (old : PartsValue) (room : ℕ) (rows : List Row) (past : Lines) (count
       ∙ ap (set (failures_of before.states) q) (sym (get_or-map (λ (x : State). x.failures) after.states q _ 0 more))
 
   states_within : (q : ℕ) → q < length old.declaration.resources → q < length old.devices.states
-  states_within q within = let k = states_count old whole (numbers_of rows) all t.told in omega (arith, k, within)
+  states_within q within = let k = states_count old room count t.sound in omega (arith, k, within)
 
-  -- only the device that a line asks changes its count
-  pub stay_taken : (w : ℕ) (attempt : Attempt) (told : Reply) (new : PartsValue) → Answers HasMarked old room count w attempt told new
-      → StayBut (resource_asked old.declaration all attempt told) (failures_of old.devices.states) (failures_of new.devices.states)
-  stay_taken w attempt told new answers =
-      elim (asked_by HasMarked marks_itself old whole (numbers_of rows) all t.told new w attempt told (answers_all old room rows past count t HasMarked marks_itself new w attempt told answers)) [
+  -- only the device that is asked changes its count
+  stay_asked : (w : ℕ) (attempt : Attempt) (told : Reply) (new : PartsValue) → Answers HasMarked old room count w attempt told new
+      → StayBut (asked_of old.declaration old.present.register.live attempt told) (failures_of old.devices.states) (failures_of new.devices.states)
+  stay_asked w attempt told new answers =
+      elim (asked_by HasMarked marks_itself old room count t.sound new w attempt told answers) [
         | inl none ↦ rw none.line (ap (λ (m : Marked). failures_of m.states) none.devices)
         | inr one ↦ rw one.line (count_stays old.devices new.devices one.resource (states_within one.resource one.declared) one.served.known.others)
       ]
+
+  -- which is the one that the line asks
+  asked_same : (openings : List (List ℕ)) (before : List Line) (leads : LeadTo old.declaration past.opened (numbers_of rows) openings before) (attempt : Attempt) (told : Reply)
+      → asked_of old.declaration old.present.register.live attempt told ≡ resource_asked old.declaration (all old room rows past count t openings before leads) attempt told
+  asked_same openings before leads attempt told =
+      ap (λ xs. asked_of old.declaration xs attempt told) (left_now old room rows past count t openings before leads).live
+      ∙ sym (asked_by_line old.declaration (all old room rows past count t openings before leads) attempt told)
+
+  pub stay_taken : (w : ℕ) (attempt : Attempt) (told : Reply) (new : PartsValue) → Answers HasMarked old room count w attempt told new
+      → (openings : List (List ℕ)) (before : List Line) (leads : LeadTo old.declaration past.opened (numbers_of rows) openings before)
+      → StayBut (resource_asked old.declaration (all old room rows past count t openings before leads) attempt told) (failures_of old.devices.states) (failures_of new.devices.states)
+  stay_taken w attempt told new answers openings before leads =
+      subst (λ o. StayBut o (failures_of old.devices.states) (failures_of new.devices.states)) (asked_same openings before leads attempt told) (stay_asked w attempt told new answers)
 
   module _ (may_fail : Type 0) (new : PartsValue) (w : ℕ) (n : ActId) (told : Reply) (f : FailsUse may_fail old w n told new) where
     abbrev r : ℕ
@@ -164,25 +179,31 @@ module _ (old : PartsValue) (room : ℕ) (rows : List Row) (past : Lines) (count
     -- a device that failed leaves all lines
     pub told_failed : parts.IsTold new room rows past count
     told_failed = record {
-      told = record {
-        lawful = rw f.declaration t.told.lawful;
-        present = rw (f.declaration, f.present, contents_kept) t.told.present;
-        laws = rw f.declaration (ap laws_of f.failed.others ∙ laws_replaced old.devices.states r (state_at new.devices.states r) f.failed.law ∙ t.told.laws);
-        asked_count = rw (f.declaration, f.failed.unmarked) t.told.asked_count;
-        asked = rw (f.declaration, f.failed.unmarked) t.told.asked;
+      sound = record {
+        lawful = rw f.declaration t.sound.lawful;
+        paths = rw (f.declaration, f.present) t.sound.paths;
+        together = rw (f.declaration, f.present) t.sound.together;
+        few = rw f.present t.sound.few;
+        places = f.places ∙ t.sound.places;
+        laws = rw f.declaration (ap laws_of f.failed.others ∙ laws_replaced old.devices.states r (state_at new.devices.states r) f.failed.law ∙ t.sound.laws);
+        marks = rw (f.declaration, f.failed.unmarked) t.sound.marks;
       };
-      segments = rw f.declaration t.segments;
+      marked = rw (f.declaration, f.failed.unmarked) t.marked;
+      behind = λ openings before leads.
+          let was = t.behind openings before (subst (λ d. LeadTo d past.opened (numbers_of rows) openings before) f.declaration leads) in
+          record { left = rw (f.declaration, f.present, contents_kept) was.left; segments = rw f.declaration was.segments };
       good_room = t.good_room;
       counted = t.counted;
-      places = f.places ∙ t.places;
       roomy = rw f.declaration t.roomy;
     }
 
     -- and changes its own count alone
-    pub stay_failed : (attempt : Attempt) (verb : Verb) → attempt ≡ Apply n verb → StayBut (resource_asked old.declaration all attempt told) (failures_of old.devices.states) (failures_of new.devices.states)
-    stay_failed attempt verb is =
-        let found : activation_of n (live all) ≡ Some f.activation = ap (activation_of n) (sym t.told.present.live) ∙ f.found in
-        let asked : resource_asked old.declaration all attempt told ≡ Some r =
-        ap (λ a. resource_asked old.declaration all a told) is ∙ ap (resource_asked old.declaration all (Apply n verb)) f.used.1 ∙ ap (its_resource old.declaration) found in
+    pub stay_failed : (attempt : Attempt) (verb : Verb) → attempt ≡ Apply n verb
+        → (openings : List (List ℕ)) (before : List Line) (leads : LeadTo old.declaration past.opened (numbers_of rows) openings before)
+        → StayBut (resource_asked old.declaration (all old room rows past count t openings before leads) attempt told) (failures_of old.devices.states) (failures_of new.devices.states)
+    stay_failed attempt verb is openings before leads =
+        let asked : asked_of old.declaration old.present.register.live attempt told ≡ Some r =
+        ap (λ a. asked_of old.declaration old.present.register.live a told) is ∙ ap (asked_of old.declaration old.present.register.live (Apply n verb)) f.used.1 ∙ ap (its_resource old.declaration) f.found in
         let ready = ready_now old room rows past count t in
-        rw asked (count_stays old.devices new.devices r (states_within r (ready.ready.resources f.activation.op.0 (ready.ready.within n f.activation f.found))) f.failed.others)
+        rw (sym (asked_same openings before leads attempt told) ∙ asked)
+        (count_stays old.devices new.devices r (states_within r (ready.ready.resources f.activation.op.0 (ready.ready.within n f.activation f.found))) f.failed.others)

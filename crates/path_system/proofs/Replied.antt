@@ -11,12 +11,13 @@ use Rattle.path_model.specs.Asked.{resource_asked}
 use Rattle.path_model.specs.Declarations.{Declaration}
 use Rattle.path_model.specs.Journals.{with_line}
 use Rattle.path_model.specs.Owed.{AreSame}
-use Rattle.path_model.specs.Segments.{joined, OwedBehind}
+use Rattle.path_model.specs.Segments.{OwedBehind}
 use Rattle.path_model.proofs.CallerLemmas.{line_of, one_reply_is_owed_behind}
 use Rattle.path_step.proofs.CallerLemmas.{IsRefusal}
-use Rattle.path_system.specs.Accounts.{Account, all_lines, StayBut}
+use Rattle.path_system.specs.Accounts.{Account, StayBut}
+use Rattle.path_system.specs.Before.{earlier_behind, lines_behind}
 use Rattle.path_system.specs.Calls.{IsStartReply, IsFinishReply}
-use Rattle.path_system.specs.Taken.{IsTaken, IsNotOwed}
+use Rattle.path_system.specs.Taken.{IsTakenAt, IsNotOwedAt}
 use Rattle.path_system.specs.Inner.Parts.{MayTell}
 use Rattle.path_system.proofs.Narrow.{is_start_reply, is_finish_reply}
 
@@ -80,11 +81,12 @@ plain_owed d room openings earlier ls w (Start a) owed other is = started_plain 
 plain_owed d room openings earlier ls w (Apply n verb) owed other is = absurd (other n verb refl)
 plain_owed d room openings earlier ls w (Finish n) owed other is = finished_plain owed (is_finish_reply d room openings earlier ls w n owed is)
 
-module _ (old : Account) (line : Line) (owed : Reply) (is : OwedBehind old.declaration old.room old.openings (joined old.earlier) old.journal line.worker line.attempt owed) where
+module _ (old : Account) (openings : List (List ℕ)) (before : List Line) (line : Line) (owed : Reply)
+    (is : OwedBehind old.declaration old.room openings (earlier_behind before old) old.journal line.worker line.attempt owed) where
   -- a line that may not be told isn't the next
-  pub not_owed : owed ≢ DeviceFailed → (MayTell owed line.reply × (line.reply ≢ NoRoom) → ⊥) → IsNotOwed old line owed old
+  pub not_owed : owed ≢ DeviceFailed → (MayTell owed line.reply × (line.reply ≢ NoRoom) → ⊥) → IsNotOwedAt openings before old line owed old
   not_owed served other = record {
-    other = λ next. other (may_besides old.declaration old.room old.openings (joined old.earlier) old.journal line.worker line.attempt owed line.reply is served next.owed, next.roomy);
+    other = λ next. other (may_besides old.declaration old.room openings (earlier_behind before old) old.journal line.worker line.attempt owed line.reply is served next.owed, next.roomy);
     owed = is;
     served = served;
     kept = refl;
@@ -92,14 +94,18 @@ module _ (old : Account) (line : Line) (owed : Reply) (is : OwedBehind old.decla
 
   -- a step that isn't a use moves as its line says
   pub taken_step : (r : Reply) (new : Account) → ((n : ActId) (verb : Verb) → line.attempt ≡ Apply n verb → ⊥) → MayTell owed line.reply → line.reply ≢ NoRoom
-      → OwedBehind old.declaration old.room old.openings (joined old.earlier) old.journal line.worker line.attempt r
+      → OwedBehind old.declaration old.room openings (earlier_behind before old) old.journal line.worker line.attempt r
       → new ≡ record old { journal = with_line old.journal line.worker line.attempt r; failures = new.failures }
-      → StayBut (resource_asked old.declaration (all_lines old) line.attempt r) old.failures new.failures → IsTaken old line new
+      → StayBut (resource_asked old.declaration (lines_behind before old) line.attempt r) old.failures new.failures → IsTakenAt openings before old line new
   taken_step r new other may some second moved stays =
-      let plain = plain_owed old.declaration old.room old.openings (joined old.earlier) old.journal line.worker line.attempt owed other is in
-      let same : r ≡ line.reply = plain_same old.declaration old.room old.openings (joined old.earlier) old.journal line.worker line.attempt owed line.reply r plain is second may in
+      let plain = plain_owed old.declaration old.room openings (earlier_behind before old) old.journal line.worker line.attempt owed other is in
+      let same : r ≡ line.reply = plain_same old.declaration old.room openings (earlier_behind before old) old.journal line.worker line.attempt owed line.reply r plain is second may in
       record {
-        next = record { owed = subst (λ q. OwedBehind old.declaration old.room old.openings (joined old.earlier) old.journal line.worker line.attempt q) same second; roomy = some };
+        next = record { owed = subst (λ q. OwedBehind old.declaration old.room openings (earlier_behind before old) old.journal line.worker line.attempt q) same second; roomy = some };
         written = subst (λ xs. new ≡ record old { journal = xs; failures = new.failures }) (ap (with_line old.journal line.worker line.attempt) same ∙ with_line_is old.journal line.worker line.attempt line.reply some) moved;
-        failures = subst (λ q. StayBut (resource_asked old.declaration (all_lines old) line.attempt q) old.failures new.failures) same stays;
+        failures = subst (λ q. StayBut (resource_asked old.declaration (lines_behind before old) line.attempt q) old.failures new.failures) same stays;
       }
+
+-- what changes only the journal and the counts of failures
+pub only_journal : (old new : Account) (journal : List Line) → new ≡ record old { journal = journal; failures = new.failures } → new ≡ record old { journal = new.journal; failures = new.failures }
+only_journal old new journal is = is ∙ ap (λ ls. record old { journal = ls; failures = new.failures }) (sym (ap (λ (a : Account). a.journal) is))

@@ -12,7 +12,8 @@ use Rattle.path_model.specs.Trees.{Tree}
 use Rattle.path_model.specs.Legal as legal
 use Rattle.path_model.specs.Declarations.{Declaration, paths_of}
 use Rattle.path_model.specs.Journals as journals
-use Rattle.path_system.specs.Inner.Parts.{PartsValue, AreTrueTo}
+use Rattle.path_step.specs.Presents.{IsLeftBy}
+use Rattle.path_system.specs.Inner.Parts.{PartsValue, AreSound, contents}
 use Rattle.path_system.specs.Reports.{Meets, MeetsAt, IsSorting, IsReport, IsReportAt}
 use Rattle.path_system.proofs.Agreed.{legal_now}
 
@@ -62,12 +63,12 @@ module _ (d : Declaration) (h : List Event) where
   all_held n startable blocked (IsSorting.free b s bs rest m) f = absurd (f b (omega arith) m)
   all_held n startable blocked (IsSorting.held b p s bs rest m) f = all_held b.0 s bs rest (λ a within l. f a (omega arith) l)
 
-module _ (parts : PartsValue) (room : ℕ) (openings : List (List ℕ)) (journal : List Line) (t : AreTrueTo parts room openings journal) where
+module _ (parts : PartsValue) (room lines : ℕ) (s : AreSound parts room lines) (openings : List (List ℕ)) (journal : List Line) (left : IsLeftBy parts.present (contents parts.devices) parts.declaration openings journal) where
   meets : (a : OpId) (o : Option PathId) → MeetsAt parts.present.standing a o → Meets parts.declaration (journals.admitted_history journal) a o
   meets a None m =
-      subst (λ xs. legal.Legal xs (journals.admitted_history journal ++ Began a ∷ [])) t.present.paths (m (journals.admitted_history journal) (legal_now parts room openings journal t) t.present.at)
+      subst (λ xs. legal.Legal xs (journals.admitted_history journal ++ Began a ∷ [])) left.paths (m (journals.admitted_history journal) (legal_now parts room lines s openings journal left) left.at)
   meets a (Some p) m =
-      subst (λ xs. legal.First (legal.Forbids (journals.admitted_history journal) a) xs p.0) t.present.paths (m (journals.admitted_history journal) (legal_now parts room openings journal t) t.present.at)
+      subst (λ xs. legal.First (legal.Forbids (journals.admitted_history journal) a) xs p.0) left.paths (m (journals.admitted_history journal) (legal_now parts room lines s openings journal left) left.at)
 
   pub reported : (n : ℕ) (startable : List OpId) (blocked : List (OpId × PathId)) (live : List Activation) (frozen : Bool) → n ≡ length parts.declaration.operations
       → IsReportAt parts.present.standing n parts.present.register.live startable blocked live frozen → IsReport parts.declaration journal startable blocked live frozen
@@ -77,7 +78,7 @@ module _ (parts : PartsValue) (room : ℕ) (openings : List (List ℕ)) (journal
       let sorted : IsSorting (Meets parts.declaration h) m startable blocked =
       subst (λ k. IsSorting (Meets parts.declaration h) k startable blocked) count
       (sorted_along (MeetsAt parts.present.standing) (Meets parts.declaration h) meets n startable blocked r.sorted) in
-      let told : live ≡ journals.live journal = r.live_is ∙ t.present.live in
+      let told : live ≡ journals.live journal = r.live_is ∙ left.live in
       record {
         sorted = sorted;
         live_is = told;

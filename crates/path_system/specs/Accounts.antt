@@ -6,12 +6,14 @@ use Rattle.path_model.specs.Rooms.{IsRoom}
 use Rattle.path_model.specs.Segments.{joined, taken_behind, AreHonest}
 use Rattle.path_decl.specs.Lawful.{Lawful}
 use Rattle.path_shelf.specs.States.{State, IsCounted}
+use Rattle.path_state.specs.States as path
 
--- the declaration, the room, what each device contained when it was taken, the lines that each rotation gave away, the journal since
--- then, and how often each device has failed
+-- the declaration, the room, the state at which it was opened behind other lines, if it was, what each device contained when it was taken,
+-- the lines that each rotation gave away, the journal since then, and how often each device has failed
 pub record Account : Type 0 where
   pub declaration : Declaration
   pub room : ℕ
+  pub opened : Option path.State
   pub openings : List (List ℕ)
   pub earlier : List (List Line)
   pub journal : List Line
@@ -26,7 +28,15 @@ failures_of states = map (λ s. s.failures) states
 -- the account of a system that was opened over devices in these states, before any attempt
 abbrev pub account_of : Declaration → ℕ → List State → Account
 account_of d room states =
-    record { declaration = d; room = room; openings = contents_of states; earlier = []; journal = []; failures = failures_of states }
+    record {
+      declaration = d;
+      room = room;
+      opened = None;
+      openings = contents_of states;
+      earlier = [];
+      journal = [];
+      failures = failures_of states;
+    }
 
 -- the account after the device of the resource is replaced by one in this state
 abbrev pub with_device : Account → ℕ → State → Account
@@ -51,8 +61,9 @@ all_lines account = joined account.earlier ++ account.journal
 abbrev pub rotated : Account → Account
 rotated account = record account { earlier = account.earlier ++ account.journal ∷ []; journal = [] }
 
--- what always holds of a system
+-- what always holds of a system, before whose lines there are none
 pub record IsSystem (account : Account) : Type 0 where
+  pub first : account.opened ≡ None
   pub lawful : Lawful account.declaration
   pub good_room : IsRoom account.room
   pub honest : AreHonest account.declaration account.room account.openings (account.earlier ++ account.journal ∷ [])

@@ -10,6 +10,8 @@ use Rattle.path_shelf.specs.declared.shelf.ShelfFault.{ShelfFault}
 use Rattle.path_shelf.specs.declared.shelf.ShelfFault.TheVariants as shelf
 use Rattle.path_shelf.specs.States.{State}
 use Rattle.path_shelf.specs.Shelves.{IsShelfFault}
+use Rattle.path_system.specs.Accounts.{Account, all_lines}
+use Rattle.path_system.specs.Before.{BehindEach, WasAsked, lines_behind}
 use Rattle.path_system.specs.declared.fault.OpenFault.{OpenFault}
 use Rattle.path_system.specs.declared.fault.OpenFault.TheVariants.{BadRoom, WrongCount, WrongDevice, OutOfMemory}
 use Rattle.path_system.specs.declared.fault.ReplaceFault.{ReplaceFault}
@@ -45,6 +47,22 @@ abbrev pub IsReplaceFault : Declaration → List Line → ℕ → Law → Replac
 IsReplaceFault d journal r law Busy = IsBusy d journal r
 IsReplaceFault d journal r law Used = (IsBusy d journal r → ⊥) × IsAsked d journal r
 IsReplaceFault d journal r law OtherLaw = IsUntouched d journal r × (law ≢ law_of d r)
+
+-- the same of a controller, before whose lines others may have come
+abbrev pub IsBusyBehind : Account → ℕ → Type 0
+IsBusyBehind account r = BehindEach account (λ openings before. IsBusy account.declaration (lines_behind before account) r)
+
+abbrev pub IsIdleBehind : Account → ℕ → Type 0
+IsIdleBehind account r = BehindEach account (λ openings before. IsBusy account.declaration (lines_behind before account) r → ⊥)
+
+-- The first reason that applies for refusing a device of this law. A controller that was opened at a state doesn't know which devices were
+-- asked before, and replaces none.
+abbrev pub IsReplaceFaultBehind : Account → ℕ → Law → ReplaceFault → Type 0
+IsReplaceFaultBehind account r law Busy = IsBusyBehind account r
+IsReplaceFaultBehind account r law Used = IsIdleBehind account r × WasAsked account.declaration account.opened (all_lines account) r
+IsReplaceFaultBehind account r law OtherLaw =
+    IsIdleBehind account r × (WasAsked account.declaration account.opened (all_lines account) r → ⊥)
+    × (law ≢ law_of account.declaration r)
 
 -- no reason applies: a device of this law may replace the resource's own
 abbrev pub MayReplace : Declaration → List Line → ℕ → Law → Type 0

@@ -1,4 +1,6 @@
 pub mod Accounts
+pub mod Before
+pub mod Controllers
 pub mod Calls
 pub mod Faults
 pub mod Reports

@@ -11,6 +11,7 @@ ghost use Rattle.path_gate.specs.Standings.{IsAt};
 ghost use Rattle.path_shelf.specs.States.{MayFail};
 ghost use Rattle.path_system.specs.declared.calls.UseRefusal.TheVariants as uses;
 ghost use Rattle.path_system.specs.Accounts.{all_lines, HasFailed, IsSystem, StayBut};
+ghost use Rattle.path_system.specs.Before.{BehindEach, earlier_behind, lines_behind};
 ghost use Rattle.path_system.specs.Calls.{finish_reply, start_reply, use_reply, AllowsStart, IsFinishReply, IsStartReply, IsUseReply};
 
 use crate::controller::Controller;
@@ -170,7 +171,8 @@ impl<D: Device, A: Allocator + Copy> Controller<D, A> {
     /// the operation is declared: no path names one that isn't. Allocates nothing. The cost is one look at a prologue for each path
     /// that names the operation.
     pub fn can_start(&self, op: OpId) -> Result<(), PathId>
-        ensures { AllowsStart self.now.declaration (admitted_history (all_lines self.now)) op result }
+        ensures { BehindEach self.now (λ openings before.
+            AllowsStart self.now.declaration (admitted_history (lines_behind before self.now)) op result) }
     {
         self.parts.can_start(op)
     }
@@ -178,37 +180,40 @@ impl<D: Device, A: Allocator + Copy> Controller<D, A> {
     /// The gate, which is at the history of all lines: it can be asked what each path forbids now. Takes constant time.
     pub fn gate(&self) -> &Gate<A>
         ensures paths { result.now.paths ≡ paths_of self.now.declaration }
-        ensures at { IsAt result.now (admitted_history (all_lines self.now)) }
-        ensures legal { Legal (paths_of self.now.declaration) (admitted_history (all_lines self.now)) }
+        ensures at { BehindEach self.now (λ openings before. IsAt result.now (admitted_history (lines_behind before self.now))) }
+        ensures legal { BehindEach self.now (λ openings before.
+            Legal (paths_of self.now.declaration) (admitted_history (lines_behind before self.now))) }
     {
         self.parts.gate()
     }
 
     /// The live activations, in the order of their starts. Takes constant time.
     pub fn live(&self) -> &[Activation]
-        ensures { result.now ≡ live (all_lines self.now) }
+        ensures { BehindEach self.now (λ openings before. result.now ≡ live (lines_behind before self.now)) }
     {
         self.parts.live()
     }
 
     /// Whether an activation of this number is live. The cost is logarithmic in the number of live ones.
     pub fn is_live(&self, act: ActId) -> bool
-        ensures { result ≡ is_some (activation_of act (live (all_lines self.now))) }
+        ensures { BehindEach self.now (λ openings before.
+            result ≡ is_some (activation_of act (live (lines_behind before self.now)))) }
     {
         self.parts.find(act).is_some()
     }
 
     /// How many activations are live. Takes constant time.
     pub fn live_count(&self) -> u32
-        ensures { result ≡ length (live (all_lines self.now)) }
+        ensures { BehindEach self.now (λ openings before. result ≡ length (live (lines_behind before self.now))) }
     {
         self.parts.live().len() as u32
     }
 
     /// How many places the room has left: a start takes two, a use or another's finish one. Takes constant time.
     pub fn room_left(&self) -> u32
-        ensures { result + taken_behind (joined self.now.earlier) self.now.journal ≡ self.now.room }
+        ensures { BehindEach self.now (λ openings before.
+            result + taken_behind (earlier_behind before self.now) self.now.journal ≡ self.now.room) }
     {
-        self.room() - self.lines() - self.live_count()
+        self.room - self.lines - self.parts.live().len() as u32
     }
 }

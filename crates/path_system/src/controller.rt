@@ -1,16 +1,19 @@
 //! A controller: a system that keeps no lines. It answers attempts over devices, and a journal is what contracts see of it.
 
-ghost use Rattle.std.specs.Prelude.{◌≡◌, ◌↔◌, ◌<◌, List, [], length, map, slice_get, slice_set, IfOk, IfErr, IsOk, IsTrue, OnOk, OnErr};
+ghost use Rattle.std.specs.Prelude.{◌≡◌, ◌↔◌, ◌<◌, List, [], None, length, map, slice_get, slice_set};
+ghost use Rattle.std.specs.Prelude.{IfOk, IfErr, IsOk, IsTrue, OnOk, OnErr};
 ghost use Rattle.path_model.specs.declared.journal.Reply.TheVariants as replies;
 ghost use Rattle.path_model.specs.Asked.{resource_asked};
 ghost use Rattle.path_model.specs.Contents.{contents_after};
 ghost use Rattle.path_model.specs.Journals.{live, with_line};
 ghost use Rattle.path_model.specs.Rooms.{IsRoom};
-ghost use Rattle.path_model.specs.Segments.{OwedBehind, joined};
+ghost use Rattle.path_model.specs.Segments.{OwedBehind};
 ghost use Rattle.path_shelf.specs.States.{MayFail, State, laws_of};
 ghost use Rattle.path_shelf.specs.Shelves.{declared_laws};
 ghost use Rattle.path_system.specs.Accounts.{account_of, all_lines, rotated, with_device, HasFailed, IsSystem, StayBut};
-ghost use Rattle.path_system.specs.Faults.{IsOpenFault, IsReplaceFault, MayReplace};
+ghost use Rattle.path_system.specs.Before.{BehindEach, earlier_behind, lines_behind};
+ghost use Rattle.path_system.specs.Controllers.{IsControlled};
+ghost use Rattle.path_system.specs.Faults.{IsOpenFault, IsReplaceFaultBehind, MayReplace};
 ghost use Rattle.path_system.specs.Inner.Openings.{AreFor};
 ghost use Rattle.path_system.specs.Reports.{IsReport};
 
@@ -32,6 +35,10 @@ use std::marker::Model;
 /// Contracts see the same of it as of a system, the lines included: the declaration, the room, what each device contained when the
 /// controller took it, the lines that each rotation gave away, those since, and how often each device has failed. All else follows
 /// from these. Dropping a controller drops each device.
+///
+/// A controller may also go on behind the lines of others, of which it knows only the state that they left. So what is owed is said of all
+/// lines that may have come before (`BehindEach`): of those that led to the state at which it was opened; where it was opened at none, of
+/// no lines.
 #[derive(Drop)]
 pub struct Controller<D: Device, A: Allocator + Copy = Global> {
     pub(crate) openings: Openings<A>,
@@ -56,6 +63,7 @@ impl<D: Device, A: Allocator + Copy> Model for Controller<D, A> {
     ghost view = { λ c. record {
       declaration = c.parts.declaration;
       room = c.room;
+      opened = c.past.lines.opened;
       openings = numbers_of c.openings;
       earlier = c.past.lines.earlier;
       journal = c.past.lines.present;
@@ -145,19 +153,21 @@ impl<D: Device, A: Allocator + Copy> Controller<D, A> {
     /// activations; a use also costs the device's own call.
     #[inline(always)]
     pub fn step(&mut self, worker: u32, attempt: Attempt) -> Reply
-        ensures owed { OwedBehind self.old.declaration self.old.room self.old.openings (joined self.old.earlier) self.old.journal
-            worker attempt result }
+        ensures owed { BehindEach self.old (λ openings before. OwedBehind self.old.declaration self.old.room openings
+            (earlier_behind before self.old) self.old.journal worker attempt result) }
         ensures journal { self.new ≡ record self.old {
           journal = with_line self.old.journal worker attempt result;
           failures = self.new.failures;
         } }
-        ensures failures { StayBut (resource_asked self.old.declaration (all_lines self.old) attempt result)
-            self.old.failures self.new.failures }
-        ensures failed { (result ≡ replies.DeviceFailed)
-            → HasFailed (resource_asked self.old.declaration (all_lines self.old) attempt result) self.old.failures self.new.failures }
+        ensures failures { BehindEach self.old (λ openings before.
+            StayBut (resource_asked self.old.declaration (lines_behind before self.old) attempt result)
+            self.old.failures self.new.failures) }
+        ensures failed { (result ≡ replies.DeviceFailed) → BehindEach self.old (λ openings before.
+            HasFailed (resource_asked self.old.declaration (lines_behind before self.old) attempt result)
+            self.old.failures self.new.failures) }
         // If no device of the type ever fails, the reply is never `DeviceFailed`.
         ensures may_fail { (result ≡ replies.DeviceFailed) → MayFail D.state }
-        ensures system { IsSystem self.new }
+        ensures controlled { IsControlled self.new }
     {
         let reply = self.parts.answer(self.room, self.lines, worker, attempt);
         if !is_no_room(reply) {
@@ -177,7 +187,7 @@ impl<D: Device, A: Allocator + Copy> Controller<D, A> {
     /// constant time.
     pub fn rotate(&mut self)
         ensures rotated { self.new ≡ rotated self.old }
-        ensures system { IsSystem self.new }
+        ensures controlled { IsControlled self.new }
     {
         let past = Past::rotated(&self.past);
         self.past = past;
@@ -187,7 +197,7 @@ impl<D: Device, A: Allocator + Copy> Controller<D, A> {
     /// How many lines there are since the last rotation.
     pub fn lines(&self) -> u32
         ensures count { result ≡ length self.now.journal }
-        ensures system { IsSystem self.now }
+        ensures controlled { IsControlled self.now }
     {
         self.lines
     }
@@ -212,8 +222,9 @@ impl<D: Device, A: Allocator + Copy> Controller<D, A> {
     /// Changes nothing. Fails only if allocation fails. The cost is one look at a prologue for each operation and each path that
     /// names it, and memory for each operation and each live activation.
     pub fn report(&self, alloc: A) -> Result<Report<A>, OutOfMemory>
-        ensures { IfOk result (λ report. IsReport self.now.declaration (all_lines self.now)
-            report.startable.items report.blocked.items report.live.items report.frozen) }
+        ensures { IfOk result (λ report. BehindEach self.now (λ openings before.
+            IsReport self.now.declaration (lines_behind before self.now)
+            report.startable.items report.blocked.items report.live.items report.frozen)) }
     {
         self.parts.report(alloc)
     }
@@ -228,7 +239,8 @@ impl<D: Device, A: Allocator + Copy> Controller<D, A> {
     /// The number at this place of what a declared resource contains now; `None` past the end.
     pub fn contents(&self, resource: ResId, place: u32) -> Option<u64>
         requires { resource.0 < length self.now.declaration.resources }
-        ensures { result ≡ slice_get (contents_after self.now.declaration self.now.openings (all_lines self.now) resource.0) place }
+        ensures { BehindEach self.now (λ openings before.
+            result ≡ slice_get (contents_after self.now.declaration openings (lines_behind before self.now) resource.0) place) }
     {
         self.parts.shelf().at(resource, place)
     }
@@ -236,19 +248,20 @@ impl<D: Device, A: Allocator + Copy> Controller<D, A> {
     /// Puts this device in place of a declared resource's own, which is dropped. What the new device contains now counts as what
     /// the resource contained from the opening on, and its count of failures becomes the resource's; all else stays.
     ///
-    /// Fails with `Busy` if an activation of the resource is live, else with `Used` if a line, also an earlier one, asked its device,
-    /// and else with `OtherLaw` if the new device has another law. The new device then comes back, and the controller is as it was.
+    /// Fails with `Busy` if an activation of the resource is live, else with `Used` if a line, also an earlier one, asked its device, or
+    /// may have asked it before the state at which the controller was opened, and else with `OtherLaw` if the new device has another law.
+    /// The new device then comes back, and the controller is as it was.
     ///
     /// Allocates nothing. The cost is that of a look at each live activation, and at each number in the device.
     pub fn replace(&mut self, resource: ResId, device: D) -> Result<(), (ReplaceFault, D)>
         requires { resource.0 < length self.old.declaration.resources }
-        ensures may { OnOk result (MayReplace self.old.declaration (all_lines self.old) resource.0 (D.state device).law) }
+        ensures may { OnOk result ((self.old.opened ≡ None)
+            × MayReplace self.old.declaration (all_lines self.old) resource.0 (D.state device).law) }
         ensures replaced { OnOk result (self.new ≡ with_device self.old resource.0 (D.state device)) }
-        ensures fault { IfErr result (λ refusal.
-            IsReplaceFault self.old.declaration (all_lines self.old) resource.0 (D.state device).law refusal.0) }
+        ensures fault { IfErr result (λ refusal. IsReplaceFaultBehind self.old resource.0 (D.state device).law refusal.0) }
         ensures back { IfErr result (λ refusal. refusal.1 ≡ device) }
         ensures kept { OnErr result (self.new ≡ self.old) }
-        ensures system { IsSystem self.new }
+        ensures controlled { IsControlled self.new }
     {
         self.parts.replace(resource, device)?;
         self.openings.write(resource, self.parts.shelf());
@@ -257,14 +270,14 @@ impl<D: Device, A: Allocator + Copy> Controller<D, A> {
 
     /// Whether nothing is live. Takes constant time.
     pub fn is_idle(&self) -> bool
-        ensures { IsTrue result ↔ (live (all_lines self.now) ≡ []) }
+        ensures { BehindEach self.now (λ openings before. IsTrue result ↔ (live (lines_behind before self.now) ≡ [])) }
     {
         self.parts.is_idle()
     }
 
     /// Ends the controller if nothing is live, and drops each device. If an activation is live, it comes back as it was.
     pub fn close(self) -> Result<(), Controller<D, A>>
-        ensures closed { IsOk result ↔ (live (all_lines self) ≡ []) }
+        ensures closed { BehindEach self (λ openings before. IsOk result ↔ (live (lines_behind before self) ≡ [])) }
         ensures back { IfErr result (λ controller. controller ≡ self) }
     {
         if !self.is_idle() {

@@ -31,6 +31,7 @@ pub struct Parts<D: Device, A: Allocator + Copy = Global> {
 }
 
 impl<D: Device, A: Allocator + Copy> Model for Parts<D, A> {
+    ghost use Rattle.std.specs.Prelude.{◌+◌};
     ghost use Rattle.std.specs.Coded.{codes};
     ghost use Rattle.path_decl.specs.Stored.{declaration_code};
     ghost use Rattle.path_gate.specs.Standings.{standing_code};
@@ -43,7 +44,7 @@ impl<D: Device, A: Allocator + Copy> Model for Parts<D, A> {
 
     ghost view = { λ p. record {
       declaration = p.decl.declaration;
-      present = present p.gate (record { live = p.ledger.live; begun = p.ledger.begun });
+      present = present p.gate (record { live = p.ledger.live; begun = p.ledger.first + p.ledger.begun });
       places = p.ledger.room;
       devices = p.devices;
     } };

@@ -5,6 +5,7 @@ ghost use Rattle.path_model.specs.Rooms.{IsRoom};
 ghost use Rattle.path_shelf.specs.Shelves.{declared_laws};
 ghost use Rattle.path_shelf.specs.States.{MayFail, laws_of};
 ghost use Rattle.path_system.specs.Accounts.{IsSystem};
+ghost use Rattle.path_system.specs.Controllers.{AreDevicesBehind};
 ghost use Rattle.path_system.specs.Resumed.{AreDevicesOf, IsResumeFault, after_lines};
 
 use crate::controller::Controller;
@@ -18,7 +19,7 @@ use std::alloc::Allocator;
 impl<D: Device, A: Allocator + Copy> Controller<D, A> {
     /// Ends the controller, whatever is live, and returns its devices, in the order of the resources.
     pub fn into_devices(self) -> Vec<D, A>
-        ensures { AreDevicesOf self (map D.state result.items) }
+        ensures { AreDevicesBehind self (map D.state result.items) }
     {
         let Controller {
             openings,

@@ -6,7 +6,9 @@ ghost use Rattle.path_model.specs.Segments.{OwedBehind, joined};
 ghost use Rattle.path_shelf.specs.States.{MayFail};
 ghost use Rattle.path_system.specs.Accounts.{IsSystem};
 ghost use Rattle.path_system.specs.Inner.Parts.{MayTell};
-ghost use Rattle.path_system.specs.Taken.{IsTakeFault, IsTaken};
+ghost use Rattle.path_system.specs.Before.{BehindEach, earlier_behind};
+ghost use Rattle.path_system.specs.Controllers.{IsControlled};
+ghost use Rattle.path_system.specs.Taken.{IsTakeFault, IsTakeFaultBehind, IsTaken, IsTakenBehind};
 
 use crate::controller::Controller;
 use crate::fault::TakeFault;
@@ -33,8 +35,8 @@ impl<D: Device, A: Allocator + Copy> Controller<D, A> {
     /// operation of a start, and else a search among the live activations; of a use also a look at its device's contents: at one number, or
     /// for a put into a queue at each.
     pub fn owed(&self, worker: u32, attempt: Attempt) -> Reply
-        ensures owed { OwedBehind self.now.declaration self.now.room self.now.openings (joined self.now.earlier) self.now.journal
-            worker attempt result }
+        ensures owed { BehindEach self.now (λ openings before. OwedBehind self.now.declaration self.now.room openings
+            (earlier_behind before self.now) self.now.journal worker attempt result) }
         ensures served { result ≢ replies.DeviceFailed }
     {
         self.parts.owed(self.room, self.lines, worker, attempt)
@@ -51,9 +53,9 @@ impl<D: Device, A: Allocator + Copy> Controller<D, A> {
     ///
     /// Allocates nothing. The cost is that of [`owed`](Controller::owed) and of a step.
     pub fn take_over(&mut self, line: Line) -> Result<(), TakeFault>
-        ensures taken { OnOk result (IsTaken self.old line self.new) }
-        ensures fault { IfErr result (λ fault. IsTakeFault (MayFail D.state) self.old line fault self.new) }
-        ensures system { IsSystem self.new }
+        ensures taken { OnOk result (IsTakenBehind self.old line self.new) }
+        ensures fault { IfErr result (λ fault. IsTakeFaultBehind (MayFail D.state) self.old line fault self.new) }
+        ensures controlled { IsControlled self.new }
     {
         let owed = self
             .parts
@@ -83,7 +85,7 @@ impl<D: Device, A: Allocator + Copy> System<D, A> {
             worker attempt result }
         ensures served { result ≢ replies.DeviceFailed }
     {
-        self.controller().owed(worker, attempt)
+        self.controller.owed(worker, attempt)
     }
 
     /// Takes over a line that another answered, as [`Controller::take_over`] does, and at its cost: the journal gains the line.

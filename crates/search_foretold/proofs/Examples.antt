@@ -92,7 +92,7 @@ every_schedule_ends_done : EveryScheduleEndsDone declaration plans
 every_schedule_ends_done ls schedule = record { unstalled = unstalled ls; unrefused = unrefused ls }
 
 abbrev before : Account
-before = record { declaration = declaration; room = 4; openings = own_openings declaration; earlier = []; journal = []; failures = 0 ∷ [] }
+before = record { declaration = declaration; room = 4; opened = None; openings = own_openings declaration; earlier = []; journal = []; failures = 0 ∷ [] }
 
 abbrev journal : List Line
 journal = line_of 0 (Start visit) (Started first) ∷ line_of 0 (Finish first) Finished ∷ []
@@ -138,6 +138,7 @@ visit_finishes = OwedToFinish.finished (record { act = first; worker = 0; op = v
 
 system : IsSystem after
 system = record {
+  first = refl;
   lawful = lawful;
   good_room = (omega arith, omega arith);
   honest = ((visit_starts, (λ e. cc), (visit_finishes, (λ e. cc), tt)), tt);

@@ -5,10 +5,16 @@ use Rattle.path_model.specs.declared.journal.Line.{Line}
 use Rattle.path_model.specs.Declarations.{Declaration}
 use Rattle.path_shelf.specs.States.{State}
 use Rattle.path_system.specs.Accounts.{Account, account_of, IsSystem, rotated}
+use Rattle.path_system.specs.Controllers.{IsControlled}
 use Rattle.path_system.specs.Taken.{IsTaken}
+use Rattle.path_system.proofs.CallerLemmas.{is_system_of}
 use Rattle.tell_base.specs.Own.{own_states}
 use Rattle.tell_journals.specs.Behind.{HasAnswered, segments_of}
 use Rattle.tell_journals.specs.Inner.{HasTaken, HasTakenAll, IsFresh}
+
+-- a rotation leaves a system
+pub turned : (system new : Account) → IsSystem system → new ≡ rotated system → IsControlled new → IsSystem new
+turned system new right is controlled = is_system_of new (ap (λ (a : Account). a.opened) is ∙ right.first) controlled
 
 -- no line was taken
 pub none_taken : (old : Account) → IsSystem old → old.journal ≡ [] → HasTaken old [] old

@@ -11,9 +11,8 @@ use Rattle.path_model.specs.declared.journal.Activation.{Activation}
 use Rattle.path_model.specs.declared.ids.ActId.{ActId}
 use Rattle.path_model.specs.Journals.{activation_of}
 use Rattle.path_model.specs.Declarations.{Declaration, paths_of, resource_of}
-use Rattle.path_model.specs.Asked.{IsAsked}
 use Rattle.path_model.specs.Rooms.{IsRoom}
-use Rattle.path_model.specs.Segments.{joined, room_behind, AreHonest}
+use Rattle.path_model.specs.Segments.{joined, AreHonestFrom}
 use Rattle.path_decl.specs.Lawful.{Lawful}
 use Rattle.path_gate.specs.Standings.{Standing, IsAt}
 use Rattle.path_ledger.specs.Ledgers.{Book}
@@ -23,8 +22,9 @@ use Rattle.path_shelf.specs.States.{State, ActsAt, state_at, laws_of}
 use Rattle.path_shelf.specs.Shelves.{declared_laws}
 use Rattle.path_step.specs.Steps.{Present}
 use Rattle.path_step.specs.Steps as steps
-use Rattle.path_step.specs.Presents.{IsPresentOf}
+use Rattle.path_step.specs.Presents.{AreTogether, IsLeftBy}
 use Rattle.path_system.specs.Accounts.{contents_of}
+use Rattle.path_system.specs.Before.{LeadTo, WasAsked}
 use Rattle.path_system.specs.declared.fault.ReplaceFault.{ReplaceFault}
 use Rattle.path_system.specs.declared.fault.ReplaceFault.TheVariants.{Busy, Used, OtherLaw}
 use Rattle.path_system.specs.Inner.Openings.{Row, AreFor, numbers_of}
@@ -93,7 +93,7 @@ pub record AreReady (parts : PartsValue) (room lines : ℕ) : Type 0 where
   pub running : steps.IsRunning parts.present.standing parts.present.register
   pub few : lines + length parts.present.register.live ≤ room
   pub places : parts.places ≡ room
-  pub admitted : parts.present.standing.admitted ≡ parts.present.register.begun
+  pub admitted : parts.present.standing.admitted ≤ parts.present.register.begun
 
 -- an attempt after this number of lines takes the old parts to the new ones with this reply, and this is known of a device that is used
 pub record Answers (known : Marked → ℕ → Verb → Reply → Marked → Type 0) (old : PartsValue) (room lines w : ℕ) (attempt : Attempt)
@@ -131,24 +131,39 @@ pub record FailsUse (may_fail : Type 0) (old : PartsValue) (w : ℕ) (n : ActId)
   pub places : new.places ≡ old.places
   pub failed : HasFailedStill may_fail old.devices (resource_of old.declaration activation.op.0) new.devices
 
--- the parts agree with an honest journal
-pub record AreTrueTo (parts : PartsValue) (room : ℕ) (openings : List (List ℕ)) (journal : List Line) : Type 0 where
+-- what holds of the parts after this number of lines, whichever lines came before: the gate is that of the declaration, and together with
+-- what is live; there are places for the finishes of all that is live; and each resource has a device of its law, and a mark
+pub record AreSound (parts : PartsValue) (room lines : ℕ) : Type 0 where
   pub lawful : Lawful parts.declaration
-  pub present : IsPresentOf parts.present (contents parts.devices) parts.declaration room openings journal
+  pub paths : parts.present.standing.paths ≡ paths_of parts.declaration
+  pub together : AreTogether parts.present (length parts.declaration.operations)
+  pub few : lines + length parts.present.register.live ≤ room
+  pub places : parts.places ≡ room
   pub laws : laws_of parts.devices.states ≡ declared_laws parts.declaration
-  pub asked_count : length parts.devices.asked ≡ length parts.declaration.resources
-  pub asked :
-      (r : ℕ) → r < length parts.declaration.resources
-      → (slice_index_or parts.devices.asked r false ≡ true) ↔ IsAsked parts.declaration journal r
+  pub marks : length parts.devices.asked ≡ length parts.declaration.resources
 
--- what always holds of a controller: its parts agree with all lines, which are the segments of an honest journal; the present ones are
--- counted; there is a place for each activation of the room; and there are places for the numbers of any device that may replace another
+-- the parts agree with all lines, and these are the segments of an honest journal, behind lines that came before over these opening
+-- contents
+pub record AreTrueTo (parts : PartsValue) (room : ℕ) (openings : List (List ℕ)) (before : List Line) (past : Lines) : Type 0 where
+  pub left : IsLeftBy parts.present (contents parts.devices) parts.declaration openings ((before ++ joined past.earlier) ++ past.present)
+  pub segments : AreHonestFrom parts.declaration room openings before (past.earlier ++ past.present ∷ [])
+
+-- a device is marked exactly if it was asked
+abbrev pub AreMarked : Declaration → List Bool → Lines → Type 0
+AreMarked d asked past =
+    (r : ℕ) → r < length d.resources
+    → (slice_index_or asked r false ≡ true) ↔ WasAsked d past.opened (joined past.earlier ++ past.present) r
+
+-- what always holds of a controller: its parts are sound, and agree with all lines, whichever came before; the present ones are counted;
+-- and there are places for the numbers of any device that may replace another
 pub record IsTold (parts : PartsValue) (room : ℕ) (rows : List Row) (past : Lines) (count : ℕ) : Type 0 where
-  pub told : AreTrueTo parts (room_behind (joined past.earlier) room) (numbers_of rows) (joined past.earlier ++ past.present)
-  pub segments : AreHonest parts.declaration room (numbers_of rows) (past.earlier ++ past.present ∷ [])
+  pub sound : AreSound parts room count
+  pub marked : AreMarked parts.declaration parts.devices.asked past
+  pub behind :
+      (openings : List (List ℕ)) (before : List Line) → LeadTo parts.declaration past.opened (numbers_of rows) openings before
+      → AreTrueTo parts room openings before past
   pub good_room : IsRoom room
   pub counted : count ≡ length past.present
-  pub places : parts.places ≡ room
   pub roomy : AreFor rows parts.declaration
 
 -- a gate, a ledger and marks before any attempt
@@ -156,7 +171,7 @@ pub record AreFresh (standing : Standing) (book : Book) (asked : List Bool) (d :
   pub paths : standing.paths ≡ paths_of d
   pub at : IsAt standing []
   pub admitted : standing.admitted ≡ 0
-  pub idle : book ≡ record { live = []; begun = 0; room = room }
+  pub idle : book ≡ record { live = []; first = 0; begun = 0; room = room }
   pub unasked : asked ≡ replicate (length d.resources) false
 
 -- the parts before any attempt, over devices in these states

@@ -37,3 +37,6 @@ returns-in-Err-explained_behind g c =
     (may_behind c.args.declaration.now c.args.room texts (λ d. IsExplanationBehind d c.args.room texts c.args.attempts.now) (λ d. IsBadAttempts d c.args.attempts.now) u.0 (status_of c.in-Err-explained_behind.fault) u.1
     (subst (λ (d : Declaration). RefusesText ⊥ (IsBadAttempts d c.args.attempts.now) (status_of c.in-Err-explained_behind.fault)) (same_declaration u.0 c.args.room texts c.in-Ok.behind.system u.2) c.in-Err-explained_behind.ensures.err))
     c.tell_place.ensures
+
+pub explained_behind-requires : goal.explained_behind-requires
+explained_behind-requires g c = c.in-Ok.ensures.ok.2.answered.is_system.first

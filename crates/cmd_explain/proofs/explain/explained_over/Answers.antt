@@ -6,6 +6,7 @@ use Rattle.tell_base.specs.Statuses.{status_of}
 use Rattle.tell_base.specs.Ends.{RefusesText}
 use Rattle.tell_base.specs.Refusals.{HasAttempts, IsBadAttempts, IsUnopened}
 use Rattle.tell_base.proofs.CallerLemmas.{refuses_attempts, refuses_opening}
+use Rattle.path_system.specs.Accounts.{Account}
 use Rattle.cmd_explain.proofs.explain.explained_over.Goals as goal
 
 pub returns-in-Ok-open-clause-ok : goal.returns-in-Ok-open-clause-ok
@@ -30,3 +31,6 @@ returns-clause-err g c =
 pub returns-in-Err-clause-err : goal.returns-in-Err-clause-err
 returns-in-Err-clause-err g c =
     refuses_attempts _ c.args.decl.declaration c.args.attempts.now c.in-Err.fault (λ e. c.in-Err.ensures.too_long.0 (ap Err e)) (λ a b. c.in-Err.ensures.none a b)
+
+pub explained-text-requires : goal.explained-text-requires
+explained-text-requires g c = ap (λ (a : Account). a.opened) c.in-Ok-open.ensures.ok

@@ -4,6 +4,7 @@ use Rattle.std.specs.Prelude.{codes, decimal}
 use Rattle.std.specs.String.{string_bytes}
 use Rattle.path_model.specs.Declarations.{Declaration}
 use Rattle.path_system.specs.Accounts.{Account}
+use Rattle.path_system.proofs.CallerLemmas.{of_system}
 use Rattle.cmd_explain.proofs.Explaining.{grown_so}
 use Rattle.cmd_explain.proofs.explain.push_step.Goals as goal
 
@@ -13,7 +14,7 @@ returns g c =
     record {
       reply = c.step-reply.result;
       why = string_bytes c.in_ok-reasons.reasons;
-      owed = c.step-reply.ensures.owed;
+      owed = of_system c.args.system.now c.requires _ c.step-reply.ensures.owed;
       failed = c.step-reply.ensures.may_fail;
       stepped = c.step-reply.ensures.journal;
       grown = c.in_ok-keep.ensures

@@ -37,3 +37,6 @@ returns-in-Err-traced_on g c =
     (may_behind c.args.declaration.now c.args.room texts (λ d. IsTraceBehind d c.args.room texts c.args.report c.args.attempts.now) (λ d. IsBadAttempts d c.args.attempts.now) u.0 (status_of c.in-Err-traced_on.fault) u.1
     (subst (λ (d : Declaration). RefusesText ⊥ (IsBadAttempts d c.args.attempts.now) (status_of c.in-Err-traced_on.fault)) (same_declaration u.0 c.args.room texts c.in-Ok.behind.system u.2) c.in-Err-traced_on.ensures.err))
     c.tell.ensures
+
+pub traced_on-requires : goal.traced_on-requires
+traced_on-requires g c = c.in-Ok.ensures.ok.2.answered.is_system.first

@@ -1,10 +1,11 @@
 -- Each line in turn gets its reply, and a line that isn't an attempt refutes the text.
-use Rattle.std.proofs.Common.{refl, arith}
+use Rattle.std.proofs.Common.{refl, ap, ◌∙◌, arith}
 use Rattle.std.proofs.lemmas.Grind.{common_steps}
 use Rattle.std.proofs.lemmas.List.{nil_from_length, length-take}
 use Rattle.std.proofs.lemmas.Result.{err_from_is_err_and}
 use Rattle.cmd_trace.proofs.FaultLemmas.{refuses_line}
 use Rattle.cmd_trace.proofs.TraceLemmas.{answers_none, answers_more, answers_all, answers_refuted, first_fits}
+use Rattle.path_system.specs.Accounts.{Account}
 use Rattle.cmd_trace.proofs.trace.answers.Goals as goal
 
 pub loop-rest-init : goal.loop-rest-init
@@ -32,3 +33,6 @@ loop-rest-preserved g c =
 
 pub returns-clause-ok : goal.returns-clause-ok
 returns-clause-ok g c = answers_all _ c.args.system.now c.loop-rest.system c.args.attempts.now c.loop-rest.rest.now _ c.loop-rest.number (nil_from_length c.loop-rest.rest.now (grind (arith, common_steps))) c.loop-rest.invariant
+
+pub answer-requires : goal.answer-requires
+answer-requires g c = ap (λ (a : Account). a.opened) c.loop-rest.invariant.rest_stays ∙ c.requires.first

@@ -1,9 +1,11 @@
 -- The trace is that of the system that was opened.
 use Rattle.std.specs.Prelude.{map}
+use Rattle.std.proofs.Common.{ap}
 use Rattle.std.proofs.lemmas.Result.{IfErr-weaker}
 use Rattle.tell_base.specs.Statuses.{status_of}
 use Rattle.tell_base.proofs.CallerLemmas.{may_refuse}
 use Rattle.cmd_trace.proofs.FaultLemmas.{refuses_memory}
+use Rattle.path_system.specs.Accounts.{Account}
 use Rattle.cmd_trace.proofs.trace.traced.Goals as goal
 
 pub returns-in-Ok-clause-ok : goal.returns-in-Ok-clause-ok
@@ -22,3 +24,6 @@ returns-clause-err g c =
 
 pub returns-in-Some-clause-err : goal.returns-in-Some-clause-err
 returns-in-Some-clause-err g c = rw c.deref.ensures.value at c.in-Some.ensures.some
+
+pub replies_and_report-trace-requires-clause-first : goal.replies_and_report-trace-requires-clause-first
+replies_and_report-trace-requires-clause-first g c = ap (λ (a : Account). a.opened) c.in-Ok.ensures.ok

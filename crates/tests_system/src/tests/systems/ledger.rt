@@ -1,6 +1,6 @@
 //! The ledger.
 
-use path_ledger::{EndFault, Ledger};
+use path_ledger::{EndFault, HoldFault, Ledger};
 use path_model::{ActId, Activation, OpId, OutOfMemory};
 use std::alloc::{Allocator, Global};
 use std::process::Abort;
@@ -135,4 +135,89 @@ fn check_ended_own(rt: &impl Abort, ledger: &mut Ledger, rows: &[(u32, ActId, En
 fn only_its_own_worker_ends_it(rt: HostRuntime) {
     let mut ledger = three_live(&rt, rt.alloc());
     check_ended_own(&rt, &mut ledger, ENDED_OWN);
+}
+
+const LOW: Activation = Activation {
+    act: ActId(2),
+    worker: 4,
+    op: OpId(1),
+};
+
+const HIGH: Activation = Activation {
+    act: ActId(4294967299),
+    worker: 5,
+    op: OpId(0),
+};
+
+/// What a ledger that holds what others began answers: what is found of the high number, the number of what it begins itself, the next one,
+/// and how many it began.
+type Held = (Option<Activation>, ActId, u64, u32);
+
+const HELD: Held = (Some(HIGH), ActId(4294967300), 4294967301, 1);
+
+fn held<A: Allocator + Copy>(
+    rt: &impl Abort,
+    alloc: A,
+    room: u32,
+    live: &[Activation],
+    next: u64,
+) -> Result<Held, HoldFault> {
+    assert!(rt; live.len() < room as usize);
+    assert!(rt; next < 4294967400);
+    let mut ledger = Ledger::holding(alloc, room, live, next)?;
+    let found = ledger.find(HIGH.act);
+    let act = ledger.begin(7, OpId(0));
+    let answers = (found, act, ledger.next(), ledger.begun());
+    drop(ledger);
+    Ok(answers)
+}
+
+#[test]
+fn numbers_go_on_behind_those_of_others(rt: HostRuntime) {
+    assert_eq!(rt;
+        held(&rt, rt.alloc(), 3, &[LOW, HIGH], 4294967300),
+        Ok(HELD)
+    );
+}
+
+// Counts the requests of such a ledger that are refused, each of which it must tell, until it gives all answers.
+fn held_refusals(rt: &impl Abort, heap: Global) -> Result<u64, u64> {
+    count_refusals(
+        heap,
+        HoldFault::OutOfMemory,
+        |refusing: &Refusing<Global>| {
+            Ok(held(rt, refusing, 3, &[LOW, HIGH], 4294967300)? == HELD)
+        },
+    )
+}
+
+#[test]
+fn holding_wants_memory_once(rt: HostRuntime) {
+    assert_eq!(rt; held_refusals(&rt, rt.alloc()), Ok(1));
+}
+
+// The room, what was begun, the next number, and what is wrong.
+const REFUSED: &[(u32, &[Activation], u64, HoldFault)] = &[
+    (1, &[LOW, HIGH], 4294967300, HoldFault::TooMany),
+    (2, &[HIGH, LOW], 4294967300, HoldFault::NotAscending(1)),
+    (2, &[LOW, LOW], 4294967300, HoldFault::NotAscending(1)),
+    (2, &[LOW, HIGH], 4294967299, HoldFault::NotGiven(1)),
+    (2, &[LOW, HIGH], 2, HoldFault::NotGiven(0)),
+];
+
+fn check_refused(rt: &impl Abort, heap: Global, rows: &[(u32, &[Activation], u64, HoldFault)]) {
+    for (room, live, next, want) in rows {
+        match Ledger::holding(heap, *room, *live, *next) {
+            Ok(ledger) => {
+                drop(ledger);
+                assert!(rt; false);
+            }
+            Err(fault) => assert_eq!(rt; fault, *want),
+        }
+    }
+}
+
+#[test]
+fn what_a_ledger_cannot_hold_is_named(rt: HostRuntime) {
+    check_refused(&rt, rt.alloc(), REFUSED);
 }

@@ -27,6 +27,7 @@ use denote.Steps.{nothing}
 use denote.Struct.Struct.{within}
 use denote.Struct.Owning.{shape}
 use denote.Triple.Walked.{says, Stays, Walks, stay_dropped, walk_of, ends_at, Goes-dropped}
+use Rattle.std.specs.Prelude.{None}
 use Rattle.std_alloc.proofs.ResultValues.{and_tt}
 use Rattle.core.proofs.alloc.Calls.{α, handle_tells}
 use Rattle.path_c.proofs.AsBox.{E}
@@ -44,7 +45,7 @@ abbrev stayed : Stays (F.ended).signature.params (F.ended).kept
 stayed = (stay_dropped (plain (λ _. Z)) yes, tt)
 
 abbrev made : Z.Denot → Held.the_row.Denot
-made a = record { at = null_ptr; alloc = a; full = false; service = record { account = record { declaration = record { resources = []; operations = []; paths = [] }; room = 0; openings = []; earlier = []; journal = []; failures = [] }; keeps = false } }
+made a = record { at = null_ptr; alloc = a; full = false; service = record { account = record { declaration = record { resources = []; operations = []; paths = [] }; room = 0; opened = None; openings = []; earlier = []; journal = []; failures = [] }; keeps = false } }
 
 abbrev word : Val → Val
 word h = vstruct (vcons (vint w64 0) (vcons h vnil))

@@ -7,7 +7,8 @@ use Rattle.path_ledger.proofs.ledger.Ledger.end_own.Goals as goal
 
 pub invariant_of-self : goal.invariant_of-self
 invariant_of-self g c = record {
-  numbered = rw c.remove.ensures.others (numbered_remove 0 c.self.inside.live.items _ c.self.inside.begun c.self.invariant.numbered);
+  numbered = rw c.remove.ensures.others (numbered_remove 0 c.self.inside.live.items _ _ c.self.invariant.numbered);
+  small = search rules;
   within = search rules;
   reserved = search rules;
 }

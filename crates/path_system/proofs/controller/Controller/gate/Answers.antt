@@ -1,17 +1,15 @@
 -- The gate is at the history of all lines, which is legal.
-use Rattle.std.proofs.Common.{◌∙◌, ap, sym, subst}
-use Rattle.path_model.specs.Journals.{admitted_history}
-use Rattle.path_model.specs.Legal.{Legal}
-use Rattle.path_gate.specs.Standings.{Standing, IsAt}
-use Rattle.path_system.proofs.Agreed.{legal_now}
-use Rattle.path_system.proofs.Controlled.{all}
+use Rattle.std.proofs.Common.{◌∙◌, ap}
+use Rattle.path_gate.specs.Standings.{Standing}
+use Rattle.path_system.proofs.Telling.{gate_at, legal_all}
 use Rattle.path_system.proofs.controller.Controller.gate.Goals as goal
 
 pub returns-clause-paths : goal.returns-clause-paths
-returns-clause-paths g c = rw (← c.self.view_is) (ap (λ (s : Standing). s.paths) c.gate.ensures ∙ c.self.invariant.told.present.paths)
+returns-clause-paths g c = rw (← c.self.view_is) (ap (λ (s : Standing). s.paths) c.gate.ensures ∙ c.self.invariant.sound.paths)
 
 pub returns-clause-at : goal.returns-clause-at
-returns-clause-at g c = rw (← c.self.view_is) (subst (λ (s : Standing). IsAt s (admitted_history (all _ _ _ _ _ c.self.invariant))) (sym c.gate.ensures) c.self.invariant.told.present.at)
+returns-clause-at g c =
+    rw (← c.self.view_is) (λ openings before leads. gate_at _ _ _ _ _ c.self.invariant openings before leads c.gate.result.now c.gate.ensures)
 
 pub returns-clause-legal : goal.returns-clause-legal
-returns-clause-legal g c = let t = c.self.invariant.told in rw (← c.self.view_is) (subst (λ xs. Legal xs (admitted_history (all _ _ _ _ _ c.self.invariant))) t.present.paths (legal_now _ _ _ _ t))
+returns-clause-legal g c = rw (← c.self.view_is) (λ openings before leads. legal_all _ _ _ _ _ c.self.invariant openings before leads)

@@ -6,8 +6,7 @@ use Rattle.path_system.proofs.controller.Controller.into_devices.Goals as goal
 
 pub returns : goal.returns
 returns g c =
-    let present = c.self.invariant.told.present in
     rw (← c.self.view_is) (record {
-      laws = ap laws_of c.into_devices.ensures ∙ c.self.invariant.told.laws;
-      held = λ r within. ap (λ xs. get_or (contents_of xs) r []) c.into_devices.ensures ∙ sym (present.held r within);
+      laws = ap laws_of c.into_devices.ensures ∙ c.self.invariant.sound.laws;
+      held = λ openings before leads r within. ap (λ xs. get_or (contents_of xs) r []) c.into_devices.ensures ∙ sym ((c.self.invariant.behind openings before leads).left.held r within);
     })

@@ -1,12 +1,14 @@
 -- The parts are those of the empty journal.
-use Rattle.std.proofs.Common.{◌≡◌, refl, ap, sym, subst, ◌∙◌, length}
+use Rattle.std.proofs.Common.{◌≡◌, [], refl, ap, sym, subst, ◌∙◌, length}
 use Rattle.std.specs.Prelude.{map}
 use Rattle.path_model.specs.Declarations.{Declaration}
 use Rattle.path_system.specs.Accounts.{contents_of}
 use Rattle.path_system.specs.Inner.Openings.{AreFor, numbers_of}
-use Rattle.path_system.specs.Inner.Parts.{Marked}
-use Rattle.path_system.proofs.Opened.{have_places, same_for, opened_count, true_opened}
-use Rattle.path_system.proofs.Controlled.{is_system}
+use Rattle.path_system.specs.Inner.Parts.{Marked, AreMarked, AreTrueTo}
+use Rattle.path_system.specs.Inner.Pasts.{Lines, none}
+use Rattle.path_system.proofs.Opened.{have_places, same_for, opened_count, sound_opened, true_opened, unmarked_opened}
+use Rattle.path_system.proofs.Controlled.{is_controlled}
+use Rattle.path_system.proofs.Behind.{is_system_of}
 use Rattle.path_system.proofs.controller.Controller.over.Goals as goal
 
 pub write_all-requires-clause-devices : goal.write_all-requires-clause-devices
@@ -26,14 +28,16 @@ invariant_of-result g c =
     let states = map g.D.Device.state c.args.devices.items in
     let numbers : numbers_of c.write_all.new.self ≡ contents_of states = c.write_all.ensures.numbers ∙ ap contents_of (c.shelf.ensures ∙ ap (λ (m : Marked). m.states) o.devices) in
     rw c.new.ensures (record {
-      told = rw numbers (true_opened c.in_ok-parts.parts c.args.decl.declaration c.args.room states c.requires.laws o);
-      segments = (tt, tt);
+      sound = sound_opened c.in_ok-parts.parts c.args.decl.declaration c.args.room states c.requires.laws o;
+      marked = subst (λ d. AreMarked d c.in_ok-parts.parts.devices.asked none) (sym o.declaration) (unmarked_opened c.in_ok-parts.parts c.args.decl.declaration c.args.room states o);
+      behind = λ openings before leads.
+          subst (λ b. AreTrueTo c.in_ok-parts.parts c.args.room openings b none) (sym leads.1)
+          (subst (λ taken. AreTrueTo c.in_ok-parts.parts c.args.room taken [] none) (sym (leads.0 ∙ numbers)) (true_opened c.in_ok-parts.parts c.args.decl.declaration c.args.room states c.requires.laws o));
       good_room = c.requires.room;
       counted = refl;
-      places = o.places;
       roomy = same_for c.write_all.new.self c.in-Ok.openings c.in_ok-parts.parts.declaration c.write_all.ensures.places
           (subst (AreFor c.in-Ok.openings) (sym o.declaration) c.in-Ok.ensures);
     })
 
 pub returns-clause-system : goal.returns-clause-system
-returns-clause-system g c = is_system _ _ _ _ _ (invariant_of-result g c) _
+returns-clause-system g c = is_system_of _ (ap (λ (l : Lines). l.opened) c.new.ensures) (is_controlled _ _ _ _ _ (invariant_of-result g c) _)

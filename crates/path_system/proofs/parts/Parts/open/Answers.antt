@@ -1,5 +1,5 @@
 -- There is one mark for each device, and none is set.
-use Rattle.std.proofs.Common.{false, length, refl, ap, sym, ◌∙◌}
+use Rattle.std.proofs.Common.{◌+◌, false, length, refl, ap, sym, ◌∙◌}
 use Rattle.std.proofs.lemmas.List.{length-replicate}
 use Rattle.path_ledger.specs.Ledgers.{Book}
 use Rattle.path_system.proofs.Opened.{opened_count}
@@ -19,7 +19,7 @@ returns-clause-ok g c =
       paths = fresh.paths;
       at = fresh.at;
       admitted = fresh.admitted;
-      idle = ap (λ (b : Book). record { live = b.live; begun = b.begun }) fresh.idle;
+      idle = ap (λ (b : Book). record { live = b.live; begun = b.first + b.begun }) fresh.idle;
       places = ap (λ (b : Book). b.room) fresh.idle;
       devices = c.new.ensures ∙ (λ i. record { states = c.over.ensures i; asked = fresh.unasked i });
     }
