@@ -16,7 +16,7 @@ import time
 import unittest
 
 import wanzoche._served.paths  # and with it all that tests look at in there
-from wanzoche import Paths, _served
+from wanzoche import Paths, StoreError, _served
 
 from .limits import LONGEST
 from .stores import OverAStore
@@ -223,6 +223,16 @@ class OnServer(OverAStore):
     def until_it_waits(self, paths):
         """Waits until one does."""
         self.until(lambda: self.waits_now(paths))
+
+    def answered(self, call):
+        """What a call returns. It is made again where the server of a busy machine doesn't answer within an outage that is short for a test."""
+        end = time.monotonic() + LONGEST
+        while True:
+            try:
+                return call()
+            except StoreError as error:
+                if "the server doesn't answer" not in str(error) or time.monotonic() > end:
+                    raise
 
     def lines(self):
         """The lines of the log, as they stand in the table."""

@@ -830,7 +830,7 @@ class Outages(OnServer, unittest.TestCase):
     def test_a_server_that_is_away(self):
         """Whoever asks is told after some time, and what is in progress stays so."""
         a = self.open(BOOK, store=self.through, outage=0.5, grace=60)
-        entry = a.enter("write")
+        entry = self.answered(lambda: a.enter("write"))
         self.proxy.is_open = False
         self.proxy.cut()
         for call in (a.report, entry.leave, lambda: a.enter("write"), lambda: a.enter("read", timeout=0.1), entry.look):
@@ -838,10 +838,10 @@ class Outages(OnServer, unittest.TestCase):
                 call()
         self.proxy.is_open = True
         self.until(lambda: a.served.clerk.trouble.away is None)
-        self.assertEqual(entry.look(), 0)
-        entry.leave()
-        self.assertEqual(a.report().live, ())
-        self.assertTrue(a.audit())
+        self.assertEqual(self.answered(entry.look), 0)
+        self.answered(entry.leave)
+        self.assertEqual(self.answered(a.report).live, ())
+        self.assertTrue(self.answered(a.audit))
 
     def test_a_close_while_the_server_is_away(self):
         self.grace = SHORT_GRACE

@@ -417,7 +417,7 @@ class Dropped(Faulty, unittest.TestCase):
         proxy = Cutting(self.server.port)
         self.addCleanup(proxy.close)
         a, b = self.open(BOOK, store=self.server.tcp_url(port=proxy.port), outage=0.3, grace=60), self.open(BOOK, grace=60)
-        entry = a.enter("write")
+        entry = self.answered(lambda: a.enter("write"))
         proxy.is_open = False
         proxy.cut()
         del entry
@@ -426,7 +426,8 @@ class Dropped(Faulty, unittest.TestCase):
         with self.assertRaisesRegex(StoreError, "the server doesn't answer"):
             a.report()
         proxy.is_open = True
-        self.all_enter(b, a)
+        self.all_enter(b)
+        self.answered(self.answered(lambda: a.enter("write", timeout=LONGEST)).leave)
         self.assertEqual(a.worker, "process 1")
 
 

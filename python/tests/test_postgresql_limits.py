@@ -71,7 +71,7 @@ class Held(OnServer):
         session = self.a.served.log.session.fileno()
         self.proxy.release()
         for paths in (self.a, self.b):
-            paths.enter("write", timeout=LONGEST).leave()
+            self.answered(self.answered(lambda: paths.enter("write", timeout=LONGEST)).leave)
         self.assertEqual((self.b.report().live, self.a.worker), ((), "process 1"))
         self.assertEqual(self.a.served.log.session.fileno(), session)
         self.assertTrue(self.b.audit())
@@ -204,14 +204,14 @@ class Outages(Held, unittest.TestCase):
     outage = LIMIT
 
     def test_each_call(self):
-        entry = self.a.enter("write")
+        entry = self.answered(lambda: self.a.enter("write"))
         starts = [lambda: self.a.try_enter("read"), lambda: self.a.enter("read"), lambda: asyncio.run(self.reads())]
         starts += [lambda: self.a.enter("read", timeout=0), lambda: self.a.enter("read", timeout=LONGEST)]
         for call in (*starts, self.a.report, self.a.journal, lambda: self.a.why("read"), entry.look, entry.leave):
             self.is_silent(call)
             self.proxy.release()
             self.until(lambda: self.a.served.clerk.trouble.away is None and self.a.served.log.session.asked_at is None)
-        entry.leave()
+        self.answered(entry.leave)
         self.goes_on()
 
     async def reads(self):
@@ -241,21 +241,21 @@ class Outages(Held, unittest.TestCase):
     def test_a_leave_that_was_done(self):
         """It is left again, and nobody else is told that it was others."""
         for _ in range(3):
-            entry = self.a.enter("write")
+            entry = self.answered(lambda: self.a.enter("write"))
             self.is_silent(entry.leave)
             self.proxy.release()
             self.until(lambda: self.b.report().live == ())
-            entry.leave()
+            self.answered(entry.leave)
         self.goes_on()
 
     def test_a_use_that_nobody_waits_for_is_not_made_later(self):
         """Behind a new session it isn't sent again."""
-        entry = self.a.enter("write")
+        entry = self.answered(lambda: self.a.enter("write"))
         self.is_silent(lambda: entry.put(7))
         self.proxy.forget()
         self.until(lambda: self.a.served.clerk.trouble.away is None)
-        self.assertEqual(entry.look(), 0)
-        entry.leave()
+        self.assertEqual(self.answered(entry.look), 0)
+        self.answered(entry.leave)
         self.b.enter("write", timeout=LONGEST).leave()
         self.assertTrue(self.b.audit())
 
