@@ -73,7 +73,7 @@ function checkExample(calls, name, files) {
 
 function checkHistories(calls) {
   const once = "resource r cell operation a, b, c path a ; (b , c) end path b ; c end path c ; b end end";
-  const never = "resource r cell operation a, b, c path a end path b ; c end path c ; b end end";
+  const never = "resource r cell operation a, b, c path a , b end path b ; c end path c ; b end end";
   same("what goes on", reachedBy(calls, SLOT, 2, 100), { kind: "goes", states: 4 });
   same("as the program says it", calls.reach(SLOT, 2, 100), done("every operation begins, the resources never all freeze\nstates 4\n"));
   same("with more workers there is more", reachedBy(calls, "resource b cell operation read path { read } end end", 3, 100).states, 4);

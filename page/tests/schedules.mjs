@@ -68,7 +68,7 @@ async function testHistories() {
   await press("Enter");
   await shows("every order of a declaration", reached, ["Every operation begins somewhere, and the resources never all freeze: 4 states.", []]);
   same("nothing is to be watched", await on("#watch-freeze", "it.hidden"), true);
-  await write("declaration", "resource r cell operation a, b, c path a end path b ; c end path c ; b end end");
+  await write("declaration", "resource r cell operation a, b, c path a , b end path b ; c end path c ; b end end");
   await shows("of another declaration nothing is known", reached, ["", []]);
   await click("#reach");
   await shows("what never begins", reached, ["2 operations never begin, whatever came before: 2 states.", ["b", "c"]]);

@@ -5,8 +5,7 @@ use Rattle.path_model.specs.Declarations.{Declaration}
 use Rattle.path_decl.specs.Text.{IsDeclarationText}
 use Rattle.search_histories.specs.declared.reached.Reached.{Reached}
 use Rattle.search_histories.specs.declared.reached.Reached.TheVariants.{Goes, Freezes, FreezesLate, Undecided}
-use Rattle.search_histories.specs.Histories.{Begins, NothingFreezes}
-use Rattle.search_histories.specs.Outcomes.{AreStates, AreMore, IsReached}
+use Rattle.search_histories.specs.Outcomes.{AreMore, EachGoes, IsReached}
 use Rattle.tell_base.specs.declared.status.Status.{Status}
 use Rattle.tell_base.specs.Ends.{UnderText}
 use Rattle.tell_base.specs.Refusals.{Under}
@@ -30,39 +29,35 @@ none_never d n (true ∷ rest) none (suc i) l = none_never d (n + 1) rest none i
 none_never d n (false ∷ rest) none i l = absurd (let e = ap length none in omega (arith, e))
 
 -- what is told where nothing freezes is what a search writes
-goes_so : (d : Declaration) (n states : ℕ) (begins : List Bool) → AreStates d n states → NothingFreezes d n → length begins ≡ length d.operations
-    → ((a : OpId) → a.0 < length d.operations → (get_or begins a.0 false ≡ true → Begins d n a) × (Begins d n a → get_or begins a.0 false ≡ true)) → (text : List ℕ) → text ≡ never_lines d 0 begins
+goes_so : (d : Declaration) (n states : ℕ) (begins : List Bool) → EachGoes d n states begins → (text : List ℕ) → text ≡ never_lines d 0 begins
     → (t : Status) (out : List ℕ) → Tells states text t out → OfReach d n t out
-goes_so d n states begins all thaws long told [] is t out w =
+goes_so d n states begins goes [] is t out w =
     subst (λ x. OfReach d n x out) (sym w.0) (record {
       states = states;
-      all_states = all;
-      thaws = thaws;
-      each_begins = λ a l. (told a l).0 (none_never d 0 begins (sym is) a.0 (omega (arith, l, long)));
+      begins = begins;
+      goes = goes;
+      each_begins = λ a l. (goes.told a l).0 (none_never d 0 begins (sym is) a.0 (let e = goes.one_each in omega (arith, l, e)));
       spelled = w.1;
     })
-goes_so d n states begins all thaws long told (b ∷ bs) is t out w =
+goes_so d n states begins goes (b ∷ bs) is t out w =
     subst (λ x. OfReach d n x out) (sym w.0) (inl (record {
       states = states;
-      all_states = all;
-      thaws = thaws;
       begins = begins;
-      one_each = long;
-      told = told;
+      goes = goes;
       some = (let e = ap length is in omega (arith, e));
       spelled = w.1 ∙ ap (λ x. x ++ states_line states) is;
     }))
 
 module _ {Y : Type 0} (d : Declaration) (n most : ℕ) where
   pub few_marks : length d.operations ≤ 256 → (reached : Reached Y) → IsReached d n most reached → FewMarks reached
-  few_marks few (Goes states begins) is = let e = is.2 in omega (arith, e, few)
+  few_marks few (Goes states begins) is = let e = is.one_each in omega (arith, e, few)
   few_marks few (Freezes lines) is = tt
   few_marks few FreezesLate is = tt
   few_marks few (Undecided states) is = tt
 
   -- what is said of what a search came to is what a search writes
   pub says_so : (reached : Reached Y) → IsReached d n most reached → (t : Status) (out : List ℕ) → Says d reached t out → OfReach d n t out
-  says_so (Goes states begins) is t out w = goes_so d n states begins.items is.0 is.1 is.2 is.3 (never_lines d 0 begins.items) refl t out w
+  says_so (Goes states begins) is t out w = goes_so d n states begins.items is (never_lines d 0 begins.items) refl t out w
   says_so (Freezes lines) is t out w = subst (λ x. OfReach d n x out) (sym w.0) (inr (inl (record { lines = lines.items; shortest = is; spelled = w.1 })))
   says_so FreezesLate is t out w = subst (λ x. OfReach d n x out) (sym w.0) (inr (inr (record { late = is; none = w.1 })))
   says_so (Undecided states) is t out w = absurd w

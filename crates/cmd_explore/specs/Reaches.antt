@@ -1,6 +1,6 @@
 -- What a search of all histories of a declaration writes.
-use Rattle.std.specs.Prelude.{◌≡◌, ◌<◌, ◌≤◌, ◌⊎◌, ◌↔◌, ◌+◌, ℕ, Bool, true, false, List, [], ◌∷◌, ◌++◌, codes, decimal, length}
-use Rattle.std.specs.Prelude.{slice_index_or, Some}
+use Rattle.std.specs.Prelude.{◌≡◌, ◌<◌, ◌≤◌, ◌⊎◌, ◌+◌, ℕ, Bool, true, false, List, [], ◌∷◌, ◌++◌, codes, decimal, length}
+use Rattle.std.specs.Prelude.{Some}
 use Rattle.path_model.specs.declared.ids.OpId.{OpId}
 use Rattle.path_model.specs.declared.journal.Line.{Line}
 use Rattle.path_model.specs.Declarations.{Declaration}
@@ -8,8 +8,9 @@ use Rattle.path_lines.specs.LineTexts.{operation_text}
 use Rattle.path_journal.specs.JournalTexts.{journal_text}
 use Rattle.search_histories.specs.declared.reached.Reached.{Reached}
 use Rattle.search_histories.specs.declared.reached.Reached.TheVariants.{Goes, Freezes, FreezesLate, Undecided}
-use Rattle.search_histories.specs.Histories.{Begins, NothingFreezes}
-use Rattle.search_histories.specs.Outcomes.{ample, AreStates, IsShortestFreeze, IsLateFreeze}
+use Rattle.search_histories.specs.Histories.{Begins}
+use Rattle.search_histories.specs.Apart.{all_of}
+use Rattle.search_histories.specs.Outcomes.{ample, EachGoes, OfSomeGroup, IsShortestFreeze, IsLateFreeze}
 use Rattle.tell_base.specs.declared.status.Status.{Status}
 use Rattle.tell_base.specs.declared.status.Status.TheVariants.{Done, Unsound}
 use Rattle.tell_base.specs.Ends.{OfText, Writes as WritesBytes}
@@ -17,7 +18,7 @@ use Rattle.tell_base.specs.Ends.{OfText, Writes as WritesBytes}
 abbrev pub states_line : ℕ → List ℕ
 states_line states = codes "states " ++ (decimal states ++ 10 ∷ [])
 
--- what is written if every operation begins and no history freezes the paths
+-- what is written if every operation begins and no history freezes a group
 abbrev pub fine_text : ℕ → List ℕ
 fine_text states = codes "every operation begins, the resources never all freeze" ++ (10 ∷ states_line states)
 
@@ -53,33 +54,30 @@ abbrev pub FewMarks : {Y : Type 0} → Reached Y → Type 0
 FewMarks (Goes states begins) = length begins.items ≤ 256
 FewMarks reached = Unit {0}
 
--- each operation begins behind some history of n workers, none of which freezes the paths, and there are so many states
+-- each operation begins behind some history of n workers, none of which freezes a group, and the groups have so many states
 pub record WritesFine (d : Declaration) (n : ℕ) (bytes : List ℕ) : Type 0 where
   pub states : ℕ
-  pub all_states : AreStates d n states
-  pub thaws : NothingFreezes d n
-  pub each_begins : (a : OpId) → a.0 < length d.operations → Begins d n a
+  pub begins : List Bool
+  pub goes : EachGoes d n states begins
+  pub each_begins : (a : OpId) → a.0 < length d.operations → Begins d (all_of d) n a
   pub spelled : bytes ≡ fine_text states
 
--- no history freezes the paths, and the bytes name the operations that none begins, one at least
+-- no history freezes a group, and the bytes name the operations that none begins, one at least
 pub record WritesNever (d : Declaration) (n : ℕ) (bytes : List ℕ) : Type 0 where
   pub states : ℕ
-  pub all_states : AreStates d n states
-  pub thaws : NothingFreezes d n
   pub begins : List Bool
-  pub one_each : length begins ≡ length d.operations
-  pub told : (a : OpId) → a.0 < length d.operations → (slice_index_or begins a.0 false ≡ true) ↔ Begins d n a
+  pub goes : EachGoes d n states begins
   pub some : 0 < length (never_lines d 0 begins)
   pub spelled : bytes ≡ never_lines d 0 begins ++ states_line states
 
--- the bytes are the journal of a shortest history that freezes the paths, or there are none, since it would be too long
+-- the bytes are the journal of a shortest history of a group that freezes it, or there are none, since it would be too long
 pub record WritesFreeze (d : Declaration) (n : ℕ) (bytes : List ℕ) : Type 0 where
   pub lines : List Line
-  pub shortest : IsShortestFreeze d n lines
+  pub shortest : OfSomeGroup d (λ g. IsShortestFreeze d g n lines)
   pub spelled : bytes ≡ journal_text d (Some ample) lines
 
 pub record WritesLate (d : Declaration) (n : ℕ) (bytes : List ℕ) : Type 0 where
-  pub late : IsLateFreeze d n
+  pub late : OfSomeGroup d (λ g. IsLateFreeze d g n)
   pub none : bytes ≡ []
 
 -- what a search of the histories of n workers writes at its status

@@ -1,5 +1,5 @@
 //! From bytes to bytes: looks at every schedule of a script, and says that all of them end done, or shows the shortest that doesn't; or
-//! looks at every history of a declaration, and says which operations never begin, or shows how its paths freeze.
+//! looks at every history of a declaration, and says which operations never begin, or shows how a group of them freezes that paths join.
 #![tactic(auto)]
 
 mod explore;

@@ -20,7 +20,7 @@ use std::alloc::Allocator;
 use std::io::Write;
 use tell_base::{Fault, Status, put_ending, tell};
 
-/// Writes what is so of a declaration whose paths can't freeze.
+/// Writes what is so of a declaration of which no group can freeze.
 fn tell_goes<A: Allocator + Copy, O: Write, E: Write>(
     alloc: A,
     decl: &Decl<A>,
@@ -38,7 +38,7 @@ fn tell_goes<A: Allocator + Copy, O: Write, E: Write>(
     }
 }
 
-/// Writes the journal of a history that freezes the paths.
+/// Writes the journal of a history that freezes a group.
 fn tell_journal<A: Allocator + Copy, O: Write, E: Write>(
     alloc: A,
     decl: &Decl<A>,
@@ -84,11 +84,11 @@ fn tell_reached<A: Allocator + Copy, O: Write, E: Write>(
 /// Looks at every history of a declaration in which at most `workers` executions are in progress at once, and at most at `most` states, as
 /// [`reach`](search_histories::reach) does and at its cost.
 ///
-/// `Done`: every operation begins somewhere, and the paths can't freeze; `out` gets this, and how many states there are. `Unsound`: they
-/// can, and `out` gets the journal of a shortest history behind which nothing is live and nothing that a path names may begin, as a text
-/// of version 2 with room for [`MOST_LINES`](path_model::MOST_LINES) lines, or nothing if it has more; `err` says so. Or they can't, and
-/// `out` gets a line for each operation that never begins, and how many states there are. `Undecided`: there are more states; nothing was
-/// written, and `err` says so. `StreamFailed`: a writer failed. `NoMemory`: memory ran out, and a front of the text was written. A fault is
+/// `Done`: every operation begins somewhere, and no group can freeze; `out` gets this, and how many states the groups have together.
+/// `Unsound`: one can, and of the first that can `out` gets the journal of a shortest history behind which nothing is live and nothing of
+/// the group that a path names may begin, as a text of version 2 with room for [`MOST_LINES`](path_model::MOST_LINES) lines, or nothing if
+/// it has more; `err` says so. Or none can, and `out` gets a line for each operation that never begins, and how many states there are.
+/// `Undecided`: a group has more states, and none that was looked at whole can freeze; nothing was written, and `err` says so. `StreamFailed`: a writer failed. `NoMemory`: memory ran out, and a front of the text was written. A fault is
 /// one line on `err`.
 pub fn reach_to<A: Allocator + Copy, O: Write, E: Write>(
     alloc: A,
@@ -118,8 +118,8 @@ pub fn reach_bytes<A: Allocator + Copy, O: Write, E: Write>(
     out: &mut O,
     err: &mut E,
 ) -> Searched
-    // Done: each operation begins behind some history, and none freezes the paths. Unsound: an operation that is named begins behind none,
-    // or a shortest history that freezes the paths was written. Undecided: there are more states than were to be looked at.
+    // Done: each operation begins behind some history, and none freezes a group. Unsound: an operation that is named begins behind none,
+    // or a shortest history of a group that freezes it was written. Undecided: there are more states than were to be looked at.
     ensures { HasSearched (UnderText declaration.now (λ d. OfReach d workers)) (Under declaration.now (λ d. AreMore d workers most))
         (O.contents out.old) (O.contents out.new) result }
 {

@@ -44,7 +44,7 @@ fn never_text<A: Allocator + Copy>(
     Ok(text)
 }
 
-/// What is written if every operation begins and no history freezes the paths. Fails only if allocation fails.
+/// What is written if every operation begins and no history freezes a group. Fails only if allocation fails.
 fn fine<A: Allocator + Copy>(alloc: A, states: usize) -> Result<String<A>, OutOfMemory>
     ensures { IfOk result (λ text. string_bytes text ≡ fine_text states) }
 {
@@ -56,7 +56,7 @@ fn fine<A: Allocator + Copy>(alloc: A, states: usize) -> Result<String<A>, OutOf
     Ok(text)
 }
 
-/// What is written of a declaration whose paths can't freeze, with so many states and these marks, and how that ends. Fails only if
+/// What is written of a declaration of which no group can freeze, with so many states and these marks, and how that ends. Fails only if
 /// allocation fails.
 pub fn goes_text<A: Allocator + Copy>(
     alloc: A,

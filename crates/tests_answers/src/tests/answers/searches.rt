@@ -72,7 +72,7 @@ const ROWS: &[Row] = &[
     ),
     (
         Asked::Declaration(
-            "resource r cell operation a, b, c path a end path b ; c end path c ; b end end",
+            "resource r cell operation a, b, c path a , b end path b ; c end path c ; b end end",
             2,
         ),
         9,
