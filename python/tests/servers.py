@@ -23,11 +23,11 @@ from .stores import OverAStore
 
 NEEDED = os.environ.get("WANZOCHE_POSTGRESQL") == "needed"
 """Whether a server that can't be had is a failure."""
-_served.times.OPENING = _served.times.SPARE = _served.times.CLOSING = LONGEST
+_served.times.OPENING = _served.times.SPARE = _served.times.CLOSING = _served.times.OUTAGE = LONGEST
 COMMAND = [
     sys.executable,
     "-c",
-    "import sys; from wanzoche._served import times; times.OPENING = times.SPARE = times.CLOSING = {}; "
+    "import sys; from wanzoche._served import times; times.OPENING = times.SPARE = times.CLOSING = times.OUTAGE = {}; "
     "from wanzoche._command import main; sys.exit(main())".format(LONGEST),
 ]
 """The command `wanzoche`, which waits as long as it takes, too."""
