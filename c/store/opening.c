@@ -142,7 +142,8 @@ static bool take_number(store *s) {
 static bool join(store *s, uint64_t until) {
     uint32_t opener;
     bool has_number;
-    wanzoche_answer answer = begin_turn(s, later(until, now() + PATIENCE));
+    uint64_t time = now();
+    wanzoche_answer answer = begin_turn(s, (struct limit){time, later(until, time + PATIENCE)});
     if (answer.code != DONE) {
         s->trouble = answer;
         return answer.code != WANZOCHE_LATE ? false : refuse(s, WANZOCHE_LATE, 0, "late");
@@ -170,6 +171,7 @@ static uint64_t patience_of(const wanzoche_store_options *options) {
 
 static bool open_all(store *s, const char *file, const char *text, size_t length, const wanzoche_store_options *options, uint64_t until) {
     s->patience = USUAL_PATIENCE;
+    s->replica.place = NO_PLACE;
     if (options != NULL) {
         s->no_sync = options->no_sync;
         s->keep_lost = options->keep_lost;
