@@ -15,16 +15,23 @@ static struct attempt *ring;
 
 /* Calls */
 
+enum { LIMIT = 3000 }; /* milliseconds */
+
 static const char *counted = ""; /* the call that is counted, and at which of them this process is ended or stopped */
 static uint32_t calls, last;
 static int last_signal;
+static uint32_t pauses_at; /* at which of them it pauses for longer than LIMIT */
+static pid_t stopped;      /* a process that goes on when this one sleeps for a turn the third time */
 static bool tears; /* half a line is written, and neither the rest can be, nor can it be taken back */
 
 int wanzoche_store_point(const char *call);
 void wanzoche_store_torn(void);
 
 int wanzoche_store_point(const char *call) {
+    static uint32_t sleeps;
     if (strcmp(call, counted) == 0 && ++calls == last) kill(getpid(), last_signal);
+    if (strcmp(call, counted) == 0 && calls == pauses_at) usleep((LIMIT + 100) * 1000);
+    if (stopped > 0 && strcmp(call, "futex_wait") == 0 && ++sleeps == 3) kill(stopped, SIGCONT);
     if (!tears) return 0;
     if (strcmp(call, "write") == 0) return calls++ == 0 ? -1 : ENOSPC;
     return strcmp(call, "ftruncate") == 0 ? EIO : 0;
@@ -320,6 +327,39 @@ static void older_ring(int64_t fewer) {
     close_two();
 }
 
+/* An opening that reads for longer than its limit, while another is stopped in its turn. */
+
+static void opens(void) {
+    wanzoche_store *s = NULL;
+    CHECK(wanzoche_store_open(&s, file, BOOK, strlen(BOOK), &QUICK, LIMIT, why, sizeof why).code == WANZOCHE_OPENED);
+    if (s != NULL) CHECK(is_closed(s));
+}
+
+static void stops_in_its_turn(void) {
+    mine = opened(&QUICK);
+    count("give");
+    last = 1;
+    last_signal = SIGSTOP;
+    enter_and_leave(mine, READ, 1);
+    CHECK(is_closed(mine));
+}
+
+/* What the reading takes isn't part of the limit: it waits for its turn for as long behind it. */
+static void reads_for_long(void) {
+    pid_t pid;
+    open_two_in_ring(&QUICK);
+    pauses_at = count_in("pread", opens); /* the last is of the journal's lines */
+    pid = child(stops_in_its_turn);
+    until_stopped(pid);
+    stopped = pid;
+    (void)count_in("pread", opens);
+    kill(pid, SIGCONT);
+    CHECK(has_ended(pid));
+    stopped = 0;
+    pauses_at = 0;
+    close_two();
+}
+
 int main(void) {
     goes = shared_words(1);
     follows_without_the_file();
@@ -336,6 +376,7 @@ int main(void) {
     older_ring(3);
     older_ring(-3);
     older_ring(1000);
+    reads_for_long();
     remove_all();
     printf("store_ring: %d failures\n", failures);
     return failures != 0;
