@@ -29,11 +29,11 @@ static char *put_worker(const store *s, char *at, uint32_t worker) {
 }
 
 /*
-** Appends a whole line, or nothing. It counts for all others from the moment when
-** `end` says so. If a part of it can't be taken back, the file is longer than
+** Appends a whole line, or nothing, and puts what it says into the ring. It counts for
+** all others from the moment when the page says so. If a part of it can't be taken back, the file is longer than
 ** that, and the next turn sees it.
 */
-static bool append(store *s, const char *line, char *end) {
+static bool append(store *s, const char *line, char *end, struct answered attempt) {
     struct replica *r = &s->replica;
     *end++ = '\n';
     if (!write_whole(r->file->file, line, (size_t)(end - line))) {
@@ -43,7 +43,7 @@ static bool append(store *s, const char *line, char *end) {
     }
     r->at += (uint64_t)(end - line);
     r->lines++;
-    s->page->end = journal_end(s);
+    put_attempt(s, attempt);
     return true;
 }
 
@@ -66,7 +66,7 @@ bool write_start(store *s, uint32_t operation, wanzoche_answer *answer) {
     }
     at = put_word(put_worker(s, line, s->worker), " start ");
     at = put_word(put_word(at, s->names[operation]), ": started ");
-    return append(s, line, put_number(at, answer->number)) &&
+    return append(s, line, put_number(at, answer->number), (struct answered){ATTEMPT_STARTED, s->worker, operation, answer->number, 0}) &&
            has_kept(s, *answer, wanzoche_start(&s->replica.system, s->worker, operation));
 }
 
@@ -77,7 +77,8 @@ bool write_finish(store *s, uint32_t worker, uint64_t activation, wanzoche_answe
     if (answer->code != WANZOCHE_FINISHED) return true;
     at = put_word(put_worker(s, line, worker), " finish ");
     at = put_word(put_number(at, activation), ": finished");
-    return append(s, line, at) && has_kept(s, *answer, wanzoche_finish(&s->replica.system, worker, activation));
+    return append(s, line, at, (struct answered){ATTEMPT_FINISHED, worker, 0, activation, 0}) &&
+           has_kept(s, *answer, wanzoche_finish(&s->replica.system, worker, activation));
 }
 
 /* A use, if the device serves it. */
@@ -96,5 +97,6 @@ bool write_use(store *s, uint64_t activation, uint32_t verb, uint64_t number, wa
     at = put_word(at, VERBS[verb]);
     if (verb == WANZOCHE_PUT || verb == WANZOCHE_ADD) at = put_number(at, number);
     at = put_number(put_word(at, ": used "), answer->number);
-    return append(s, line, at) && has_kept(s, *answer, wanzoche_use(&s->replica.system, s->worker, activation, verb, number));
+    return append(s, line, at, (struct answered){.kind = ATTEMPT_IN_FILE, .number = s->replica.segment}) &&
+           has_kept(s, *answer, wanzoche_use(&s->replica.system, s->worker, activation, verb, number));
 }

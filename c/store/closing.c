@@ -10,7 +10,7 @@ static void give_back(store *s) {
     take_from_forks(s);
     if (s->is_forked) return; /* what a child had of it is given back */
     s->page = NULL;
-    if (page != NULL) munmap(page, sizeof *s->page);
+    if (page != NULL) munmap(page, SHARED_SIZE);
     if (s->beside >= 0) close(s->beside);
     if (s->folder >= 0) close(s->folder);
     s->beside = s->folder = -1;

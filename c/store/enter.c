@@ -48,10 +48,10 @@ static void begin_to_wait(store *s, record *r) {
     publish_slot(s, slot, SLOT_WAITING);
 }
 
-/* In a turn: whether its start is withheld, and for whom. Of one that is too late the message tells it. */
-static bool is_withheld(store *s, record *r, uint64_t time, wanzoche_answer *answer) {
+/* In a turn: whether its start is withheld, if any is, and for whom. Of one that is too late the message tells it. */
+static bool is_withheld(store *s, record *r, bool withheld, uint64_t time, wanzoche_answer *answer) {
     struct asker asker = asker_of(r);
-    int whom = withheld_for(s, &asker, time);
+    int whom = withheld ? withheld_for(s, &asker, time) : -1;
     const struct slot *slot = &s->page->slots[whom < 0 ? 0 : whom];
     SET(r->opens, whom < 0 ? NEVER : opens_at(s, whom, time));
     if (whom < 0) return false;
@@ -63,12 +63,12 @@ static bool is_withheld(store *s, record *r, uint64_t time, wanzoche_answer *ans
 }
 
 /* In a turn: the answer to a start. */
-static wanzoche_answer ask(store *s, record *r, uint64_t time) {
+static wanzoche_answer ask(store *s, record *r, bool withheld, uint64_t time) {
     wanzoche_answer answer;
-    if (is_withheld(s, r, time, &answer)) return answer;
+    if (is_withheld(s, r, withheld, time, &answer)) return answer;
     if (!write_start(s, r->operation, &answer)) return s->trouble;
     if (answer.code != WANZOCHE_BLOCKED || !r->looks || !bury(s, has_slot(r))) return answer;
-    if (is_withheld(s, r, time, &answer)) return answer;
+    if (is_withheld(s, r, withheld, time, &answer)) return answer;
     return write_start(s, r->operation, &answer) ? answer : s->trouble;
 }
 
@@ -93,10 +93,10 @@ static void note_start(store *s, record *r, wanzoche_answer answer, struct writt
 
 /* Its whole turn: whether it goes on waiting behind it. */
 bool try_in_turn(store *s, record *r, uint64_t until, wanzoche_answer *answer, struct written *written) {
-    uint64_t time = now();
+    uint64_t time = has_slots(s) ? now() : r->arrived; /* where nobody waits no time is looked at */
     bool waited = has_slot(r), withheld = withholds(s, time), waits;
     hear(s, r);
-    *answer = ask(s, r, time);
+    *answer = ask(s, r, withheld, time);
     waits = has_to_wait(*answer) && now() < until;
     if (waits) begin_to_wait(s, r);
     else end_to_wait(s, r);
@@ -120,12 +120,15 @@ void give_up(store *s, record *r) {
 
 static wanzoche_answer enter(store *s, uint32_t operation, uint32_t priority, int64_t limit) {
     wanzoche_answer answer = {WANZOCHE_LATE, 0};
-    uint64_t until = deadline(limit), turn_until = turn_limit(limit);
+    struct limit turn;
+    uint64_t until;
     record r = {0};
     begin_record(&r, operation, priority, limit == 0);
+    until = deadline_from(r.arrived, limit);
+    turn = turn_limit_from(r.arrived, limit);
     for (;;) {
         struct written written = {NULL, 0};
-        wanzoche_answer begun = begin_turn(s, turn_until);
+        wanzoche_answer begun = begin_turn(s, turn);
         uint32_t slept;
         if (begun.code != DONE) {
             give_up(s, &r);
@@ -133,6 +136,7 @@ static wanzoche_answer enter(store *s, uint32_t operation, uint32_t priority, in
         }
         if (!try_in_turn(s, &r, until, &answer, &written)) return wait_for_sync(s, written, answer);
         slept = sleep_in_slot(s, &r, until, false);
+        turn.begun = now();
         if (slept == WANZOCHE_CALLED) continue;
         give_up(s, &r);
         return slept == WANZOCHE_LATE ? answer : (wanzoche_answer){slept, 0};
@@ -150,8 +154,8 @@ static wanzoche_answer owe(store *s, uint64_t activation) {
     return owed;
 }
 
-wanzoche_answer leave(store *s, uint64_t activation, uint64_t until, bool may_owe, struct written *written) {
-    wanzoche_answer answer = begin_turn(s, until);
+wanzoche_answer leave(store *s, uint64_t activation, struct limit limit, bool may_owe, struct written *written) {
+    wanzoche_answer answer = begin_turn(s, limit);
     if (answer.code == WANZOCHE_LATE && may_owe) return owe(s, activation);
     if (answer.code != DONE) return answer;
     if (!write_finish(s, s->worker, activation, &answer)) answer = s->trouble;

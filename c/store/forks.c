@@ -24,7 +24,7 @@ static void in_parent(void) {
 static void in_child(void) {
     for (store *s = first; s != NULL; s = s->next) {
         s->is_forked = true;
-        if (s->page != NULL) munmap(s->page, sizeof(struct page));
+        if (s->page != NULL) munmap(s->page, SHARED_SIZE);
         if (s->beside >= 0) close(s->beside);
         if (s->folder >= 0) close(s->folder);
         for (int k = 0; k < MOST_FILES; k++)

@@ -1,6 +1,8 @@
 /*
 ** Following the journal: all lines that count, of all its files in their order,
-** are taken over by the proved core, each only if its reply is owed.
+** are taken over by the proved core, each only if its reply is owed. They are read
+** here by an opening that has no place in the ring (ring.c): a new one, or one that
+** was too far behind.
 **
 ** Outside of a turn a line counts up to the page's `end`, which never goes back,
 ** and in a file that was moved away to its end. Who rotates says `segment` before
@@ -12,10 +14,14 @@
 
 #include "store.h"
 
+#ifndef LOOK
+#define LOOK UINT64_C(10000) /* so many nanoseconds the file isn't looked at again while nothing is strange about it */
+#endif
+
 static uint64_t count_moved(store *s);
 
 /* What is followed is of no use any more, and so this opening isn't. The file is that which is followed, which may have been moved away. */
-static bool break_at(store *s, uint64_t line, const char *text, size_t length, const char *why) {
+bool break_at(store *s, uint64_t line, const char *text, size_t length, const char *why) {
     uint64_t segment = s->replica.segment;
     char where[64] = "";
     int behind = 0;
@@ -25,7 +31,7 @@ static bool break_at(store *s, uint64_t line, const char *text, size_t length, c
 }
 
 /* A reply, as a line has it. */
-static void write_reply(char *to, size_t size, wanzoche_answer reply) {
+void write_reply(char *to, size_t size, wanzoche_answer reply) {
     bool has_number = reply.code == WANZOCHE_STARTED || reply.code == WANZOCHE_BLOCKED || reply.code == WANZOCHE_USED;
     if (has_number) snprintf(to, size, "%s %llu", wanzoche_words(reply.code), (unsigned long long)reply.number);
     else snprintf(to, size, "%s", wanzoche_words(reply.code));
@@ -74,7 +80,7 @@ static bool take_over(store *s, const char *text, size_t length) {
 }
 
 /* Follows this file up to there, or to a line that isn't whole before it. */
-static bool follow(store *s, uint64_t to) {
+bool follow(store *s, uint64_t to) {
     struct replica *r = &s->replica;
     while (r->at < to) {
         size_t wanted = to - r->at < CHUNK ? (size_t)(to - r->at) : CHUNK, whole = wanted;
@@ -118,6 +124,7 @@ bool mend(store *s, uint64_t size) {
     free(text);
     if (!is_taken) return false;
     if (s->page->is_ready) s->page->end = r->base + r->at;
+    r->place = NO_PLACE; /* what was taken over has no record yet */
     if (r->at < size && cut_file(r->file->file, r->at) != 0) return refuse_by_system(s, "has a torn end that can't be cut off");
     return true;
 }
@@ -202,8 +209,8 @@ static bool find_end(store *s, uint64_t *to, bool *is_moved) {
     return true;
 }
 
-/* Follows all that counts, as far as it can be known outside of a turn. In a turn that is all of it. */
-bool follow_ahead(store *s) {
+/* Reads all that counts in the files, as far as it can be known outside of a turn. In a turn that is all of it. */
+static bool read_files(store *s) {
     struct replica *r = &s->replica;
     for (;;) {
         uint64_t to = 0;
@@ -222,14 +229,36 @@ bool follow_ahead(store *s) {
     }
 }
 
-/* In a turn: follows all, and looks whether the file is still what it was. */
-bool catch_up(store *s) {
+/* Follows what counts, outside of a turn, or in one: then all of it, but for what somebody has left without a record who died. */
+bool follow_ahead(store *s) {
+    if (s->is_over || !follow_ring(s)) return false;
+    return s->replica.place != NO_PLACE || read_files(s);
+}
+
+/*
+** Outside of a turn, each LOOK: whether the file is what it was. What is strange, as
+** a file that is shorter than it was, is looked at again in the turn, and so is one
+** that is longer than the journal then is: no line of another is under way there.
+*/
+void glance_at_file(store *s, uint64_t time) {
+    struct replica *r = &s->replica;
+    struct glance *glance = &s->glance;
+    uint64_t end = s->page->end, inode = s->page->inode;
+    struct stat state;
+    if (glance->is_usual && time < glance->time + LOOK) return;
+    glance->time = time;
+    glance->is_usual = r->file != NULL && file_state(r->file->file, &state) == 0 && state.st_nlink > 0;
+    if (!glance->is_usual) return;
+    glance->end = r->base + (uint64_t)state.st_size;
+    if (s->page->segment != r->segment) return; /* its name is another file's by now */
+    glance->is_usual = glance->end >= end && (uint64_t)state.st_ino == inode && (uint64_t)state.st_dev == s->device;
+}
+
+/* In a turn, in which all was followed: whether the file is still what it was. */
+static bool look_at_file(store *s) {
     struct replica *r = &s->replica;
     struct stat state;
     uint64_t size;
-    if (!follow_ahead(s)) return false;
-    if (r->file == NULL || r->segment != s->page->segment || journal_end(s) != s->page->end)
-        return break_at(s, 0, "", 0, "it isn't the file that others have open");
     if (file_state(r->file->file, &state) != 0) return refuse_by_system(s, "can't be used");
     if ((uint64_t)state.st_ino != s->page->inode || (uint64_t)state.st_dev != s->device)
         return give_up_store(s, WANZOCHE_CORRUPT, 0, "%.300s: this process has closed the file, and others have its descriptor", s->path);
@@ -239,6 +268,16 @@ bool catch_up(store *s) {
     return size == r->at || mend(s, size);
 }
 
-uint64_t journal_end(const store *s) {
-    return s->replica.base + s->replica.at;
+/* In a turn: follows all, and looks whether the file is still what it was, where it has to, or something was strange. */
+bool catch_up(store *s, bool has_to_look) {
+    struct replica *r = &s->replica;
+    if (!follow_ahead(s)) return false;
+    if (r->place != NO_PLACE && journal_end(s) != s->page->end) {
+        r->place = NO_PLACE;
+        if (!read_files(s)) return false;
+    }
+    if (r->file == NULL || r->segment != s->page->segment || journal_end(s) != s->page->end)
+        return break_at(s, 0, "", 0, "it isn't the file that others have open");
+    if (!has_to_look && s->glance.is_usual && s->glance.end <= journal_end(s)) return true;
+    return look_at_file(s);
 }

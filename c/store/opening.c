@@ -118,13 +118,15 @@ static bool come_into_world(store *s, uint64_t until) {
     return arrive(s, s->me) && (lock_bytes(s->beside, F_OFD_SETLK, F_UNLCK, OPENING_BYTE, 1, &asked) == 0 || refuse_by_system(s, "can't be unlocked"));
 }
 
-/* Reads what is there, until little is left for the turn. */
-static bool read_ahead(store *s, uint64_t until) {
-    uint64_t end;
+/* Reads what is there, until little is left for the turn, or it doesn't get less. */
+static bool read_ahead(store *s) {
+    uint64_t left = NEVER, before, end;
     do {
+        before = left;
         if (!follow_ahead(s)) return false;
         end = s->page->is_ready ? s->page->end : 0;
-    } while (end > journal_end(s) + NEAR && s->replica.file != NULL && now() < until);
+        left = end > journal_end(s) ? end - journal_end(s) : 0;
+    } while (left > NEAR && left < before && s->replica.file != NULL);
     return true;
 }
 
@@ -142,7 +144,8 @@ static bool take_number(store *s) {
 static bool join(store *s, uint64_t until) {
     uint32_t opener;
     bool has_number;
-    wanzoche_answer answer = begin_turn(s, later(until, now() + PATIENCE));
+    uint64_t time = now();
+    wanzoche_answer answer = begin_turn(s, (struct limit){time, later(until, time + PATIENCE)});
     if (answer.code != DONE) {
         s->trouble = answer;
         return answer.code != WANZOCHE_LATE ? false : refuse(s, WANZOCHE_LATE, 0, "late");
@@ -168,8 +171,11 @@ static uint64_t patience_of(const wanzoche_store_options *options) {
     return (uint64_t)options->patience * MILLISECOND;
 }
 
+/* The limit is that of its waiting for others: what the reading takes isn't part of it. */
 static bool open_all(store *s, const char *file, const char *text, size_t length, const wanzoche_store_options *options, uint64_t until) {
+    uint64_t read;
     s->patience = USUAL_PATIENCE;
+    s->replica.place = NO_PLACE;
     if (options != NULL) {
         s->no_sync = options->no_sync;
         s->keep_lost = options->keep_lost;
@@ -178,8 +184,10 @@ static bool open_all(store *s, const char *file, const char *text, size_t length
     s->replica.room = options == NULL || options->room == 0 ? WANZOCHE_MOST_LINES : options->room;
     if (!read_declaration(s, text, length)) return false;
     if (s->replica.room > WANZOCHE_MOST_LINES) return refuse(s, WANZOCHE_BAD_ROOM, 0, "bad room");
-    return add_to_forks(s) && find_file(s, file) && open_door(s) && may_be_journal(s) && open_page(s, until) && come_into_world(s, until) &&
-           read_ahead(s, until) && join(s, until);
+    if (!add_to_forks(s) || !find_file(s, file) || !open_door(s) || !may_be_journal(s) || !open_page(s, until) || !come_into_world(s, until))
+        return false;
+    read = now();
+    return read_ahead(s) && join(s, until == NEVER ? NEVER : until + (now() - read));
 }
 
 wanzoche_answer wanzoche_store_open(wanzoche_store **store, const char *file, const char *text, size_t length,

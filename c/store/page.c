@@ -1,12 +1,12 @@
 /*
-** The file beside the journal, FILE.shared: the page, and the declaration behind
-** it, and behind that the numbers of the workers' processes.
+** The file beside the journal, FILE.shared: the page, the ring of attempts, the
+** declaration, and behind that the numbers of the workers' processes.
 **
-** Older Python packages keep another page there, of version 1. Which of the two
-** lies there is changed only by who has the journal to itself (LOCK_EX), while
-** each opening has its LOCK_SH on it to its end, and only if no lock at all is on
-** the file beside it. So whoever has the store open is never left with a page
-** that others don't look at.
+** Older packages keep another page there: those of Python of version 1, and
+** libraries without a ring of version 2. Which of them lies there is changed only
+** by who has the journal to itself (LOCK_EX), while each opening has its LOCK_SH on
+** it to its end, and only if no lock at all is on the file beside it. So whoever
+** has the store open is never left with a page that others don't look at.
 */
 #include <stdio.h>
 #include <sys/mman.h>
@@ -21,13 +21,20 @@ struct head {
     uint32_t version, declaration;
 };
 
-#define PLACE_OF_PYTHON UINT64_C(4096)     /* where its declaration is */
-#define WORKERS_OF_PYTHON UINT64_C(32)     /* and the last number that it gave */
+/* Where a page of each version has its declaration, and the last number that was given to a worker. */
+static const struct {
+    uint64_t declaration, workers;
+} PLACES[] = {
+    [PAGE_VERSION_OF_PYTHON] = {4096, 32},
+    [PAGE_VERSION_WITHOUT_RING] = {sizeof(struct page), offsetof(struct page, workers)},
+    [PAGE_VERSION] = {SHARED_SIZE, offsetof(struct page, workers)},
+};
+
 #define LONG (30000 * MILLISECOND)         /* so long one waits for another that makes the store or mends it */
 #define SHORT (1000 * MILLISECOND)         /* and so long for an opening of the other package that ends */
 
 uint64_t place_of_process(const store *s, uint32_t worker) {
-    return sizeof(struct page) + (s->declaration_length + 8) / 8 * 8 + (uint64_t)worker * sizeof(uint64_t);
+    return SHARED_SIZE + (s->declaration_length + 8) / 8 * 8 + (uint64_t)worker * sizeof(uint64_t);
 }
 
 /* Where two declarations differ first, in words. */
@@ -45,11 +52,10 @@ static bool refuse_declaration(store *s, const char *found) {
 /* The declaration in the file, without a line feed at its end: null if it can't be read. The caller frees it. */
 static char *declaration_in(store *s, int file, const struct head *head) {
     size_t length = head->declaration;
-    uint64_t place = head->version == PAGE_VERSION_OF_PYTHON ? PLACE_OF_PYTHON : sizeof(struct page);
     char *found = NULL;
     if (length > (size_t)1 << 20) refuse(s, WANZOCHE_NOT_A_STORE, 0, "%.300s.shared isn't whole", s->path);
     else if ((found = calloc(1, length + 1)) == NULL) refuse_for_memory(s);
-    else if (read_at(file, found, length, place) < 0) {
+    else if (read_at(file, found, length, PLACES[head->version].declaration) < 0) {
         refuse_by_system(s, "can't be opened");
         free(found);
         found = NULL;
@@ -79,9 +85,9 @@ static bool fill_page(store *s, int file, const struct stat *like, uint64_t work
     page->workers = workers;
     give_access(file, like, true);
     /* All its bytes are allocated, so that none is refused when it is touched. */
-    error = goes_on("fallocate") ? posix_fallocate(file, 0, (off_t)(sizeof *page + page->declaration)) : errno;
+    error = goes_on("fallocate") ? posix_fallocate(file, 0, (off_t)(SHARED_SIZE + page->declaration)) : errno;
     if (error != 0) errno = error;
-    is_filled = error == 0 && write_whole(file, (const char *)page, sizeof *page) &&
+    is_filled = error == 0 && write_whole(file, (const char *)page, sizeof *page) && lseek(file, (off_t)SHARED_SIZE, SEEK_SET) > 0 &&
                 write_whole(file, s->declaration, s->declaration_length) && write_whole(file, "\n", 1) && sync_file(file) == 0;
     error = errno;
     free(page);
@@ -115,9 +121,9 @@ static bool read_page_head(store *s, int file, struct head *head) {
     if (file_state(file, &state) != 0 || read_at(file, head, sizeof *head, 0) < 0) return refuse_by_system(s, "can't be opened");
     if (!S_ISREG(state.st_mode) || memcmp(head->magic, MAGIC, sizeof MAGIC) != 0)
         return refuse(s, WANZOCHE_NOT_A_STORE, 0, "%.300s.shared isn't the file that a store has beside its journal", s->path);
-    if (head->version != PAGE_VERSION && head->version != PAGE_VERSION_OF_PYTHON)
+    if (head->version == 0 || head->version > PAGE_VERSION)
         return refuse(s, WANZOCHE_NOT_A_STORE, 0, "%.300s.shared is of version %u, and this library has %u", s->path, head->version, PAGE_VERSION);
-    if (head->version == PAGE_VERSION && (uint64_t)state.st_size < sizeof(struct page) + head->declaration)
+    if (head->version == PAGE_VERSION && (uint64_t)state.st_size < SHARED_SIZE + head->declaration)
         return refuse(s, WANZOCHE_NOT_A_STORE, 0, "%.300s.shared is cut off: remove it when no process has the store open", s->path);
     return true;
 }
@@ -137,17 +143,18 @@ char *stored_declaration(store *s) {
     return found;
 }
 
-static bool refuse_python(store *s) {
-    return refuse(s, WANZOCHE_IN_USE, 0, "%.400s is open by processes of an older Python package", s->path);
+static bool refuse_older(store *s, const struct head *head) {
+    const char *whose = head->version == PAGE_VERSION_OF_PYTHON ? "Python package" : "library";
+    return refuse(s, WANZOCHE_IN_USE, 0, "%.400s is open by processes of an older %s", s->path, whose);
 }
 
-/* Puts a page of this library in the place of one of an older Python package that nobody has open. */
+/* Puts a page of this library in the place of an older one that nobody has open. */
 static bool take_over_page(store *s, int file, const struct head *head) {
     struct flock asked;
     uint64_t workers = 0;
-    if (lock_bytes(file, F_OFD_GETLK, F_WRLCK, OPENING_BYTE, 0, &asked) != 0 || asked.l_type != F_UNLCK) return refuse_python(s);
+    if (lock_bytes(file, F_OFD_GETLK, F_WRLCK, OPENING_BYTE, 0, &asked) != 0 || asked.l_type != F_UNLCK) return refuse_older(s, head);
     if (!has_declaration(s, file, head)) return false;
-    if (read_at(file, &workers, sizeof workers, WORKERS_OF_PYTHON) < 0) return refuse_by_system(s, "can't be opened");
+    if (read_at(file, &workers, sizeof workers, PLACES[head->version].workers) < 0) return refuse_by_system(s, "can't be opened");
     return make_page(s, workers);
 }
 
@@ -169,9 +176,10 @@ static bool map_page(store *s) {
     void *page = MAP_FAILED;
     int file = open_beside_others(s->folder, s->beside_name, O_RDWR, 0);
     bool is_same = file >= 0 && file_state(file, &one) == 0 && file_state(s->beside, &other) == 0 && one.st_ino == other.st_ino && one.st_dev == other.st_dev;
-    if (is_same && goes_on("mmap")) page = mmap(NULL, sizeof(struct page), PROT_READ | PROT_WRITE, MAP_SHARED, file, 0);
+    if (is_same && goes_on("mmap")) page = mmap(NULL, SHARED_SIZE, PROT_READ | PROT_WRITE, MAP_SHARED, file, 0);
     if (page == MAP_FAILED) refuse_by_system(s, "has a file beside it that can't be mapped");
     else s->page = page;
+    s->ring = s->page == NULL ? NULL : (struct attempt *)(void *)(s->page + 1);
     if (file >= 0) close(file);
     return page != MAP_FAILED;
 }
@@ -183,7 +191,7 @@ static bool join_page(store *s) {
     if (s->beside < 0 && errno == ENOENT)
         return refuse(s, WANZOCHE_IN_USE, 0, "%.300s is in use by a program that doesn't share it, or %.100s is gone", s->path, s->beside_name);
     if (s->beside < 0) return refuse_by_system(s, "has a file beside it that can't be opened");
-    if (read_page_head(s, s->beside, &head) && (head.version == PAGE_VERSION || refuse_python(s)) && has_declaration(s, s->beside, &head) &&
+    if (read_page_head(s, s->beside, &head) && (head.version == PAGE_VERSION || refuse_older(s, &head)) && has_declaration(s, s->beside, &head) &&
         meets_here(s, s->door->file) && map_page(s))
         return true;
     close(s->beside);

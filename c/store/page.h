@@ -8,6 +8,9 @@
 ** the byte of this number, which the kernel takes off when it dies. So a number
 ** whose byte is free is dead for ever, and a word that has it can be exchanged
 ** for another without fear that it has come back meanwhile.
+**
+** Behind the page lies the ring of attempts, of which ring.c says how it is
+** written and read, and behind that the declaration (page.c).
 */
 #ifndef WANZOCHE_STORE_PAGE_H
 #define WANZOCHE_STORE_PAGE_H
@@ -55,9 +58,10 @@ enum { SLOT_CLAIMED = 1, SLOT_WAITING = 2, SLOT_CALLED = 3, SLOT_OWED = 4, SLOT_
 #define BESIDE_BYTES (INT64_C(1) << 41)
 #define MOST_BESIDE (INT64_C(1) << 40)
 
-#define PAGE_VERSION 2
+#define PAGE_VERSION 3
 #define BELLS 512 /* openings share them by their numbers */
 #define PAGE_VERSION_OF_PYTHON 1
+#define PAGE_VERSION_WITHOUT_RING 2
 
 #define HELD 2
 #define HELD_ALL UINT16_MAX
@@ -99,6 +103,7 @@ struct page {
     uint64_t workers;                  /* the last number that was given */
     _Atomic uint32_t is_ready;         /* 0 until the first turn since nobody had it open */
     _Atomic uint32_t is_rotating;      /* 1 while `next` counts */
+    _Atomic uint64_t attempts;         /* how many were put into the ring */
     /* 192: outside of turns */
     _Alignas(64) _Atomic uint64_t synced; /* so many bytes of it are on the disk */
     _Atomic uint64_t named;               /* the names of so many of its files are, and all of these but the last */
@@ -113,8 +118,30 @@ struct page {
     _Alignas(4096) struct slot slots[SLOTS];
 };
 
+#ifndef ATTEMPTS
+#define ATTEMPTS UINT64_C(65536) /* so many of the last ones stand in the ring */
+#endif
+
+/* What an attempt in the ring was answered. */
+enum {
+    ATTEMPT_STARTED = 1,
+    ATTEMPT_FINISHED = 2,
+    ATTEMPT_IN_FILE = 3 /* the lines up to its end have to be read there */
+};
+
+struct attempt {
+    _Atomic uint32_t kind, worker, operation, unused;
+    _Atomic uint64_t number; /* the activation; of ATTEMPT_IN_FILE in which file of the journal its end is, as `segment` */
+    _Atomic uint64_t end;    /* so many bytes of the journal are lines that count with it, as the page's `end` */
+};
+
+#define RING_SIZE (ATTEMPTS * sizeof(struct attempt))
+#define SHARED_SIZE (sizeof(struct page) + RING_SIZE) /* what is mapped */
+
+_Static_assert(sizeof(struct attempt) == 32, "as other builds have it");
 _Static_assert(sizeof(struct slot) == 64, "a line of the cache");
 _Static_assert(offsetof(struct page, turn) == 64 && offsetof(struct page, end) == 128, "as other builds have it");
+_Static_assert(offsetof(struct page, attempts) == 184, "as other builds have it");
 _Static_assert(offsetof(struct page, synced) == 192 && offsetof(struct page, used) == 256, "as other builds have it");
 _Static_assert(offsetof(struct page, called) == 384 && offsetof(struct page, bells) == 896, "as other builds have it");
 _Static_assert(offsetof(struct page, slots) == 4096, "as other builds have it");

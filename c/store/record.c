@@ -19,8 +19,9 @@ static void give_record(record *r) {
 }
 
 /* Up to when a step waits for its turn. */
-static uint64_t step_limit(int64_t limit) {
-    return limit == 0 ? 0 : deadline(limit);
+static struct limit step_limit(int64_t milliseconds) {
+    uint64_t time = now();
+    return (struct limit){time, milliseconds == 0 ? 0 : deadline_from(time, milliseconds)};
 }
 
 /* What was written last is its own: up to there it is synced. */
@@ -32,9 +33,9 @@ static void note_end(record *r, struct written written) {
 
 /* Beginning */
 
-static wanzoche_answer begin(store *s, record *r, bool waits, uint64_t until) {
+static wanzoche_answer begin(store *s, record *r, bool waits, struct limit limit) {
     struct written written = {NULL, 0};
-    wanzoche_answer answer = begin_turn(s, until);
+    wanzoche_answer answer = begin_turn(s, limit);
     if (answer.code == WANZOCHE_LATE) return answer;
     if (answer.code != DONE) give_up(s, r);
     else try_in_turn(s, r, waits ? NEVER : 0, &answer, &written);
@@ -100,12 +101,12 @@ static wanzoche_answer end_of(wanzoche_answer answer) {
     return answer;
 }
 
-static wanzoche_answer end(store *s, record *r, uint64_t until) {
+static wanzoche_answer end(store *s, record *r, struct limit limit) {
     struct written written = {NULL, 0};
     wanzoche_answer answer = {WANZOCHE_STALE, 0};
     if (r->is_waiting) give_up(s, r);
     if (!r->is_live) return answer;
-    answer = end_of(leave(s, r->number, until, until > 0, &written));
+    answer = end_of(leave(s, r->number, limit, limit.until > 0, &written));
     r->is_live = stays_live(answer);
     r->answered = answer.number;
     note_end(r, written);

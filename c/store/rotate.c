@@ -89,6 +89,7 @@ bool rotate_file(store *s) {
     r->base = page->base;
     r->at = length;
     r->lines = 0;
+    put_attempt(s, (struct answered){.kind = ATTEMPT_IN_FILE, .number = r->segment});
     return true;
 }
 

@@ -104,6 +104,7 @@ bool settle(store *s) {
     struct page *page = s->page;
     uint64_t archives = 0;
     struct stat state;
+    r->place = NO_PLACE;
     if (!undo_half_move(s, &archives) || !follow_ahead(s)) return false;
     if (r->file == NULL || file_state(r->file->file, &state) != 0) return refuse_by_system(s, "can't be read");
     if (!is_long_enough(s, archives, r->base + (uint64_t)state.st_size)) return false;

@@ -31,8 +31,23 @@ struct replica {
     uint64_t base;    /* how many bytes these have */
     uint64_t at;      /* how many bytes of this one were followed; 0 before its head */
     uint64_t lines;   /* how many lines of this one, without its head */
+    uint64_t place;   /* how many attempts of the ring are followed; NO_PLACE while it isn't known, and the file is read */
     uint32_t room;
     uint32_t highest; /* the highest number of a worker */
+};
+
+#define NO_PLACE UINT64_MAX
+
+/* An attempt as it was answered, out of a record of the ring. */
+struct answered {
+    uint32_t kind, worker, operation;
+    uint64_t number, end;
+};
+
+/* What was seen of the file outside of a turn. */
+struct glance {
+    uint64_t time, end; /* when, and how long the journal was */
+    bool is_usual;      /* nothing was strange about it */
 };
 
 typedef wanzoche_store_record record;
@@ -62,7 +77,9 @@ struct firsts {
 
 struct wanzoche_store {
     struct page *page;
+    struct attempt *ring; /* behind the page */
     struct replica replica;
+    struct glance glance;
     struct lines *door;   /* while it is opened: the file by which it shares the journal */
     int folder, beside;   /* the folder, and the file with the locks */
     uint32_t me;          /* who has the turn when this opening has it */
@@ -113,10 +130,16 @@ bool refuse_for_memory(store *s);
 bool give_up_store(store *s, uint32_t code, uint64_t number, const char *format, ...) __attribute__((format(printf, 4, 5)));
 wanzoche_answer fault_of(const store *s); /* of one that is over, with its words */
 
+/* When a call began, and up to when it waits for its turn. */
+struct limit {
+    uint64_t begun, until;
+};
+
 /* words.c: locks and words to sleep at. */
 bool lock_until(_Atomic uint32_t *lock, uint64_t until);
 void unlock(_Atomic uint32_t *lock);
 uint64_t deadline(int64_t milliseconds);
+uint64_t deadline_from(uint64_t time, int64_t milliseconds);
 uint64_t later(uint64_t one, uint64_t other);
 uint64_t sooner(uint64_t one, uint64_t other);
 void give_way(void);
@@ -146,10 +169,23 @@ char *stored_declaration(store *s);
 uint64_t place_of_process(const store *s, uint32_t worker);
 
 /* journal.c: following lines. */
+bool break_at(store *s, uint64_t line, const char *text, size_t length, const char *why);
+void write_reply(char *to, size_t size, wanzoche_answer reply);
+bool follow(store *s, uint64_t to);
 bool follow_ahead(store *s);
-bool catch_up(store *s);
+void glance_at_file(store *s, uint64_t time);
+bool catch_up(store *s, bool has_to_look);
 bool mend(store *s, uint64_t size);
-uint64_t journal_end(const store *s);
+
+/* How many bytes of the journal are followed. */
+static inline uint64_t journal_end(const store *s) {
+    return s->replica.base + s->replica.at;
+}
+
+/* ring.c: following attempts that others have made. */
+void put_attempt(store *s, struct answered attempt);
+void find_place(store *s);
+bool follow_ring(store *s);
 
 /* settle.c: what a crash has left. */
 bool settle(store *s);
@@ -168,12 +204,14 @@ bool rotate_file(store *s);
 bool finish_rotation(store *s);
 
 /* turn.c: who may append. */
-wanzoche_answer begin_turn(store *s, uint64_t until);
+wanzoche_answer begin_turn(store *s, struct limit limit);
 void end_turn(store *s);
 void leave_duty(store *s);
-uint64_t turn_limit(int64_t limit);
+struct limit turn_limit(int64_t milliseconds);
+struct limit turn_limit_from(uint64_t time, int64_t milliseconds);
 
 /* waiting.c: who waits. */
+bool has_slots(const store *s);
 int claim_slot(store *s);
 void publish_slot(store *s, int slot, uint32_t state);
 uint32_t free_slot(store *s, int slot, uint32_t worker);
@@ -209,7 +247,7 @@ void add_news(store *s, uint32_t kind, uint32_t worker, uint32_t operation, uint
 void begin_record(record *r, uint32_t operation, uint32_t priority, bool looks);
 bool try_in_turn(store *s, record *r, uint64_t until, wanzoche_answer *answer, struct written *written);
 void give_up(store *s, record *r);
-wanzoche_answer leave(store *s, uint64_t activation, uint64_t until, bool may_owe, struct written *written);
+wanzoche_answer leave(store *s, uint64_t activation, struct limit limit, bool may_owe, struct written *written);
 
 /* sleeping.c: until one may ask again. */
 uint32_t sleep_in_slot(store *s, record *r, uint64_t until, bool ends_by_signal);

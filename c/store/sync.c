@@ -74,9 +74,9 @@ static wanzoche_answer fail(store *s, int error) {
     return fault_of(s);
 }
 
-/* In a turn: up to where has to be synced what was written in it. */
+/* In a turn: up to where has to be synced what was written in it; nothing, if answers don't wait for that. */
 struct written note_written(store *s) {
-    return (struct written){hold(s->replica.file), journal_end(s)};
+    return (struct written){s->no_sync ? NULL : hold(s->replica.file), journal_end(s)};
 }
 
 /* Gives an answer when what was written is on the disk. */

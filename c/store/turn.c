@@ -19,7 +19,9 @@
 ** from it sets it again. Who sets it where nobody has the turn takes that turn
 ** itself, unless another thread of its opening has the lock, which looks behind
 ** its unlocking. One that can't do the duty, as with want of memory, leaves it in
-** the word, and whoever takes the next turn finds it.
+** the word, and whoever takes the next turn finds it. So does one that couldn't take
+** back what it has written of a line. Who takes a turn of a dead one, or with a duty,
+** looks at the file, whatever it saw of it before.
 */
 #include "store.h"
 
@@ -31,9 +33,9 @@ static bool steal(store *s, uint32_t seen) {
            atomic_compare_exchange_strong(&s->page->turn, &seen, s->me | TURN_WAIT | TURN_DUTY);
 }
 
-static bool take_free(store *s, uint32_t mark) {
-    uint32_t seen = s->page->turn;
-    return (seen & TURN_OWNER) == 0 && goes_on("take") && atomic_compare_exchange_strong(&s->page->turn, &seen, s->me | seen | mark);
+static bool take_free(store *s, uint32_t mark, uint32_t *before) {
+    *before = s->page->turn;
+    return (*before & TURN_OWNER) == 0 && goes_on("take") && atomic_compare_exchange_strong(&s->page->turn, before, s->me | *before | mark);
 }
 
 /* Whether the call ends: it is late, or the opening is being closed. */
@@ -41,17 +43,16 @@ static bool is_late(store *s, uint64_t time, uint64_t until) {
     return time >= until || (s->is_closing && !s->is_ending);
 }
 
-/* False if the turn isn't to be had until then. */
-static bool take(store *s, uint64_t until, bool *is_stolen) {
+/* Takes the turn: what the word was before. False if it isn't to be had until then. */
+static bool take(store *s, uint64_t until, uint32_t *before) {
     _Atomic uint32_t *word = &s->page->turn;
     uint32_t mark = 0, owner = 0;
     uint64_t slice = 0;
-    *is_stolen = false;
     for (;;) {
         uint32_t seen;
         uint64_t time;
         for (int spin = 0; spin < SPINS; spin++) {
-            if (take_free(s, mark)) return true;
+            if (take_free(s, mark, before)) return true;
             if (mark != 0) break;
             give_way();
         }
@@ -61,25 +62,27 @@ static bool take(store *s, uint64_t until, bool *is_stolen) {
         if ((seen & TURN_OWNER) != owner) slice = time + SLICE;
         owner = seen & TURN_OWNER;
         if (time >= slice) {
-            *is_stolen = steal(s, seen);
-            if (*is_stolen) return true;
+            *before = seen;
+            if (steal(s, seen)) return true;
             slice = time + SLICE;
         }
         if ((seen & TURN_WAIT) == 0 && !atomic_compare_exchange_strong(word, &seen, seen | TURN_WAIT)) continue;
         if (is_late(s, time, until)) return false;
         futex_wait(word, seen | TURN_WAIT, sooner(slice, until), 0);
         mark = TURN_WAIT;
+        if (s->worker != 0) (void)follow_ahead(s); /* so that little is left for the turn, which finds it again if it fails */
     }
 }
 
 /* With the turn: follows what others have written, and mends what one that died has left. */
-static bool enter_turn(store *s, bool is_stolen) {
+static bool enter_turn(store *s, uint32_t before) {
     struct page *page = s->page;
     s->is_current = false;
     s->dues = 0;
-    if (is_stolen) memset(page->called, 0, sizeof page->called);
+    if ((before & TURN_OWNER) != 0) memset(page->called, 0, sizeof page->called);
     if (page->is_ready && page->is_rotating && !finish_rotation(s)) return false;
-    if (page->is_ready ? !catch_up(s) : !settle(s)) return false;
+    if (page->is_ready ? !catch_up(s, (before & (TURN_OWNER | TURN_DUTY)) != 0) : !settle(s)) return false;
+    find_place(s);
     s->is_current = true;
     return true;
 }
@@ -104,12 +107,12 @@ static void give(store *s) {
 
 /* Does the duty that stands in the word, if nobody has the turn and no thread of this opening is about to take it. */
 static void attend(store *s) {
-    uint32_t free = 0;
+    uint32_t free = 0, before;
     bool is_done = true;
     while (is_done && (s->page->turn & (TURN_OWNER | TURN_DUTY)) == TURN_DUTY && !s->is_over &&
            atomic_compare_exchange_strong(&s->lock, &free, 1)) {
-        if (take_free(s, 0)) {
-            is_done = enter_turn(s, false);
+        if (take_free(s, 0, &before)) {
+            is_done = enter_turn(s, before);
             give(s);
         }
         unlock(&s->lock);
@@ -123,14 +126,15 @@ void leave_duty(store *s) {
     attend(s);
 }
 
-static wanzoche_answer begin_locked(store *s, uint64_t until) {
+static wanzoche_answer begin_locked(store *s, struct limit limit) {
     static const wanzoche_answer late = {WANZOCHE_LATE, 0}, closed = {WANZOCHE_CLOSED, 0};
-    bool is_stolen;
+    uint32_t before;
     if (s->is_over) return fault_of(s);
     if (s->is_closing && !s->is_ending) return closed;
     if (s->worker != 0 && !follow_ahead(s)) return s->trouble;
-    if (!take(s, until, &is_stolen)) return s->is_closing && !s->is_ending ? closed : late;
-    if (!enter_turn(s, is_stolen)) {
+    glance_at_file(s, limit.begun);
+    if (!take(s, limit.until, &before)) return s->is_closing && !s->is_ending ? closed : late;
+    if (!enter_turn(s, before)) {
         wanzoche_answer trouble = s->trouble;
         give(s);
         return trouble;
@@ -138,16 +142,19 @@ static wanzoche_answer begin_locked(store *s, uint64_t until) {
     return done;
 }
 
-/* Up to when a call waits for its turn. */
-uint64_t turn_limit(int64_t limit) {
-    return later(deadline(limit), now() + PATIENCE);
+struct limit turn_limit_from(uint64_t time, int64_t milliseconds) {
+    return (struct limit){time, later(deadline_from(time, milliseconds), time + PATIENCE)};
+}
+
+struct limit turn_limit(int64_t milliseconds) {
+    return turn_limit_from(now(), milliseconds);
 }
 
 /* Begins a turn: DONE, or why not. */
-wanzoche_answer begin_turn(store *s, uint64_t until) {
+wanzoche_answer begin_turn(store *s, struct limit limit) {
     wanzoche_answer answer = {WANZOCHE_LATE, 0};
-    if (!lock_until(&s->lock, until)) return answer;
-    answer = begin_locked(s, until);
+    if (!lock_until(&s->lock, limit.until)) return answer;
+    answer = begin_locked(s, limit);
     if (answer.code != DONE) {
         unlock(&s->lock);
         attend(s);

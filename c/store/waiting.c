@@ -12,6 +12,13 @@
 */
 #include "store.h"
 
+/* Whether any slot says something. */
+bool has_slots(const store *s) {
+    uint64_t used = 0;
+    for (int k = 0; k < SLOTS / 64; k++) used |= s->page->used[k];
+    return used != 0;
+}
+
 /* A slot of this opening, which nobody looks at yet; -1 if all are taken. */
 int claim_slot(store *s) {
     struct page *page = s->page;
@@ -95,9 +102,11 @@ static void call(store *s, uint16_t slot) {
 */
 void announce(store *s) {
     struct firsts firsts;
-    uint64_t time = now();
+    uint64_t time;
+    if (!has_slots(s)) return;
     for_used(s, note_owed, NULL);
     list_firsts(s, &firsts);
+    time = now();
     for (unsigned k = 0; k < firsts.count; k++)
         if (!has_called(s, s->page->slots[firsts.slot[k]].operation) && is_to_be_called(s, &firsts, k, time)) call(s, firsts.slot[k]);
 }

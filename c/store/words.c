@@ -22,9 +22,13 @@ void unlock(_Atomic uint32_t *lock) {
     if (atomic_exchange(lock, 0) == 2) futex_wake(lock, 1, FUTEX_PRIVATE);
 }
 
-uint64_t deadline(int64_t milliseconds) {
+uint64_t deadline_from(uint64_t time, int64_t milliseconds) {
     if (milliseconds < 0 || (uint64_t)milliseconds > NEVER / MILLISECOND / 2) return NEVER;
-    return now() + (uint64_t)milliseconds * MILLISECOND;
+    return time + (uint64_t)milliseconds * MILLISECOND;
+}
+
+uint64_t deadline(int64_t milliseconds) {
+    return deadline_from(now(), milliseconds);
 }
 
 uint64_t later(uint64_t one, uint64_t other) {

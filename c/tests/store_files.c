@@ -75,6 +75,7 @@ static void torn_while_open(void) {
     put(file, "+1 fini", O_APPEND);
     CHECK(left(mine, entered(mine, READ)) && size_of(file) > whole);
     put(file, "1 finish 1: finished\n", O_APPEND); /* one that isn't owed */
+    until_looked_at();
     CHECK(wanzoche_store_enter(mine, READ, 0).code == WANZOCHE_CORRUPT);
     wanzoche_store_message(mine, why, sizeof why);
     CHECK(strstr(why, "`stale` is owed") != NULL);
@@ -84,13 +85,17 @@ static void torn_while_open(void) {
 static void gone(void) {
     made(NULL);
     mine = opened(NULL);
-    CHECK(truncate(file, 0) == 0 && wanzoche_store_enter(mine, READ, 0).code == WANZOCHE_CORRUPT);
+    CHECK(truncate(file, 0) == 0);
+    until_looked_at();
+    CHECK(wanzoche_store_enter(mine, READ, 0).code == WANZOCHE_CORRUPT);
     wanzoche_store_close(mine, 0);
     CHECK(code_of(file) == WANZOCHE_NOT_A_STORE && strstr(why, "shorter") != NULL);
     CHECK(unlink(file) == 0 && code_of(file) == WANZOCHE_NOT_A_STORE && strstr(why, "is gone") != NULL && access(file, F_OK) != 0);
     CHECK(unlink(beside(".shared")) == 0 && code_of(file) == WANZOCHE_OPENED);
     mine = opened(NULL);
-    CHECK(unlink(file) == 0 && wanzoche_store_enter(mine, READ, 0).code == WANZOCHE_CORRUPT);
+    CHECK(unlink(file) == 0);
+    until_looked_at();
+    CHECK(wanzoche_store_enter(mine, READ, 0).code == WANZOCHE_CORRUPT);
     wanzoche_store_close(mine, 0);
     made(NULL);
     mine = opened(NULL);
@@ -107,9 +112,9 @@ static void no_stores(void) {
     put(beside(".shared"), "WANZOCHE", 0);
     CHECK(code_of(file) == WANZOCHE_NOT_A_STORE && strstr(why, ".shared isn't") != NULL);
     CHECK(truncate(beside(".shared"), 100) == 0);
+    put(beside(".shared"), "wanzoche\4", 0);
+    CHECK(code_of(file) == WANZOCHE_NOT_A_STORE && strstr(why, "version 4") != NULL);
     put(beside(".shared"), "wanzoche\3", 0);
-    CHECK(code_of(file) == WANZOCHE_NOT_A_STORE && strstr(why, "version 3") != NULL);
-    put(beside(".shared"), "wanzoche\2", 0);
     CHECK(code_of(file) == WANZOCHE_NOT_A_STORE && strstr(why, "cut off") != NULL);
     CHECK(unlink(beside(".shared")) == 0);
     put(beside(".shared"), "", 0);
@@ -278,27 +283,43 @@ static void declarations(void) {
     CHECK(declaration_of(file, text) == WANZOCHE_NOT_A_STORE && strstr(why, "isn't the file that a store has beside its journal") != NULL);
 }
 
-/* The page of the Python package, which nobody has open or somebody has. */
-static void other_page(const char *declaration, bool is_open, uint32_t code) {
+/* A page of an older package, by its version, as it begins; and where it has its declaration, and the last number that was given to a worker. */
+static const struct older {
+    uint32_t version;
+    off_t declaration, workers;
+    const char *whose;
+} OLDER[] = {{1, 4096, 32, "Python package"}, {2, 69632, 168, "library"}};
+
+/* Such a page lies there, which nobody has open or somebody has. */
+static void other_page(const struct older *older, const char *declaration, bool is_open, uint32_t code) {
     struct flock lock = {.l_type = F_WRLCK, .l_whence = SEEK_SET, .l_start = (INT64_C(1) << 41) + 1, .l_len = 1};
     struct {
         char magic[8];
         uint32_t version, length;
-        uint64_t rest[2], workers;
-    } page = {"wanzoche", 1, (uint32_t)strlen(declaration), {0, 0}, 9};
+    } head = {"wanzoche", older->version, (uint32_t)strlen(declaration)};
+    uint64_t workers = 9;
     int f;
     made(NULL);
     CHECK(unlink(beside(".shared")) == 0);
     f = open(beside(".shared"), O_RDWR | O_CREAT | O_CLOEXEC, 0600);
-    CHECK(pwrite(f, &page, sizeof page, 0) == sizeof page && pwrite(f, declaration, strlen(declaration), 4096) > 0);
+    CHECK(pwrite(f, declaration, strlen(declaration), older->declaration) > 0 && pwrite(f, &head, sizeof head, 0) == sizeof head);
+    CHECK(pwrite(f, &workers, sizeof workers, older->workers) == sizeof workers);
     if (is_open) CHECK(fcntl(f, F_OFD_SETLK, &lock) == 0);
     CHECK(code_of(file) == code);
-    CHECK(size_of(beside(".shared")) < 8192 || code == WANZOCHE_OPENED);
+    CHECK(size_of(beside(".shared")) < 80000 || code == WANZOCHE_OPENED);
     close(f);
-    if (code == WANZOCHE_IN_USE) CHECK(strstr(why, "Python") != NULL && code_of(file) == WANZOCHE_OPENED);
+    if (code == WANZOCHE_IN_USE) CHECK(strstr(why, older->whose) != NULL && code_of(file) == WANZOCHE_OPENED);
     if (code != WANZOCHE_OPENED) return;
     mine = opened(NULL);
     CHECK(wanzoche_store_worker(mine) == 11 && is_closed(mine)); /* no number that was given */
+}
+
+static void other_pages(void) {
+    for (size_t k = 0; k < sizeof OLDER / sizeof *OLDER; k++) {
+        other_page(&OLDER[k], "resource book cell operation read, write path { read }, write end end", false, WANZOCHE_OPENED);
+        other_page(&OLDER[k], "resource book cell operation read, write path { read }, write end end", true, WANZOCHE_IN_USE);
+        other_page(&OLDER[k], "resource book cell operation read, write path read, write end end", false, WANZOCHE_OTHER_DECLARATION);
+    }
 }
 
 int main(void) {
@@ -312,9 +333,7 @@ int main(void) {
     full();
     modes();
     declarations();
-    other_page("resource book cell operation read, write path { read }, write end end", false, WANZOCHE_OPENED);
-    other_page("resource book cell operation read, write path { read }, write end end", true, WANZOCHE_IN_USE);
-    other_page("resource book cell operation read, write path read, write end end", false, WANZOCHE_OTHER_DECLARATION);
+    other_pages();
     programs();
     all_closed();
     CHECK(has_ended(child(streams)));

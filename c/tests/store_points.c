@@ -32,7 +32,8 @@ int wanzoche_store_point(const char *call);
 void wanzoche_store_torn(void);
 
 static bool is_of_system(const char *call) {
-    static const char *const others[] = {"take", "give", "steal", "claim", "publish", "free", "call", "syncer", "futex_wait", "futex_wake"};
+    static const char *const others[] = {"take", "give", "steal", "claim", "publish", "free", "call", "syncer", "futex_wait", "futex_wake",
+                                         "record", "half_record", "end", "attempts", "copy"};
     for (size_t k = 0; k < sizeof others / sizeof *others; k++)
         if (strcmp(call, others[k]) == 0) return false;
     return true;

@@ -386,8 +386,8 @@ class Refusals(InFolder, unittest.TestCase):
             pass
         with open(self.file + ".shared", "r+b") as file:
             file.seek(8)
-            file.write(b"\3")
-        self.refused(StoreError, "is of version 3, and this library has 2$")
+            file.write(b"\4")
+        self.refused(StoreError, "is of version 4, and this library has 3$")
 
     def test_a_program_that_has_the_file_to_itself(self):
         with Paths(BOOK, store=self.file):
@@ -605,7 +605,7 @@ class Disks(InFolder, unittest.TestCase):
     def test_a_disk_that_is_full(self):
         mounted = os.path.join(self.folder, "small")
         os.mkdir(mounted)
-        mount = ["mount", "-t", "tmpfs", "-o", "size=128k", "tmpfs", mounted]
+        mount = ["mount", "-t", "tmpfs", "-o", "size=2176k", "tmpfs", mounted]
         if subprocess.run(mount, stderr=subprocess.DEVNULL).returncode:
             self.skipTest("no file system may be mounted here")
         self.addCleanup(subprocess.run, ["umount", mounted], check=True)

@@ -1,7 +1,7 @@
 """The file beside a store's journal, as who only looks on reads it (c/store/page.h).
 
-The first page has numbers that all processes share, and who waits. The declaration stands behind it, and behind that the number of each
-worker's process. Each worker has a lock on a byte far behind the file's end, as long as it is alive.
+The first page has numbers that all processes share, and who waits. Behind it lies a ring of what was answered last, behind that the
+declaration, and behind that the number of each worker's process. Each worker has a lock on a byte far behind the file's end, as long as it is alive.
 """
 
 from __future__ import annotations
@@ -16,13 +16,14 @@ from typing import Mapping, Optional
 from ._errors import StoreError
 from ._files import no_stream_is_free, open_file, telling
 
-VERSION = 2
+VERSION = 3
 """Of this file's form."""
 
 _MAGIC = b"wanzoche"
 _HEAD = struct.Struct("=8sII")  # the magic, the version, and the length of the declaration
 _END_AND_SEGMENT = struct.Struct("=QQ")
-_USED, _SLOTS, _PAGE = 256, 4096, 69632  # where a bit stands for each slot in use, where the slots are, and the declaration
+_USED, _SLOTS, _RING = 256, 4096, 69632  # where a bit stands for each slot in use, and where the slots and the ring are
+_DECLARATION = _RING + 65536 * 32
 _SLOT = struct.Struct("=II")  # the word, and the operation
 _WAITING, _CALLED = 2, 3  # states of a slot
 _PROCESS = struct.Struct("=Q")
@@ -48,14 +49,14 @@ class Beside:
         magic, version, self._length = _HEAD.unpack(head.ljust(_HEAD.size, b"\0"))
         if magic != _MAGIC:
             raise StoreError("{} isn't the file that a store has beside its journal".format(path))
-        if version != VERSION or os.fstat(self.fd).st_size < _PAGE:
+        if version != VERSION or os.fstat(self.fd).st_size < _DECLARATION:
             raise StoreError("{} is of version {}, and this package has {}".format(path, version, VERSION))
         with no_stream_is_free():
-            return mmap.mmap(self.fd, _PAGE, access=mmap.ACCESS_READ)
+            return mmap.mmap(self.fd, _RING, access=mmap.ACCESS_READ)
 
     def declaration(self) -> str:
         """The declaration of the store."""
-        return os.pread(self.fd, self._length, _PAGE).decode("ascii", "replace").rstrip("\n") + "\n"
+        return os.pread(self.fd, self._length, _DECLARATION).decode("ascii", "replace").rstrip("\n") + "\n"
 
     def close(self) -> None:
         """Gives the file back."""
@@ -76,7 +77,7 @@ class Beside:
 
     def process_of(self, worker: int) -> Optional[int]:
         """The number that a worker's process gave itself; None if it isn't known."""
-        place = _PAGE + (self._length + 7) // 8 * 8 + _PROCESS.size * worker
+        place = _DECLARATION + (self._length + 7) // 8 * 8 + _PROCESS.size * worker
         found = os.pread(self.fd, _PROCESS.size, place).ljust(_PROCESS.size, b"\0")
         number: int = _PROCESS.unpack(found)[0]
         return number or None
