@@ -258,27 +258,49 @@ class StoredAsyncEntry(_Filed, AsyncEntry):
 async def _enter_as_task(begun: Begun, worker: int) -> bool:
     """Begins it when it is admitted, and it is on the disk then. Whether it has waited for that."""
     until = begun.limit()
-    code = await _start_as_task(begun, worker, begun.waits(LISTEN))
+    code = begun._paths._file.start_now(begun, worker, begun.waits(LISTEN))
     has_waited = code != native.STARTED and not _admits(begun, code)
     if has_waited:
-        since, wait = time.monotonic(), TaskWait(begun)
-        try:
-            await _until_admitted_as_task(begun, worker, code, until, wait)
-        finally:
-            begun._paths._listener.remove(wait)
-            begun._paths._queues.waits.note(begun._op, time.monotonic() - since)
+        has_waited = await _wait_as_task(begun, worker, code, until)
         begun._paths._file.tell_news()
     await _synced(begun)
     return has_waited
 
 
-async def _start_as_task(begun: Begun, worker: int, waits: int) -> int:
+async def _wait_as_task(begun: Begun, worker: int, code: int, until: Optional[float]) -> bool:
+    """Of one that wasn't admitted at once: waits until it is. Whether it had to wait for more than its turn."""
+    wait, listener, since, has_waited = TaskWait(begun), begun._paths._listener, time.monotonic(), False
+    try:
+        listener.know(wait)
+        if code == native.LATE:
+            code = await _ask_aside(begun, worker, begun.waits(LISTEN), wait)
+        has_waited = not _admits(begun, code)
+        if has_waited:
+            await _until_admitted_as_task(begun, worker, code, until, wait)
+    finally:
+        listener.forget(wait)
+        if has_waited:
+            begun._paths._queues.waits.note(begun._op, time.monotonic() - since)
+    return has_waited
+
+
+async def _ask(begun: Begun, worker: int, waits: int, wait: TaskWait) -> int:
     """Tries to begin it, without a sleep of the loop."""
-    store = begun._paths._file
-    code = store.start_now(begun, worker, waits)
-    if code == native.LATE:
-        code = await aside(begun._paths._pool(), store.start_soon, begun, worker, waits)
-    return code
+    code = begun._paths._file.start_now(begun, worker, waits)
+    return await _ask_aside(begun, worker, waits, wait) if code == native.LATE else code
+
+
+async def _ask_aside(begun: Begun, worker: int, waits: int, wait: TaskWait) -> int:
+    """The same in another thread, which waits for the turn."""
+
+    def asks() -> int:
+        try:
+            return begun._paths._file.start_soon(begun, worker, waits)
+        finally:
+            wait.is_asking = False
+
+    wait.is_asking = True
+    return await aside(begun._paths._pool(), asks)
 
 
 async def _until_admitted_as_task(
@@ -291,12 +313,12 @@ async def _until_admitted_as_task(
         if _is_over(until):
             await aside(paths._pool(), _raise_if_late, begun, known)
         elif begun._waits:
-            paths._listener.add(wait)
+            paths._listener.call(wait)
             await wait.sleep((since + looks if until is None else min(since + looks, until)) - now)
         if time.monotonic() >= since + looks:
             paths._tell_long_wait(begun, code, worker, since)
             looks *= 2
-        code = await _start_as_task(begun, worker, TRY if _is_over(until) else begun.waits(LISTEN))
+        code = await _ask(begun, worker, TRY if _is_over(until) else begun.waits(LISTEN), wait)
 
 
 async def _synced(begun: Begun) -> None:

@@ -19,12 +19,20 @@ LINGER = 1000
 class TaskWait:
     """A task that waits, on its loop."""
 
-    __slots__ = ("begun", "_loop", "_awake")
+    __slots__ = ("begun", "is_asleep", "is_asking", "_loop", "_awake")
 
     def __init__(self, begun: "Begun") -> None:
         self.begun = begun
+        self.is_asleep = False
+        """Whether it is to be woken when it may ask again."""
+        self.is_asking = False
+        """Whether another thread asks for it now."""
         self._loop = asyncio.get_running_loop()
         self._awake = asyncio.Event()
+
+    def is_over(self) -> bool:
+        """Whether its loop is closed, so that it never goes on, and nobody asks for it either."""
+        return not self.is_asking and self._loop.is_closed()
 
     def wake(self) -> None:
         """Ends its sleep, or the next one. Raises RuntimeError if the loop is closed."""
@@ -42,23 +50,32 @@ class TaskWait:
 
 
 class Listener:
-    """Who waits, and the thread that listens for them. The thread knows the store alone: paths that nobody holds are closed."""
+    """Who waits, and the thread that listens for them. The thread knows the store alone: paths that nobody holds are closed.
+
+    A task stays known from before it asks to when it waits no more, also while it is awake: its loop may be closed at any moment, and then the
+    thread takes its place among those who wait away from it, within a second.
+    """
 
     def __init__(self, store: "Store") -> None:
         self._store = store
         self._waits: Dict[int, TaskWait] = {}
         self._thread: Optional[threading.Thread] = None
 
-    def add(self, wait: TaskWait) -> None:
-        """From now on it is woken when it may ask again: once."""
+    def know(self, wait: TaskWait) -> None:
+        """From now on it is looked whether its loop is closed."""
         self._waits[wait.begun._at] = wait
-        self._store.ring()
         if self._thread is None:
             self._start()
 
-    def remove(self, wait: TaskWait) -> None:
-        """It isn't woken any more."""
-        self._waits.pop(wait.begun._at, None)
+    def call(self, wait: TaskWait) -> None:
+        """It is woken when it may ask again: once."""
+        wait.is_asleep = True
+        self._store.ring()
+
+    def forget(self, wait: TaskWait) -> None:
+        """It waits no more."""
+        if self._waits.get(wait.begun._at) is wait:
+            self._waits.pop(wait.begun._at, None)
 
     def _start(self) -> None:
         thread = threading.Thread(target=self._run, name="wanzoche listener", daemon=True)
@@ -80,10 +97,8 @@ class Listener:
         """While somebody waits, and a while longer."""
         heard = ctypes.c_uint32()
         code = native.INTERRUPTED
-        waits: List[TaskWait] = []
         while code != native.CLOSED and not (code == native.LATE and not self._waits):
-            if code != native.LATE:
-                waits = list(self._waits.values())
+            waits = self._asleep()
             answer = self._store.listen([each.begun._at for each in waits], heard, LINGER)
             code = answer.code
             if code == native.CALLED:
@@ -91,9 +106,22 @@ class Listener:
         for each in list(self._waits.values()) if code == native.CLOSED else []:
             self._wake(each)
 
+    def _asleep(self) -> List[TaskWait]:
+        """Those that are to be woken. Those that never go on don't wait any more."""
+        waits = list(self._waits.values())
+        for each in waits:
+            if each.is_over():
+                self._drop(each)
+        return [each for each in waits if each.is_asleep]
+
     def _wake(self, wait: TaskWait) -> None:
-        self.remove(wait)
+        wait.is_asleep = False
         try:
             wait.wake()
         except RuntimeError:  # its loop is closed, and the task over with it
-            self._store.undo(wait.begun)
+            self._drop(wait)
+
+    def _drop(self, wait: TaskWait) -> None:
+        wait.is_asleep = False
+        self.forget(wait)
+        self._store.undo(wait.begun)
