@@ -1,6 +1,5 @@
 -- What a search writes.
 use Rattle.std.proofs.Common.{◌≡◌, ◌<◌, ◌≤◌, ◌+◌, ℕ, zero, suc, Bool, true, false, List, [], ◌∷◌, ◌++◌, length, get_or, drop, arith, refl, ap, sym, subst, ◌∙◌, inl, inr, Option, add-one, drop-cons}
-use Rattle.path_model.specs.declared.ids.OpId.{OpId}
 use Rattle.path_model.specs.Declarations.{Declaration}
 use Rattle.path_decl.specs.Text.{IsDeclarationText}
 use Rattle.search_histories.specs.declared.reached.Reached.{Reached}

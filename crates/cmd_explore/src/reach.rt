@@ -88,8 +88,8 @@ fn tell_reached<A: Allocator + Copy, O: Write, E: Write>(
 /// `Unsound`: one can, and of the first that can `out` gets the journal of a shortest history behind which nothing is live and nothing of
 /// the group that a path names may begin, as a text of version 2 with room for [`MOST_LINES`](path_model::MOST_LINES) lines, or nothing if
 /// it has more; `err` says so. Or none can, and `out` gets a line for each operation that never begins, and how many states there are.
-/// `Undecided`: a group has more states, and none that was looked at whole can freeze; nothing was written, and `err` says so. `StreamFailed`: a writer failed. `NoMemory`: memory ran out, and a front of the text was written. A fault is
-/// one line on `err`.
+/// `Undecided`: a group has more states, and none that was looked at whole can freeze; nothing was written, and `err` says so.
+/// `StreamFailed`: a writer failed. `NoMemory`: memory ran out, and a front of the text was written. A fault is one line on `err`.
 pub fn reach_to<A: Allocator + Copy, O: Write, E: Write>(
     alloc: A,
     decl: &Decl<A>,
