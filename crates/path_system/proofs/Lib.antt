@@ -6,6 +6,7 @@ pub mod Counted
 pub mod Taken
 pub mod Rows
 pub mod Opened
+pub mod Reopened
 pub mod Controlled
 pub mod Owing
 pub mod Replaced
