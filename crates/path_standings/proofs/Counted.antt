@@ -1,10 +1,11 @@
 -- How often each operation is in progress where activations are live: one more of them, and which operations a path names.
-use Rattle.std.proofs.Common.{◌≡◌, ◌≢◌, ◌==◌, ◌+◌, ◌<◌, ◌≤◌, ℕ, cond, Bool, true, false, List, [], ◌∷◌, ◌++◌, length, map, get_or, All, arith, refl, sym, ap, ◌∙◌, subst, inl, inr, length-append}
-use Rattle.std.specs.Prelude.{filter, replicate}
+use Rattle.std.proofs.Common.{◌≡◌, ◌≢◌, ◌==◌, ◌+◌, ◌<◌, ◌≤◌, ◌^◌, ℕ, cond, Bool, true, false, List, [], ◌∷◌, ◌++◌, length, map, get_or, take, All, arith, refl, sym, ap, ◌∙◌, subst, inl, inr, length-append}
+use Rattle.std.specs.Prelude.{filter, not}
+use Rattle.std.specs.Bool.{OnTrue, OnFalse}
 use Rattle.std.proofs.Math.ListN.{set}
-use Rattle.std.proofs.lemmas.Bool.{cases_lt, cases_eq, cond-true, cond-false, eq-eqb, ne_eqb}
-use Rattle.std.proofs.lemmas.List.{length-set, get_or-set_same, get_or-set_other, get_or_past, length-replicate, get_or-replicate}
-use Rattle.std.proofs.lemmas.List.Elements.{All-set, All-get_or, All-replicate}
+use Rattle.std.proofs.lemmas.Bool.{cases_eq, cond-true, cond-false, eq-eqb, ne_eqb, OnTrue_from, OnFalse_from}
+use Rattle.std.proofs.lemmas.List.{length-set, get_or-set_same, get_or-set_other, get_or_default, length-take-le, take_more}
+use Rattle.std.proofs.lemmas.List.Elements.{All-set, All-get_or}
 use Rattle.path_model.specs.declared.ids.OpId.{OpId}
 use Rattle.path_model.specs.declared.ids.PathId.{PathId}
 use Rattle.path_model.specs.declared.journal.Activation.{Activation}
@@ -40,37 +41,32 @@ module _ (a : OpId) where
       go true h rest = absurd (n.0 (names_has x.1 a h))
       go false h rest = rest
 
+-- whether there are any, where it is told whether there are none
+module _ (a : OpId) (xs : List (ℕ × Tree)) where
+  pub named_told : (ps : List PathId) → ps ≡ named_in a xs → (empty : Bool) → empty ≡ (length ps == 0) → OnTrue (not empty) (IsNamed xs a)
+  named_told ps is empty told = OnTrue_from (not empty) (IsNamed xs a) (λ some none.
+      let gone : ps ≡ [] = is ∙ named_none a xs none in
+      true_false (sym some ∙ ap not (told ∙ eq-eqb (length ps) 0 (ap length gone))))
+
+  pub unnamed_told : (ps : List PathId) → ps ≡ named_in a xs → (empty : Bool) → empty ≡ (length ps == 0) → OnFalse (not empty) (NoneOf (λ s. Names s a) xs)
+  unnamed_told [] is empty told = OnFalse_from (not empty) (NoneOf (λ s. Names s a) xs) (λ z. none_named a xs (sym is))
+  unnamed_told (p ∷ ps) is empty told =
+      OnFalse_from (not empty) (NoneOf (λ s. Names s a) xs)
+      (λ none. absurd (true_false (sym (ap not (told ∙ ne_eqb (length (p ∷ ps)) 0 (λ e. omega (arith, e)))) ∙ none)))
+
 -- one more of an operation
-one : Activation → OpId → ℕ
+abbrev one : Activation → OpId → ℕ
 one x b = cond (x.op.0 == b.0) 1 0
 
 one_same : (x : Activation) (b : OpId) → b.0 ≡ x.op.0 → one x b ≡ 1
-one_same x b same = cond-true _ _ _ (eq-eqb x.op.0 b.0 (sym same))
+one_same x b same = cond-true (x.op.0 == b.0) 1 0 (eq-eqb x.op.0 b.0 (sym same))
 
 one_other : (x : Activation) (b : OpId) → b.0 ≢ x.op.0 → one x b ≡ 0
-one_other x b other = cond-false _ _ _ (ne_eqb x.op.0 b.0 (λ same. other (sym same)))
+one_other x b other = cond-false (x.op.0 == b.0) 1 0 (ne_eqb x.op.0 b.0 (λ same. other (sym same)))
 
 count_more : (b : OpId) (live : List Activation) (x : Activation) → live_count b (live ++ x ∷ []) ≡ live_count b live + one x b
 count_more b [] x = omega arith
 count_more b (y ∷ live) x = let k = count_more b live x in omega (arith, k)
-
--- no activations, and no counts
-pub no_counts : (d : Declaration) (counts : List ℕ) → counts ≡ replicate (length d.operations) 0 → AreCountsOf d [] counts
-no_counts d counts is = record {
-  long = long;
-  named = λ a named. zero_at a;
-  idle = λ a none. zero_at a;
-  few = subst (All (λ n. n ≤ 0)) (sym is) (All-replicate (λ n. n ≤ 0) (length d.operations) 0 (omega arith));
-}
-  where
-    long : length counts ≡ length d.operations
-    long = ap length is ∙ length-replicate (length d.operations) 0
-
-    zero_at : (a : OpId) → get_or counts a.0 0 ≡ 0
-    zero_at a = elim (cases_lt a.0 (length d.operations)) [
-      | inl within ↦ ap (λ c. get_or c a.0 0) is ∙ get_or-replicate (length d.operations) a.0 0 0 within
-      | inr past ↦ get_or_past counts a.0 0 (omega (arith, past, ap length is, length-replicate (length d.operations) 0))
-    ]
 
 module _ (d : Declaration) (live : List Activation) (counts : List ℕ) (so : AreCountsOf d live counts) (x : Activation) where
   longer : length (live ++ x ∷ []) ≡ length live + 1
@@ -122,3 +118,30 @@ module _ (d : Declaration) (live : List Activation) (counts : List ℕ) (so : Ar
       ];
       few = All-set (λ n. n ≤ length (live ++ x ∷ [])) counts x.op.0 (get_or counts x.op.0 0 + 1) (omega (arith, small, longer)) few_more;
     }
+
+-- no count is as large as 2 ^ 32 where fewer are live
+pub all_few : (d : Declaration) (live : List Activation) (counts : List ℕ) → AreCountsOf d live counts → length live < 2 ^ 32 → All (λ k. k < 2 ^ 32) counts
+all_few d live counts so small = λ k z l. (let f = so.few k z l in omega (arith, f, small))
+
+-- the activation at this place is the next that is counted
+module _ (d : Declaration) (live : List Activation) (declared : All (λ a. a.op.0 < length d.operations) live) (i : ℕ) (counts : List ℕ) (so : AreCountsOf d (take i live) counts) (h : i < length live) (x : Activation) where
+  abbrev next : Activation
+  next = get_or live i x
+
+  within : next.op.0 < length counts
+  within = let k = declared i x h in let l = so.long in omega (arith, k, l)
+
+  pub few_counted : (e : ℕ) → get_or counts next.op.0 e ≤ i
+  few_counted e =
+      let few = All-get_or (λ n. n ≤ length (take i live)) counts next.op.0 e within so.few in
+      let long = length-take-le i live (omega (arith, h)) in
+      omega (arith, few, long)
+
+  pub next_unnamed : NoneOf (λ s. Names s next.op) (paths_of d) → AreCountsOf d (take (i + 1) live) counts
+  next_unnamed none = subst (λ xs. AreCountsOf d xs counts) (sym (take_more live i x h)) (counts_unnamed d (take i live) counts so next none)
+
+  pub next_named : (n e : ℕ) → n ≡ get_or counts next.op.0 e → IsNamed (paths_of d) next.op → AreCountsOf d (take (i + 1) live) (set counts next.op.0 (n + 1))
+  next_named n e is named =
+      let same : get_or counts next.op.0 0 ≡ n = get_or_default counts next.op.0 0 e within ∙ sym is in
+      subst (λ m. AreCountsOf d (take (i + 1) live) (set counts next.op.0 (m + 1))) same
+      (subst (λ xs. AreCountsOf d xs (set counts next.op.0 (get_or counts next.op.0 0 + 1))) (sym (take_more live i x h)) (counts_named d (take i live) counts so next within named))

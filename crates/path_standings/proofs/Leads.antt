@@ -1,5 +1,5 @@
 -- A gate with these values stands so: each path has a past, and the gate is at each history that leads there.
-use Rattle.std.proofs.Common.{◌≡◌, ◌+◌, ◌*◌, ◌^◌, ◌<◌, ◌≤◌, ℕ, zero, suc, cond, false, List, [], ◌∷◌, length, get_or, All, arith, refl, sym, ap, ◌∙◌, subst}
+use Rattle.std.proofs.Common.{◌≡◌, ◌+◌, ◌*◌, ◌^◌, ◌<◌, ◌≤◌, ℕ, zero, suc, cond, false, List, [], ◌∷◌, length, get_or, arith, refl, sym, ap, ◌∙◌, subst}
 use Rattle.std.proofs.lemmas.Bool.{cond-true, cond-false}
 use Rattle.std.proofs.lemmas.Nat.{mul-le}
 use Rattle.std.proofs.lemmas.List.{get_or-map}
@@ -28,6 +28,7 @@ use Rattle.path_state.proofs.CallerLemmas.{standings_tell_the_values, each_stand
 use Rattle.path_standings.specs.Told.{tree_at, site_at, IsFirst, progress_of, row_at, AreCountsOf, AllLead, EachShows}
 use Rattle.path_standings.specs.Misfits.{PathsCanStand}
 use Rattle.path_standings.specs.Written.{WritesPaths}
+use Rattle.path_standings.proofs.Counted.{all_few}
 use Rattle.path_standings.proofs.Few.{many, every_at, formed_at, few_names_at}
 use Rattle.path_standings.proofs.Fits.{all_small, names_same, each_below}
 use Rattle.path_standings.proofs.Rows.{kept_site, kept_sites}
@@ -67,10 +68,6 @@ module _ (d : Declaration) (lawful : Lawful d) (live : List Activation) (counts 
 
   pub few_at : (a : OpId) → progress_of counts a ≤ length live
   few_at a = let k = each_below counts (length live + 1) (omega arith) (λ k z l. let e = so.few k z l in omega (arith, e)) a.0 in omega (arith, k)
-
-  -- no count is as large as 2 ^ 32
-  pub all_few : All (λ k. k < 2 ^ 32) counts
-  all_few = λ k z l. (let f = so.few k z l in omega (arith, f, small))
 
   -- a history that leads where as many are in progress as are live
   pub leads_live : (i : ℕ) → i < length d.paths → (h : List Event) → LeadsTo (tree_at d i) (λ a. live_count a live) (row_at rows i) h → LeadsTo (tree_at d i) (progress_of counts) (row_at rows i) h
@@ -158,7 +155,7 @@ module _ (d : Declaration) (lawful : Lawful d) (live : List Activation) (counts 
     can_have = record {
       semaphores = wrote.semaphores;
       counters = wrote.counters;
-      small = all_few;
+      small = all_few d live counts so small;
       named = λ a k. (let l = named_declared d lawful a (of_paths a k) in let o = so.long in omega (arith, l, o));
       idle = λ a none. so.idle a (subst (λ xs. legal.NoneOf (λ s. Names s a) xs) paths none);
       pasts = pasts;

@@ -1,5 +1,5 @@
 -- What holds behind all lines that may have come before, and the segments that come behind them.
-use Rattle.std.proofs.Common.{◌≡◌, ◌≢◌, ℕ, List, [], ◌∷◌, ◌++◌, Option, Some, None, refl, sym, subst, append_assoc, append-nil}
+use Rattle.std.proofs.Common.{◌≡◌, ◌≢◌, ℕ, List, [], ◌∷◌, ◌++◌, Option, Some, None, refl, ap, sym, ◌∙◌, subst, append_assoc, append-nil}
 use Rattle.path_model.specs.declared.journal.Reply.TheVariants.{NoRoom}
 use Rattle.path_model.specs.declared.journal.Line.{Line}
 use Rattle.path_model.specs.Declarations.{Declaration}
@@ -24,7 +24,7 @@ pub of_state : (account : Account) (state : State) → account.opened ≡ Some s
     → (openings : List (List ℕ)) (before : List Line) → WereOwed account.declaration openings before → state_behind account.declaration openings before ≡ state → P openings before
 of_state account state is taken P each openings before owed left =
     each openings before (subst (λ (o : Option State). LeadTo account.declaration o account.openings openings before) (sym is)
-    (owed, left ∙ (λ i. record state { contents = taken (~ i) })))
+    (owed, left ∙ ap (λ (c : List (List ℕ)). let s : State = record state { contents = c } in s) (sym taken)))
 
 -- such a controller is what a system has
 pub is_system_of : (account : Account) → account.opened ≡ None → IsControlled account → IsSystem account
