@@ -5,6 +5,7 @@ pub mod Stepped
 pub mod Counted
 pub mod Taken
 pub mod Rows
+pub mod Containing
 pub mod Opened
 pub mod Reopened
 pub mod Controlled

@@ -1,8 +1,7 @@
 //! Whether devices contain what a state says.
 
-ghost use Rattle.std.specs.Prelude.{◌≡◌, ◌≢◌, ◌<◌, length, map, IfSome, IfNone};
+ghost use Rattle.std.specs.Prelude.{◌≡◌, ◌≢◌, ◌↔◌, ◌<◌, length, map, slice_get, Some, IsTrue, IfSome, IfNone};
 ghost use Rattle.std.specs.Bool.{OnTrue, OnFalse};
-ghost use Rattle.path_shelf.specs.States.{state_at};
 ghost use Rattle.path_state.specs.States.{rows_in};
 ghost use Rattle.path_system.specs.Accounts.{contents_of};
 ghost use Rattle.path_system.specs.Inner.Contained.{DiffersAt};
@@ -12,17 +11,23 @@ use path_model::ResId;
 use path_shelf::Device;
 use std::alloc::Allocator;
 
+/// Whether the device contains this number at this place.
+fn has<D: Device>(device: &D, place: u32, number: u64) -> bool
+    ensures { IsTrue result ↔ (slice_get (D.state device.now).contents place ≡ Some number) }
+{
+    device.at(place) == Some(number)
+}
+
 /// Whether the device contains these numbers, and no others.
 fn contains<D: Device>(device: &D, numbers: &[u64]) -> bool
     ensures yes { OnTrue result ((D.state device.now).contents ≡ numbers.now) }
     ensures no { OnFalse result ((D.state device.now).contents ≢ numbers.now) }
 {
-    let places = places_for(device.law());
-    if numbers.len() > places as usize {
+    if numbers.len() > places_for(device.law()) as usize {
         return false;
     }
     for place in 0..numbers.len() {
-        if device.at(place as u32) != Some(numbers[place]) {
+        if !has(device, place as u32, numbers[place]) {
             return false;
         }
     }
