@@ -1,9 +1,10 @@
 -- Numbers that a device contains, compared with those of a row.
-use Rattle.std.proofs.Common.{◌≡◌, ◌≢◌, ◌+◌, ◌<◌, ◌≤◌, ℕ, Bool, true, false, List, [], ◌∷◌, ◌++◌, Some, None, length, get_or, take, sym, ap, ◌∙◌, ◌⊎◌, inl, inr, arith}
-use Rattle.std.specs.Prelude.{slice_get}
+use Rattle.std.proofs.Common.{◌≡◌, ◌≢◌, ◌+◌, ◌<◌, ◌≤◌, ℕ, Bool, true, false, List, [], ◌∷◌, ◌++◌, Some, None, length, get_or, take, sym, ap, ◌∙◌, subst, ◌⊎◌, inl, inr, arith}
+use Rattle.std.specs.Prelude.{slice_get, map, Vec}
 use Rattle.std.proofs.lemmas.List.{length-map, get_or-map, take_all, take_more, ext_get_or}
 use Rattle.std.proofs.lemmas.Option.{slice_get-get_or, slice_get_cases}
 use Rattle.path_shelf.specs.States.{State, state_at}
+use Rattle.path_state.specs.States.{rows_in}
 use Rattle.path_system.specs.Accounts.{contents_of}
 use Rattle.path_system.proofs.Rows.{one_more, none_more}
 
@@ -34,6 +35,13 @@ module _ (held numbers : List ℕ) where
           go : ((y : ℕ) × (length numbers < length numbers) × (slice_get numbers (length numbers) ≡ Some y) × (get_or numbers (length numbers) y ≡ y)) ⊎ ((length numbers ≤ length numbers) × (slice_get numbers (length numbers) ≡ None)) → slice_get numbers (length numbers) ≡ None
           go (inl (y, within, here, read)) = absurd (omega (arith, within))
           go (inr (end, none)) = none
+
+-- the device of this number contains what its row says
+pub contained_here : {D Y : Type 0} (state : D → State) (devices : List D) (rows : List (Vec ℕ Y)) (n r : ℕ) → r ≡ n → (device : D) (row : Vec ℕ Y) → n < length devices → n < length rows
+    → device ≡ get_or devices n device → row ≡ get_or rows n row → (state device).contents ≡ row.items → (state_at (map state devices) r).contents ≡ get_or (rows_in rows) r []
+contained_here state devices rows n r same device row within here is are told =
+    subst (λ k. (state_at (map state devices) k).contents ≡ get_or (rows_in rows) k []) (sym same)
+    (ap (λ (s : State). s.contents) (get_or-map state devices n device _ within ∙ ap state (sym is)) ∙ told ∙ ap (λ (v : Vec ℕ _). v.items) are ∙ sym (get_or-map (λ (v : Vec ℕ _). v.items) rows n row [] here))
 
 -- each device contains what its row says
 pub all_contained : (states : List State) (rows : List (List ℕ)) → length rows ≡ length states → ((r : ℕ) → r < length rows → (state_at states r).contents ≡ get_or rows r []) → contents_of states ≡ rows

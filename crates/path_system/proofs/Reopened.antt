@@ -1,6 +1,7 @@
 -- The parts of a controller that was opened at a state: they are sound, and what any honest lines left that led there.
-use Rattle.std.proofs.Common.{◌≡◌, ℕ, ◌<◌, ◌≤◌, ◌+◌, true, false, List, [], ◌∷◌, ◌++◌, All, Some, length, get_or, refl, ap, sym, subst, ◌∙◌, arith, append-nil}
-use Rattle.std.proofs.lemmas.List.{length-map, length-replicate, get_or-replicate}
+use Rattle.std.proofs.Common.{◌≡◌, ℕ, ◌<◌, ◌≤◌, ◌+◌, true, false, List, [], ◌∷◌, ◌++◌, All, Some, length, get_or, take, refl, ap, sym, subst, ◌∙◌, arith, append-nil}
+use Rattle.std.proofs.lemmas.List.{length-map, length-replicate, get_or-replicate, take_more}
+use Rattle.std.proofs.lemmas.List.Elements.{All-append, All-cons, All-nil}
 use Rattle.path_model.specs.declared.ids.OpId.{OpId}
 use Rattle.path_model.specs.declared.journal.Activation.{Activation}
 use Rattle.path_model.specs.declared.journal.Line.{Line}
@@ -23,6 +24,10 @@ use Rattle.path_system.specs.Inner.Pasts.{behind, nothing}
 use Rattle.path_system.specs.Inner.Parts.{Marked, PartsValue, AreMarked, AreOpenedAt, AreSound, AreTrueTo, contents}
 use Rattle.path_system.proofs.Opened.{opened_count}
 
+-- one more of which it holds
+pub all_more : {A : Type 0} (P : A → Type 0) (xs : List A) (n : ℕ) (d : A) → n < length xs → All P (take n xs) → P (get_or xs n d) → All P (take (n + 1) xs)
+all_more P xs n d l all p = subst (All P) (sym (take_more xs n d l)) (All-append P (take n xs) (get_or xs n d ∷ []) all (All-cons P (get_or xs n d) [] p (All-nil P)))
+
 -- no more are live than were begun
 numbered_long : (low : ℕ) (live : List Activation) (end : ℕ) → AreNumberedFrom low live end → low + length live ≤ end
 numbered_long low [] end n = omega (arith, n)
@@ -30,12 +35,12 @@ numbered_long low (a ∷ live) end n = let r = numbered_long (a.act.0 + 1) live 
 
 module _ (parts : PartsValue) (d : Declaration) (room : ℕ) (state : path.State) (states : List State) (fit : MayFit room states d state) (o : AreOpenedAt parts d room state states) where
   live_is : parts.present.register.live ≡ state.live
-  live_is = ap (λ (b : Register). b.live) o.register ∙ ap (λ (b : Book). b.live) o.present.book
+  live_is = ap (λ (b : Register). b.live) o.register ∙ ap (λ (b : Book). b.live) o.present.register
 
   begun_is : parts.present.register.begun ≡ state.starts
   begun_is =
       let k = ap (λ (b : Register). b.begun) o.register in
-      let l = ap (λ (b : Book). b.first + b.begun) o.present.book in
+      let l = ap (λ (b : Book). b.first + b.begun) o.present.register in
       omega (arith, k, l)
 
   all_declared : All (λ a. a.op.0 < length d.operations) parts.present.register.live
@@ -56,7 +61,7 @@ module _ (parts : PartsValue) (d : Declaration) (room : ℕ) (state : path.State
           admitted = (let k = o.present.admitted in let b = begun_is in omega (arith, k, b, long));
         };
         few = (let k = ap length live_is in let f = fit.few in omega (arith, k, f));
-        places = o.places ∙ ap (λ (b : Book). b.room) o.present.book;
+        places = o.places ∙ ap (λ (b : Book). b.room) o.present.register;
         laws = ap (λ (m : Marked). laws_of m.states) o.devices ∙ fit.laws;
         marks = ap (λ (m : Marked). length m.asked) o.devices ∙ ap length o.present.asked ∙ length-replicate (length d.resources) true;
       })

@@ -57,7 +57,7 @@ IsStateFault room states d state (Misfits p misfit) = TellsMisfit d state.live s
 
 -- nothing speaks against it but the numbers of what is live, and where paths stand
 pub record MayFit (room : ℕ) (states : List State) (d : Declaration) (state : path.State) : Type 0 where
-  pub room : IsBadRoom room → ⊥
+  pub good_room : IsBadRoom room → ⊥
   pub laws : laws_of states ≡ declared_laws d
   pub rows : HasRows d state
   pub contained : contents_of states ≡ state.contents

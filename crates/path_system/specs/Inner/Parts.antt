@@ -190,25 +190,25 @@ pub record AreOpened (parts : PartsValue) (d : Declaration) (room : ℕ) (states
   pub devices : parts.devices ≡ record { states = states; asked = replicate (length d.resources) false }
 
 -- a gate, a ledger and marks at a state: whatever led there, each device may have been asked
-pub record AreAt (standing : Standing) (book : Book) (asked : List Bool) (d : Declaration) (room : ℕ) (state : path.State) : Type 0 where
+pub record AreAt (standing : Standing) (book : Book) (marks : List Bool) (d : Declaration) (room : ℕ) (state : path.State) : Type 0 where
   pub paths : standing.paths ≡ paths_of d
   pub at : (h : List Event) → AllLead d state.live state.stands h → IsAt standing h
   pub admitted : standing.admitted ≡ length state.live
   pub counted : (a : OpId) → IsNamed (paths_of d) a → slice_index standing.in_progress a.0 ≡ live_count a state.live
-  pub book : book ≡ record { live = state.live; first = state.starts; begun = 0; room = room }
+  pub register : book ≡ record { live = state.live; first = state.starts; begun = 0; room = room }
   pub numbered : AreNumbered state.live state.starts
-  pub asked : asked ≡ replicate (length d.resources) true
+  pub asked : marks ≡ replicate (length d.resources) true
 
 -- the parts at a state, over devices in these states
 pub record AreOpenedAt (parts : PartsValue) (d : Declaration) (room : ℕ) (state : path.State) (states : List State) : Type 0 where
   pub lawful : Lawful d
   pub declaration : parts.declaration ≡ d
-  pub asked : List Bool
+  pub marks : List Bool
   pub book : Book
-  pub present : AreAt parts.present.standing book asked d room state
+  pub present : AreAt parts.present.standing book marks d room state
   pub register : parts.present.register ≡ record { live = book.live; begun = book.first + book.begun }
   pub places : parts.places ≡ book.room
-  pub devices : parts.devices ≡ record { states = states; asked = asked }
+  pub devices : parts.devices ≡ record { states = states; asked = marks }
 
 -- an activation of the resource is live
 abbrev pub IsLiveAt : PartsValue → ℕ → Type 0
