@@ -399,4 +399,10 @@ module _ (g : Standing) (by_op : List (List Term)) (S : IsSound g by_op) (semaph
   }
 
   pub restores : Restored g semaphores counters counts admitted (having g semaphores counters new admitted)
-  restores = record { paths = refl; values = refl; admitted = refl; at = restored_at }
+  restores = record {
+    paths = refl;
+    values = refl;
+    admitted = refl;
+    counted = λ a n. here a.0 (named_counted a n) (can.named a n);
+    at = restored_at;
+  }

@@ -136,4 +136,5 @@ pub record Restored (old : Standing) (ss cs ns : List ℕ) (n : ℕ) (new : Stan
   pub paths : new.paths ≡ old.paths
   pub values : new.levels ≡ levels ss cs
   pub admitted : new.admitted ≡ n
+  pub counted : (a : OpId) → IsNamed old.paths a → slice_index new.in_progress a.0 ≡ slice_index ns a.0
   pub at : (h : List Event) → IsAt (having old ss cs ns n) h → IsAt new h

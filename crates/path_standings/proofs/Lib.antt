@@ -5,4 +5,5 @@ pub mod Fits
 pub mod Ranks
 pub mod Shown
 pub mod Writing
+pub mod Counted
 pub mod Leads

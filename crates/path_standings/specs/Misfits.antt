@@ -1,5 +1,6 @@
 -- Whether the paths of a declaration can stand so, each if it is looked at alone, and what is wrong where they can't.
 use Rattle.std.specs.Prelude.{◌≡◌, ◌≢◌, ◌<◌, ◌^◌, ℕ, List, length, All}
+use Rattle.path_model.specs.declared.journal.Activation.{Activation}
 use Rattle.path_model.specs.Machine.{semicolons}
 use Rattle.path_model.specs.Declarations.{Declaration}
 use Rattle.path_state.specs.Pasts.{underway, BoundsFit, CanStand}
@@ -7,7 +8,7 @@ use Rattle.path_standings.specs.declared.misfit.Misfit.{Misfit}
 use Rattle.path_standings.specs.declared.misfit.Misfit.TheVariants.{Length, Large, Bound, Overlap, Unlike}
 use Rattle.path_standings.specs.declared.misfit.StandFault.{StandFault}
 use Rattle.path_standings.specs.declared.misfit.StandFault.TheVariants.{Misfits, OutOfMemory}
-use Rattle.path_standings.specs.Told.{tree_at, progress_of, row_at}
+use Rattle.path_standings.specs.Told.{tree_at, progress_of, row_at, AreCountsOf}
 
 -- no number of a row is too large
 abbrev pub AreFew : List ℕ → Type 0
@@ -36,7 +37,11 @@ pub record IsFirstMisfit (d : Declaration) (counts : List ℕ) (rows : List (Lis
   pub wrong : IsWrong d counts rows i misfit
   pub before : (j : ℕ) → j < i → PathCanStand d counts rows j
 
+-- each path can stand so where these activations are live
+abbrev pub AllCanStand : Declaration → List Activation → List (List ℕ) → Type 0
+AllCanStand d live rows = (counts : List ℕ) × AreCountsOf d live counts × PathsCanStand d counts rows
+
 -- the fault tells the first misfit
-abbrev pub TellsMisfit : Declaration → List ℕ → List (List ℕ) → StandFault → Type 0
-TellsMisfit d counts rows (Misfits p misfit) = IsFirstMisfit d counts rows p.0 misfit
-TellsMisfit d counts rows OutOfMemory = Unit {0}
+abbrev pub TellsMisfit : Declaration → List Activation → List (List ℕ) → StandFault → Type 0
+TellsMisfit d live rows (Misfits p misfit) = (counts : List ℕ) × AreCountsOf d live counts × IsFirstMisfit d counts rows p.0 misfit
+TellsMisfit d live rows OutOfMemory = Unit {0}

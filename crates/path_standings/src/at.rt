@@ -1,20 +1,20 @@
 //! A gate whose paths stand so.
 
-ghost use Rattle.std.specs.Prelude.{◌≡◌, ◌<◌, ◌≤◌, List, length, All, IfOk, IfErr, slice_index};
+ghost use Rattle.std.specs.Prelude.{◌≡◌, ◌<◌, List, length, All, IfOk, IfErr, slice_index};
 ghost use Rattle.path_model.specs.declared.ids.OpId.{OpId};
 ghost use Rattle.path_model.specs.declared.history.Event.{Event};
-ghost use Rattle.path_model.specs.Trees.{Names};
-ghost use Rattle.path_model.specs.Legal.{NoneOf};
-ghost use Rattle.path_model.specs.Declarations as declarations;
-ghost use Rattle.path_gate.specs.Standings.{IsAt};
-ghost use Rattle.path_standings.specs.Told.{rows_of, AllLead};
-ghost use Rattle.path_standings.specs.Misfits.{PathsCanStand, TellsMisfit};
+ghost use Rattle.path_model.specs.Declarations.{paths_of};
+ghost use Rattle.path_model.specs.Journals.{live_count};
+ghost use Rattle.path_gate.specs.Standings.{IsAt, IsNamed};
+ghost use Rattle.path_standings.specs.Told.{rows_of, AllLead, EachShows};
+ghost use Rattle.path_standings.specs.Misfits.{AllCanStand, TellsMisfit};
 
 use crate::misfit::{StandFault, first_misfit};
+use crate::progress::counts_of;
 use crate::values::write_paths;
 use path_decl::Decl;
 use path_gate::{Gate, compile};
-use path_model::OutOfMemory;
+use path_model::{Activation, OutOfMemory};
 use std::alloc::Allocator;
 
 /// The same values in a list of their own. Fails only if allocation fails.
@@ -26,33 +26,35 @@ fn copied<A: Allocator + Copy>(alloc: A, values: &[u64]) -> Result<Vec<u64, A>, 
     Ok(copy)
 }
 
-/// A gate whose paths stand so: this many executions of each operation are in progress, 0 of those that no path names, and so many stand
-/// behind each `;`, a row for each path, as [`stands`](crate::stands) gives them. So many starts count as admitted, and no operation is in
-/// progress more often.
+/// A gate whose paths stand so: these activations are live, and so many executions stand behind each `;`, a row for each path, as
+/// [`stands`](crate::stands) gives them. As many starts count as admitted as are live.
 ///
-/// Each path is looked at alone: it is tested whether it can stand so, and not whether there is one history that led all there. Fails with
-/// the first path that can't, or if allocation fails. The cost is that of compiling, and a few walks over the trees, of which each is
-/// compared with those before it.
+/// Each path is looked at alone: it is tested whether it can stand so, and not whether there is one history that led all there. Of each
+/// the gate has the values that any history of this path alone leaves that led it there.
+///
+/// Fails with the first path that can't, or if allocation fails. The cost is that of compiling, a look at each activation, and a few walks
+/// over the trees, of which each is compared with those before it.
 pub fn gate_at<A: Allocator + Copy>(
     alloc: A,
     decl: &Decl<A>,
-    in_progress: &[u64],
+    live: &[Activation],
     rows: &[Vec<u64, A>],
-    admitted: u32,
 ) -> Result<Gate<A>, StandFault>
-    requires operations { length in_progress.now ≡ length decl.now.declaration.operations }
-    requires idle { (a : OpId) → NoneOf (λ s. Names s a) (declarations.paths_of decl.now.declaration)
-        → slice_index in_progress.now a.0 ≡ 0 }
-    requires few { All (λ n. n ≤ admitted) in_progress.now }
+    requires declared { All (λ a. a.op.0 < length decl.now.declaration.operations) live.now }
+    requires few { length live.now < 4294967296 }
     requires rows { length rows.now ≡ length decl.now.declaration.paths }
-    ensures paths { IfOk result (λ gate. gate.paths ≡ declarations.paths_of decl.now.declaration) }
-    ensures admitted { IfOk result (λ gate. gate.admitted ≡ admitted) }
+    ensures paths { IfOk result (λ gate. gate.paths ≡ paths_of decl.now.declaration) }
+    ensures admitted { IfOk result (λ gate. gate.admitted ≡ length live.now) }
+    ensures counted { IfOk result (λ gate. (a : OpId) → IsNamed (paths_of decl.now.declaration) a
+        → slice_index gate.in_progress a.0 ≡ live_count a live.now) }
     ensures at { IfOk result (λ gate. (h : List Event)
-        → AllLead decl.now.declaration in_progress.now (rows_of rows.now) h → IsAt gate h) }
-    ensures can { IfOk result (λ _. PathsCanStand decl.now.declaration in_progress.now (rows_of rows.now)) }
-    ensures misfit { IfErr result (TellsMisfit decl.now.declaration in_progress.now (rows_of rows.now)) }
+        → AllLead decl.now.declaration live.now (rows_of rows.now) h → IsAt gate h) }
+    ensures each { IfOk result (λ gate. EachShows decl.now.declaration live.now (rows_of rows.now) gate.levels) }
+    ensures can { IfOk result (λ _. AllCanStand decl.now.declaration live.now (rows_of rows.now)) }
+    ensures misfit { IfErr result (TellsMisfit decl.now.declaration live.now (rows_of rows.now)) }
 {
-    if let Some((path, misfit)) = first_misfit(decl, in_progress, rows) {
+    let in_progress = counts_of(alloc, decl, live)?;
+    if let Some((path, misfit)) = first_misfit(decl, &in_progress, rows) {
         return Err(StandFault::Misfits(path, misfit));
     }
     let mut gate = compile(alloc, decl)?;
@@ -61,11 +63,11 @@ pub fn gate_at<A: Allocator + Copy>(
     write_paths(
         alloc,
         decl,
-        in_progress,
+        &in_progress,
         rows,
         &mut semaphores,
         &mut counters,
     )?;
-    gate.restore(&semaphores, &counters, in_progress, admitted);
+    gate.restore(&semaphores, &counters, &in_progress, live.len() as u32);
     Ok(gate)
 }

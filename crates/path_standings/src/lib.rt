@@ -5,6 +5,7 @@ mod at;
 mod misfit;
 mod numbers;
 mod parts;
+mod progress;
 mod standings;
 mod trees;
 mod values;

@@ -1,3 +1,4 @@
+pub mod Firsts
 pub mod Alike
 pub mod Standings
 pub mod Twins

@@ -1,5 +1,5 @@
 -- Behind honest lines with one state the same is owed, for ever.
-use Rattle.std.proofs.Common.{◌≡◌, ◌≢◌, ◌<◌, ◌+◌, ℕ, zero, suc, Bool, true, false, nat_le, List, [], ◌∷◌, ◌++◌, length, map, refl, sym, ap, ◌∙◌, subst, inl, inr, arith, append_assoc, append-nil, length-append}
+use Rattle.std.proofs.Common.{◌≡◌, ◌≢◌, ◌<◌, ◌+◌, ℕ, zero, suc, Bool, true, false, nat_le, List, [], ◌∷◌, ◌++◌, length, map, refl, sym, ap, ◌∙◌, subst, inl, inr, arith, append_assoc, append-nil}
 use Rattle.std.proofs.lemmas.Bool.{cases_lt}
 use Rattle.path_model.specs.declared.journal.Attempt.{Attempt}
 use Rattle.path_model.specs.declared.journal.Attempt.TheVariants.{Start, Apply, Finish}
@@ -17,15 +17,12 @@ use Rattle.path_model.specs.Segments.{room_behind, has_no_number, OwedUnless, Ow
 use Rattle.path_model.proofs.CallerLemmas.{each_honest_journal_is_legal, each_path_keeps_its_counts, live_activations_are_in_progress, every_map, every_both, room_behind_is, owed_numbered}
 use Rattle.path_state.specs.Standings.{stands_after}
 use Rattle.path_state.specs.States.{first_of, state_behind, AreOfResources, WereOwed, StatesOweTheSame}
+use Rattle.path_state.proofs.Firsts.{first_long}
 use Rattle.path_state.proofs.Alike.{Alike}
 use Rattle.path_state.proofs.Standings.{parts_same, alike_of, stands_alike}
 use Rattle.path_state.proofs.Twins.{Twins, twins_sym, Together, together, owed_same, twins_more}
 
 -- the first n of two are equal exactly where each of them is
-first_long : {A : Type 0} → (f : ℕ → A) (n : ℕ) → length (first_of f n) ≡ n
-first_long f zero = refl
-first_long f (suc n) = omega (arith, first_long f n, length-append (first_of f n) (f n ∷ []))
-
 first_each : {A : Type 0} → (f g : ℕ → A) (n : ℕ) → first_of f n ≡ first_of g n → (r : ℕ) → r < n → f r ≡ g r
 first_each f g zero e r l = absurd (omega (arith, l))
 first_each f g (suc n) e r l =

@@ -1,5 +1,5 @@
 -- The state behind the lines of a journal, and that it says all that is owed behind them.
-use Rattle.std.specs.Prelude.{◌≡◌, ◌<◌, ℕ, zero, suc, max, List, [], ◌∷◌, ◌++◌, length, map, All, ◌↔◌}
+use Rattle.std.specs.Prelude.{◌≡◌, ◌<◌, ℕ, zero, suc, max, List, [], ◌∷◌, ◌++◌, length, map, All, ◌↔◌, Vec}
 use Rattle.path_model.specs.declared.journal.Attempt.{Attempt}
 use Rattle.path_model.specs.declared.journal.Reply.{Reply}
 use Rattle.path_model.specs.declared.journal.Line.{Line}
@@ -11,6 +11,7 @@ use Rattle.path_model.specs.Journals.{begun_in, live, admitted_history}
 use Rattle.path_model.specs.Contents.{contents_after}
 use Rattle.path_model.specs.Honest.{IsHonest}
 use Rattle.path_model.specs.Segments.{IsSegment, OwedBehind}
+use Rattle.path_state.specs.declared.state.State as stored
 use Rattle.path_state.specs.Standings.{stands_after}
 
 -- What a snapshot of a system says.
@@ -26,6 +27,21 @@ pub record State : Type 0 where
   pub stands : List (List ℕ)
   -- what the device of each resource contains
   pub contents : List (List ℕ)
+
+-- the rows of a stored state
+abbrev pub rows_in : {Y : Type 0} → List (Vec ℕ Y) → List (List ℕ)
+rows_in rows = map (λ row. row.items) rows
+
+-- what a stored state says
+abbrev pub state_in : {Y : Type 0} → stored.State Y → State
+state_in s = record {
+  lines = s.lines;
+  starts = s.starts;
+  highest = s.highest;
+  live = s.live.items;
+  stands = rows_in s.stands.items;
+  contents = rows_in s.contents.items;
+}
 
 abbrev pub highest_worker : List Line → ℕ
 highest_worker [] = 0

@@ -1,10 +1,10 @@
 -- What holds behind all lines that may have come before, and the segments that come behind them.
-use Rattle.std.proofs.Common.{◌≡◌, ◌≢◌, ℕ, List, [], ◌∷◌, ◌++◌, Option, None, refl, sym, subst, append_assoc, append-nil}
+use Rattle.std.proofs.Common.{◌≡◌, ◌≢◌, ℕ, List, [], ◌∷◌, ◌++◌, Option, Some, None, refl, ap, sym, ◌∙◌, subst, append_assoc, append-nil}
 use Rattle.path_model.specs.declared.journal.Reply.TheVariants.{NoRoom}
 use Rattle.path_model.specs.declared.journal.Line.{Line}
 use Rattle.path_model.specs.Declarations.{Declaration}
 use Rattle.path_model.specs.Segments.{joined, OwedBehind, IsSegmentFrom, AreHonestFrom}
-use Rattle.path_state.specs.States.{State}
+use Rattle.path_state.specs.States.{State, state_behind, WereOwed}
 use Rattle.path_system.specs.Accounts.{Account, IsSystem}
 use Rattle.path_system.specs.Before.{LeadTo, BehindEach}
 use Rattle.path_system.specs.Controllers.{IsControlled}
@@ -18,6 +18,13 @@ pub system_of : (account : Account) → account.opened ≡ None → (P : List (L
 system_of account first P p openings before leads =
     let none = subst (λ (o : Option State). LeadTo account.declaration o account.openings openings before) first leads in
     subst (P openings) (sym none.1) (subst (λ o. P o []) (sym none.0) p)
+
+-- where it was opened at a state, that is what holds behind all honest lines that left this state
+pub of_state : (account : Account) (state : State) → account.opened ≡ Some state → account.openings ≡ state.contents → (P : List (List ℕ) → List Line → Type 0) → BehindEach account P
+    → (openings : List (List ℕ)) (before : List Line) → WereOwed account.declaration openings before → state_behind account.declaration openings before ≡ state → P openings before
+of_state account state is taken P each openings before owed left =
+    each openings before (subst (λ (o : Option State). LeadTo account.declaration o account.openings openings before) (sym is)
+    (owed, left ∙ ap (λ (c : List (List ℕ)). let s : State = record state { contents = c } in s) (sym taken)))
 
 -- such a controller is what a system has
 pub is_system_of : (account : Account) → account.opened ≡ None → IsControlled account → IsSystem account

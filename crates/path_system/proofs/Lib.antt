@@ -5,7 +5,9 @@ pub mod Stepped
 pub mod Counted
 pub mod Taken
 pub mod Rows
+pub mod Containing
 pub mod Opened
+pub mod Reopened
 pub mod Controlled
 pub mod Owing
 pub mod Replaced

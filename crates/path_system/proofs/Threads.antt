@@ -4,6 +4,7 @@ use denote.RattleType.{RattleType}
 use denote.Param.Send.{IsSend, Frees, sendable}
 use Rattle.std.proofs.CrossingOver.{crosses}
 use Rattle.std.specs.declared.alloc.Allocator as memory
+use Rattle.std.specs.contracts.snapshot.Snapshot as Snapshot
 use Rattle.path_model.specs.contracts.journal.Activation as Activation
 use Rattle.path_model.specs.contracts.journal.Line as Line
 use Rattle.path_decl.proofs.CallerLemmas.{decl_send}
@@ -40,11 +41,14 @@ module _ (D A : RattleType) (d : devices.Ghosts D.Denot) (a : memory.Ghosts A.De
       let m = marked_send sd sa fa in
       search (sendable, crosses) depth 20
 
+  snapshot_send : (T : RattleType) → IsSend (Snapshot.the_row T)
+  snapshot_send T = search sendable depth 20
+
   controller_whole : IsSend D → IsSend A → Frees a a.dealloc_token → IsSend (Controller.the_field D A d a).row
   controller_whole sd sa fa =
       let o = openings_send sa fa in
       let p = parts_send sd sa fa in
-      search (sendable, crosses) depth 20
+      search (sendable, crosses, snapshot_send) depth 20
 
   pub controller_send : IsSend D → IsSend A → Frees a a.dealloc_token → IsSend (Controller.the_row D A d a)
   controller_send sd sa fa = let c = controller_whole sd sa fa in search sendable

@@ -3,3 +3,5 @@ pub mod Journaled
 pub mod Openings
 pub mod Parts
 pub mod Pasts
+pub mod StateFaults
+pub mod Contained

@@ -6,4 +6,5 @@ pub mod Faults
 pub mod Reports
 pub mod Taken
 pub mod Resumed
+pub mod Reopened
 pub mod Inner

@@ -26,8 +26,10 @@ use crate::unopened::open_fault;
 use path_decl::{Decl, counts};
 use path_model::{Attempt, Line, OutOfMemory, Reply, ResId};
 use path_shelf::Device;
+use path_state::State;
 use std::alloc::{Allocator, Global};
 use std::marker::Model;
+use std::snapshot::Snapshot;
 
 /// A declaration with its gate, its ledger and its devices. It answers attempts as a [`System`](crate::System) does, but keeps no lines:
 /// what it takes doesn't grow with them.
@@ -42,6 +44,8 @@ use std::marker::Model;
 #[derive(Drop)]
 pub struct Controller<D: Device, A: Allocator + Copy = Global> {
     pub(crate) openings: Openings<A>,
+    /// The state at which it was opened, if it was opened at one. Only contracts read it.
+    pub(crate) opened: Option<Snapshot<State<A>>>,
     pub(crate) past: Past,
     pub(crate) lines: u32,
     pub(crate) room: u32,
@@ -55,6 +59,7 @@ impl<D: Device, A: Allocator + Copy> Model for Controller<D, A> {
     ghost use Rattle.path_system.specs.Accounts.{Account, failures_of};
     ghost use Rattle.path_system.specs.Inner.Openings.{numbers_of};
     ghost use Rattle.path_system.specs.Inner.Parts.{IsTold};
+    ghost use Rattle.path_system.specs.Inner.Pasts.{behind, opened_in};
 
     ghost Value = { Account };
 
@@ -63,14 +68,14 @@ impl<D: Device, A: Allocator + Copy> Model for Controller<D, A> {
     ghost view = { λ c. record {
       declaration = c.parts.declaration;
       room = c.room;
-      opened = c.past.lines.opened;
+      opened = opened_in c.opened;
       openings = numbers_of c.openings;
-      earlier = c.past.lines.earlier;
-      journal = c.past.lines.present;
+      earlier = c.past.segments.earlier;
+      journal = c.past.segments.present;
       failures = failures_of c.parts.devices.states;
     } };
 
-    ghost invariant = { λ c. IsTold c.parts c.room c.openings c.past.lines c.lines };
+    ghost invariant = { λ c. IsTold c.parts c.room c.openings (behind (opened_in c.opened) c.past.segments) c.lines };
 }
 
 /// Whether the reply is `NoRoom`.
@@ -136,6 +141,7 @@ impl<D: Device, A: Allocator + Copy> Controller<D, A> {
         Ok(Controller {
             parts,
             openings,
+            opened: None,
             past: Past::new(),
             lines: 0,
             room,

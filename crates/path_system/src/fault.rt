@@ -1,11 +1,15 @@
-//! Why a system can't be opened, why a device can't be replaced, and why a line isn't taken over.
+//! Why a system can't be opened, also at a state, why a device can't be replaced, and why a line isn't taken over.
 
 ghost use Rattle.std.specs.Prelude.{◌≡◌};
 ghost use Rattle.path_system.specs.declared.fault.OpenFault.TheVariants as faults;
+ghost use Rattle.path_system.specs.declared.fault.StateFault.TheVariants as states;
 ghost use Rattle.path_system.specs.Faults.{as_open_fault};
+ghost use Rattle.path_system.specs.Inner.StateFaults.{of_hold_fault, of_stand_fault};
 
-use path_model::{OutOfMemory, Reply, ResId};
+use path_ledger::HoldFault;
+use path_model::{OutOfMemory, PathId, Reply, ResId};
 use path_shelf::ShelfFault;
+use path_standings::{Misfit, StandFault};
 use thiserror::Error;
 
 /// Why a system can't be opened.
@@ -40,6 +44,67 @@ impl From<ShelfFault> for OpenFault {
         match fault {
             ShelfFault::WrongCount => OpenFault::WrongCount,
             ShelfFault::WrongDevice(resource) => OpenFault::WrongDevice(resource),
+        }
+    }
+}
+
+/// Why a controller can't be opened at a state.
+#[derive(Clone, Copy, Debug, PartialEq, Eq, Error)]
+pub enum StateFault {
+    /// It can't be opened at all over these devices, in this room.
+    #[error("{0}")]
+    Open(OpenFault),
+    /// There isn't a row for each path of what stands behind its `;`, or for each resource of what it contains.
+    #[error("not a row for each path and each resource")]
+    Rows,
+    /// The device of this resource is the first that contains something else than the state says.
+    #[error("resource {number} contains something else", number = .0.0)]
+    Contents(ResId),
+    /// More activations are live than the room has places for.
+    #[error("more live than the room has places for")]
+    TooMany,
+    /// The live activation at this place, counted from 0, is the first whose operation isn't declared.
+    #[error("live activation {0}: unknown operation")]
+    UnknownOperation(u32),
+    /// The live activation at this place, counted from 0, is the first whose number isn't above that of the one before it.
+    #[error("live activation {0}: its number isn't above the one before")]
+    NotAscending(u32),
+    /// The live activation at this place, counted from 0, is the first whose number no start was given.
+    #[error("live activation {0}: no start was given its number")]
+    NotGiven(u32),
+    /// This path is the first that can't stand so, for this reason.
+    #[error("path {}: {}", .0.0, .1)]
+    Misfits(PathId, Misfit),
+}
+
+impl From<OutOfMemory> for StateFault {
+    ghost from_gives = { λ _ e. e ≡ states.Open faults.OutOfMemory };
+
+    fn from(_error: OutOfMemory) -> StateFault {
+        StateFault::Open(OpenFault::OutOfMemory)
+    }
+}
+
+impl From<HoldFault> for StateFault {
+    ghost from_gives = { λ fault e. e ≡ of_hold_fault fault };
+
+    fn from(fault: HoldFault) -> StateFault {
+        match fault {
+            HoldFault::TooMany => StateFault::TooMany,
+            HoldFault::NotAscending(place) => StateFault::NotAscending(place),
+            HoldFault::NotGiven(place) => StateFault::NotGiven(place),
+            HoldFault::OutOfMemory => StateFault::Open(OpenFault::OutOfMemory),
+        }
+    }
+}
+
+impl From<StandFault> for StateFault {
+    ghost from_gives = { λ fault e. e ≡ of_stand_fault fault };
+
+    fn from(fault: StandFault) -> StateFault {
+        match fault {
+            StandFault::Misfits(path, misfit) => StateFault::Misfits(path, misfit),
+            StandFault::OutOfMemory => StateFault::Open(OpenFault::OutOfMemory),
         }
     }
 }

@@ -27,7 +27,7 @@ impl<A: Allocator + Copy> Model for Openings<A> {
 }
 
 /// The most numbers that a device of this law contains.
-fn places_for(law: Law) -> u32
+pub(crate) fn places_for(law: Law) -> u32
     ensures { result ≡ places_of law }
 {
     match law {
@@ -77,6 +77,14 @@ impl<A: Allocator + Copy> Openings<A> {
         ensures { map (λ row. row.items) result.now ≡ numbers_of self.now }
     {
         self.rows.as_slice()
+    }
+
+    /// The rows, in the order of the resources. Takes constant time.
+    pub fn into_rows(self) -> Vec<Vec<u64, A>, A>
+        ensures { map (λ row. row.items) result.items ≡ numbers_of self }
+    {
+        let Openings { rows } = self;
+        rows
     }
 
     /// Writes what the device of the resource contains into its row. The other rows don't change.

@@ -1,22 +1,28 @@
 //! The parts of a system. They fit one another, but know nothing of the journal.
 
-ghost use Rattle.std.specs.Prelude.{◌≡◌, ◌<◌, [], ◌↔◌, IsTrue, IsFalse, length, map, IfOk, IfErr};
+ghost use Rattle.std.specs.Prelude.{◌≡◌, ◌<◌, List, [], ◌↔◌, IsTrue, IsFalse, true, length, map, replicate, IfOk, IfErr};
 ghost use Rattle.path_model.specs.Declarations as declarations;
 ghost use Rattle.path_model.specs.Journals.{activation_of};
 ghost use Rattle.path_gate.specs.Standings.{Judges};
 ghost use Rattle.path_shelf.specs.States.{MayFail, laws_of};
 ghost use Rattle.path_shelf.specs.Shelves.{declared_laws};
+ghost use Rattle.path_shelf.specs.States as shelf;
+ghost use Rattle.path_state.specs.States.{state_in};
 ghost use Rattle.path_step.specs.Steps.{Foretells};
 ghost use Rattle.path_step.specs.Steps as steps;
-ghost use Rattle.path_system.specs.Inner.Parts.{Answers, AreFresh, AreOpened, AreReady, FailsUse, HasAnswered, MayUse, TakesUse};
-ghost use Rattle.path_system.specs.Inner.Parts.{contents, is_law_at};
+ghost use Rattle.path_system.specs.Inner.Parts.{Answers, AreAt, AreFresh, AreOpened, AreOpenedAt, AreReady};
+ghost use Rattle.path_system.specs.Inner.Parts.{FailsUse, HasAnswered, MayUse, TakesUse, contents, is_law_at};
+ghost use Rattle.path_system.specs.Reopened.{IsStateFault, MayFit};
 
+use crate::fault::StateFault;
 use crate::marked::MarkedShelf;
 use path_decl::{Decl, counts, resource_of};
 use path_gate::{Gate, compile};
 use path_ledger::Ledger;
 use path_model::{ActId, Activation, Attempt, OpId, OutOfMemory, PathId, Reply, ResId, Verb};
 use path_shelf::{Device, Shelf};
+use path_standings::gate_at;
+use path_state::State;
 use std::alloc::{Allocator, Global};
 use std::marker::Model;
 
@@ -73,6 +79,32 @@ fn unattempted<A: Allocator + Copy>(
     Ok((gate, ledger, asked))
 }
 
+/// For each resource the mark that its device may have been asked. Fails only if allocation fails.
+fn marked<A: Allocator + Copy>(alloc: A, decl: &Decl<A>) -> Result<Vec<bool, A>, OutOfMemory>
+    ensures { IfOk result (λ asked. asked.items ≡ replicate (length decl.now.declaration.resources) true) }
+{
+    let asked = vec![in alloc; true; counts(decl).resources as usize]?;
+    Ok(asked)
+}
+
+/// A gate, a ledger and marks at a state.
+fn attempted<A: Allocator + Copy>(
+    alloc: A,
+    decl: &Decl<A>,
+    room: u32,
+    state: &State<A>,
+) -> Result<(Gate<A>, Ledger<A>, Vec<bool, A>), StateFault>
+    requires { (states : List shelf.State) × MayFit room states decl.now.declaration (state_in state.now) }
+    ensures ok { IfOk result (λ parts. AreAt parts.0 parts.1 parts.2.items decl.now.declaration room (state_in state.now)) }
+    ensures fault { IfErr result (λ fault. (states : List shelf.State)
+        → IsStateFault room states decl.now.declaration (state_in state.now) fault) }
+{
+    let ledger = Ledger::holding(alloc, room, state.live.as_slice(), state.starts)?;
+    let gate = gate_at(alloc, decl, ledger.live(), state.stands.as_slice())?;
+    let asked = marked(alloc, decl)?;
+    Ok((gate, ledger, asked))
+}
+
 impl<D: Device, A: Allocator + Copy> Parts<D, A> {
     /// The parts before any attempt: the gate is at the empty history, nothing is live, no device has been asked. There is one device
     /// for each resource, of its law. All memory of the parts is allocated now. Fails only if allocation fails; the devices then
@@ -97,6 +129,36 @@ impl<D: Device, A: Allocator + Copy> Parts<D, A> {
             ledger,
             devices: MarkedShelf::new(Shelf::over(devices), asked),
         })
+    }
+
+    /// The parts at a state that fits the declaration, the room and the devices: what it says is live is live, and each device may have been
+    /// asked. All memory of the parts is allocated now. Fails if what is live has no such numbers, if a path can't stand so, or if
+    /// allocation fails; the devices then come back.
+    pub fn open_at(
+        alloc: A,
+        decl: Decl<A>,
+        devices: Vec<D, A>,
+        room: u32,
+        state: &State<A>,
+    ) -> Result<Parts<D, A>, (StateFault, Vec<D, A>)>
+        requires { MayFit room (map D.state devices.items) decl.declaration (state_in state.now) }
+        ensures ok { IfOk result (λ parts. AreOpenedAt parts decl.declaration room (state_in state.now) (map D.state devices.items)) }
+        ensures fault { IfErr result (λ refusal.
+            IsStateFault room (map D.state devices.items) decl.declaration (state_in state.now) refusal.0) }
+        ensures back { IfErr result (λ refusal. refusal.1.items ≡ devices.items) }
+    {
+        match attempted(alloc, &decl, room, state) {
+            Err(fault) => {
+                drop(decl);
+                Err((fault, devices))
+            }
+            Ok((gate, ledger, asked)) => Ok(Parts {
+                decl,
+                gate,
+                ledger,
+                devices: MarkedShelf::new(Shelf::over(devices), asked),
+            }),
+        }
     }
 
     /// The declaration.
@@ -125,6 +187,13 @@ impl<D: Device, A: Allocator + Copy> Parts<D, A> {
         ensures { result.now ≡ self.now.present.register.live }
     {
         self.ledger.live()
+    }
+
+    /// The number of the next activation.
+    pub fn next(&self) -> u64
+        ensures { result ≡ self.now.present.register.begun }
+    {
+        self.ledger.next()
     }
 
     /// The live activation of this number, if there is one.

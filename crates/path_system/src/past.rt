@@ -2,7 +2,7 @@
 
 ghost use Rattle.std.specs.Prelude.{◌≡◌};
 ghost use Rattle.std.specs.Borrow.{ftrue};
-ghost use Rattle.path_system.specs.Inner.Pasts.{Lines, none, one_more, rotated};
+ghost use Rattle.path_system.specs.Inner.Pasts.{Segments, longer, nothing, turned};
 
 use path_model::Line;
 use std::marker::Model;
@@ -11,7 +11,7 @@ use std::marker::Model;
 /// reads it when the program runs.
 #[derive(Drop)]
 pub(crate) struct Past {
-    pub ghost lines: { Lines },
+    pub ghost segments: { Segments },
 }
 
 impl Model for Past {
@@ -21,21 +21,21 @@ impl Model for Past {
 impl Past {
     /// No lines.
     pub fn new() -> Past
-        ensures { result.lines ≡ none }
+        ensures { result.segments ≡ nothing }
     {
         Past {}
     }
 
     /// One line more.
     pub fn with(_before: &Past, _line: &Line) -> Past
-        ensures { result.lines ≡ one_more _before.now.lines _line.now }
+        ensures { result.segments ≡ longer _before.now.segments _line.now }
     {
         Past {}
     }
 
     /// The lines so far are earlier ones.
     pub fn rotated(_before: &Past) -> Past
-        ensures { result.lines ≡ rotated _before.now.lines }
+        ensures { result.segments ≡ turned _before.now.segments }
     {
         Past {}
     }

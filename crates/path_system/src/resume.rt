@@ -23,12 +23,14 @@ impl<D: Device, A: Allocator + Copy> Controller<D, A> {
     {
         let Controller {
             openings,
+            opened,
             past,
             lines: _,
             room: _,
             parts,
         } = self;
         drop(openings);
+        drop(opened);
         drop(past);
         parts.into_devices()
     }

@@ -1,6 +1,6 @@
 -- The parts of a system: what one attempt does to them, and when they agree with a journal.
 use Rattle.std.specs.Prelude.{◌≡◌, ◌≢◌, ◌+◌, ◌<◌, ◌≤◌, ℕ, Bool, true, false, List, [], ◌∷◌, ◌++◌}
-use Rattle.std.specs.Prelude.{◌↔◌, ◌⊎◌, All, Any, Some, length, slice_index_or, slice_set, replicate, Result, Ok, Err}
+use Rattle.std.specs.Prelude.{◌↔◌, ◌⊎◌, All, Any, Some, length, slice_index, slice_index_or, slice_set, replicate, Result, Ok, Err}
 use Rattle.path_model.specs.declared.resource.Law.{Law}
 use Rattle.path_model.specs.declared.journal.Verb.{Verb}
 use Rattle.path_model.specs.declared.journal.Attempt.{Attempt}
@@ -9,12 +9,16 @@ use Rattle.path_model.specs.declared.journal.Reply.TheVariants as replies
 use Rattle.path_model.specs.declared.journal.Line.{Line}
 use Rattle.path_model.specs.declared.journal.Activation.{Activation}
 use Rattle.path_model.specs.declared.ids.ActId.{ActId}
-use Rattle.path_model.specs.Journals.{activation_of}
+use Rattle.path_model.specs.declared.ids.OpId.{OpId}
+use Rattle.path_model.specs.declared.history.Event.{Event}
+use Rattle.path_model.specs.Journals.{activation_of, live_count, AreNumbered}
 use Rattle.path_model.specs.Declarations.{Declaration, paths_of, resource_of}
 use Rattle.path_model.specs.Rooms.{IsRoom}
 use Rattle.path_model.specs.Segments.{joined, AreHonestFrom}
 use Rattle.path_decl.specs.Lawful.{Lawful}
-use Rattle.path_gate.specs.Standings.{Standing, IsAt}
+use Rattle.path_gate.specs.Standings.{Standing, IsAt, IsNamed}
+use Rattle.path_standings.specs.Told.{AllLead}
+use Rattle.path_state.specs.States as path
 use Rattle.path_ledger.specs.Ledgers.{Book}
 use Rattle.path_shelf.specs.declared.device.ActFault.{ActFault}
 use Rattle.path_shelf.specs.declared.device.ActFault.TheVariants as faults
@@ -184,6 +188,27 @@ pub record AreOpened (parts : PartsValue) (d : Declaration) (room : ℕ) (states
   pub idle : parts.present.register ≡ record { live = []; begun = 0 }
   pub places : parts.places ≡ room
   pub devices : parts.devices ≡ record { states = states; asked = replicate (length d.resources) false }
+
+-- a gate, a ledger and marks at a state: whatever led there, each device may have been asked
+pub record AreAt (standing : Standing) (book : Book) (marks : List Bool) (d : Declaration) (room : ℕ) (state : path.State) : Type 0 where
+  pub paths : standing.paths ≡ paths_of d
+  pub at : (h : List Event) → AllLead d state.live state.stands h → IsAt standing h
+  pub admitted : standing.admitted ≡ length state.live
+  pub counted : (a : OpId) → IsNamed (paths_of d) a → slice_index standing.in_progress a.0 ≡ live_count a state.live
+  pub register : book ≡ record { live = state.live; first = state.starts; begun = 0; room = room }
+  pub numbered : AreNumbered state.live state.starts
+  pub asked : marks ≡ replicate (length d.resources) true
+
+-- the parts at a state, over devices in these states
+pub record AreOpenedAt (parts : PartsValue) (d : Declaration) (room : ℕ) (state : path.State) (states : List State) : Type 0 where
+  pub lawful : Lawful d
+  pub declaration : parts.declaration ≡ d
+  pub marks : List Bool
+  pub book : Book
+  pub present : AreAt parts.present.standing book marks d room state
+  pub register : parts.present.register ≡ record { live = book.live; begun = book.first + book.begun }
+  pub places : parts.places ≡ book.room
+  pub devices : parts.devices ≡ record { states = states; asked = marks }
 
 -- an activation of the resource is live
 abbrev pub IsLiveAt : PartsValue → ℕ → Type 0

@@ -9,5 +9,6 @@ mod opening;
 mod replacing;
 mod report;
 mod segments;
+mod states;
 mod stepping;
 mod system;

@@ -5,7 +5,7 @@ use Rattle.path_model.specs.Declarations.{Declaration}
 use Rattle.path_system.specs.Accounts.{contents_of}
 use Rattle.path_system.specs.Inner.Openings.{AreFor, numbers_of}
 use Rattle.path_system.specs.Inner.Parts.{Marked, AreMarked, AreTrueTo}
-use Rattle.path_system.specs.Inner.Pasts.{Lines, none}
+use Rattle.path_system.specs.Inner.Pasts.{none}
 use Rattle.path_system.proofs.Opened.{have_places, same_for, opened_count, sound_opened, true_opened, unmarked_opened}
 use Rattle.path_system.proofs.Controlled.{is_controlled}
 use Rattle.path_system.proofs.Behind.{is_system_of}
@@ -40,4 +40,4 @@ invariant_of-result g c =
     })
 
 pub returns-clause-system : goal.returns-clause-system
-returns-clause-system g c = is_system_of _ (ap (λ (l : Lines). l.opened) c.new.ensures) (is_controlled _ _ _ _ _ (invariant_of-result g c) _)
+returns-clause-system g c = is_system_of _ refl (is_controlled _ _ _ _ _ (invariant_of-result g c) _)

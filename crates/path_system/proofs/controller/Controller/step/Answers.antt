@@ -8,6 +8,7 @@ use Rattle.path_system.specs.Inner.Openings.{numbers_of}
 use Rattle.path_system.specs.Accounts.{failures_of}
 use Rattle.path_model.specs.Asked.{resource_asked}
 use Rattle.path_shelf.specs.States.{MayFail}
+use Rattle.path_system.specs.Inner.Pasts.{opened_in}
 use Rattle.path_system.proofs.Controlled.{is_controlled, ready_now, owed_behind, told_more, told_still, place_left}
 use Rattle.path_system.proofs.Stepped.{marks_answered}
 use Rattle.path_system.proofs.Counted.{AreCounted, counted_behind, failed_one}
@@ -44,12 +45,12 @@ returns-else-not-is_no_room-clause-owed g c =
 
 -- the counts before and after
 counts_of : (g : Over) (c : After-is_no_room g) (openings : List (List ℕ)) (before : List Line)
-    → LeadTo c.self.inside.parts.declaration c.self.inside.past.lines.opened (numbers_of c.self.inside.openings) openings before
-    → AreCounted (resource_asked c.self.inside.parts.declaration ((before ++ joined c.self.inside.past.lines.earlier) ++ c.self.inside.past.lines.present) c.args.attempt c.answer-reply.result) c.answer-reply.result
+    → LeadTo c.self.inside.parts.declaration (opened_in c.self.inside.opened) (numbers_of c.self.inside.openings) openings before
+    → AreCounted (resource_asked c.self.inside.parts.declaration ((before ++ joined c.self.inside.past.segments.earlier) ++ c.self.inside.past.segments.present) c.args.attempt c.answer-reply.result) c.answer-reply.result
     (failures_of c.self.inside.parts.devices.states) (failures_of c.answer-reply.new.self.devices.states)
 counts_of g c openings before leads =
     counted_behind _ c.self.inside.parts _ _ c.self.invariant.sound c.answer-reply.new.self c.args.worker c.args.attempt c.answer-reply.result c.answer-reply.ensures
-    ((before ++ joined c.self.inside.past.lines.earlier) ++ c.self.inside.past.lines.present) (c.self.invariant.behind openings before leads).left.live
+    ((before ++ joined c.self.inside.past.segments.earlier) ++ c.self.inside.past.segments.present) (c.self.invariant.behind openings before leads).left.live
 
 -- only devices that may fail do
 failed_told : (g : Over) (c : After-is_no_room g) → c.answer-reply.result ≡ DeviceFailed → MayFail g.D.Device.state

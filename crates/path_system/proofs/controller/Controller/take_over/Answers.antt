@@ -7,6 +7,7 @@ use Rattle.path_system.specs.Accounts.{Account, failures_of}
 use Rattle.path_system.specs.Before.{BehindEach, earlier_behind}
 use Rattle.path_system.specs.Inner.Openings.{numbers_of}
 use Rattle.path_system.specs.Inner.Parts.{Answers, FailsUse, HasMarked}
+use Rattle.path_system.specs.Inner.Pasts.{opened_in}
 use Rattle.path_system.proofs.Taken.{used_is}
 use Rattle.path_system.proofs.Stepped.{marks_itself}
 use Rattle.path_system.proofs.Controlled.{is_controlled, owed_behind, ready_now, told_more}
@@ -79,16 +80,16 @@ returns-then-not-take_use-clause-fault g c =
         λ i. record {
           declaration = f.declaration i;
           room = c.self.inside.room;
-          opened = c.self.inside.past.lines.opened;
+          opened = opened_in c.self.inside.opened;
           openings = numbers_of c.self.inside.openings;
-          earlier = c.self.inside.past.lines.earlier;
-          journal = c.self.inside.past.lines.present;
+          earlier = c.self.inside.past.segments.earlier;
+          journal = c.self.inside.past.segments.present;
           failures = failures_of c.take_use.new.self.devices.states;
         },
       );
       each = λ openings before leads. record {
         next = record {
-          owed = subst (OwedBehind c.self.inside.parts.declaration c.self.inside.room openings (before ++ joined c.self.inside.past.lines.earlier) c.self.inside.past.lines.present c.args.line.worker c.args.line.attempt) same
+          owed = subst (OwedBehind c.self.inside.parts.declaration c.self.inside.room openings (before ++ joined c.self.inside.past.segments.earlier) c.self.inside.past.segments.present c.args.line.worker c.args.line.attempt) same
               (owed_foretold _ _ _ _ _ c.self.invariant openings before leads c.args.line.worker c.args.line.attempt c.owed-owed.result c.owed-owed.ensures);
           roomy = may.1;
         };
@@ -96,10 +97,10 @@ returns-then-not-take_use-clause-fault g c =
         kept = λ i. record {
           declaration = f.declaration i;
           room = c.self.inside.room;
-          opened = c.self.inside.past.lines.opened;
+          opened = opened_in c.self.inside.opened;
           openings = numbers_of c.self.inside.openings;
-          earlier = c.self.inside.past.lines.earlier;
-          journal = c.self.inside.past.lines.present;
+          earlier = c.self.inside.past.segments.earlier;
+          journal = c.self.inside.past.segments.present;
           failures = failures_of c.take_use.new.self.devices.states;
         };
         failures = stay_failed _ _ _ _ _ c.self.invariant _ c.take_use.new.self c.args.line.worker c.in-Apply.act c.args.line.reply f c.args.line.attempt c.in-Apply.verb c.in-Apply.is openings before leads;
@@ -126,10 +127,10 @@ returns-clause-taken g c =
       kept = λ i. record {
         declaration = answers.declaration i;
         room = c.self.inside.room;
-        opened = c.self.inside.past.lines.opened;
+        opened = opened_in c.self.inside.opened;
         openings = numbers_of c.self.inside.openings;
-        earlier = c.self.inside.past.lines.earlier;
-        journal = c.self.inside.past.lines.present ++ c.args.line ∷ [];
+        earlier = c.self.inside.past.segments.earlier;
+        journal = c.self.inside.past.segments.present ++ c.args.line ∷ [];
         failures = failures_of c.take_use.new.self.devices.states;
       };
       each = λ openings before leads. record {
@@ -140,10 +141,10 @@ returns-clause-taken g c =
         written = λ i. record {
           declaration = answers.declaration i;
           room = c.self.inside.room;
-          opened = c.self.inside.past.lines.opened;
+          opened = opened_in c.self.inside.opened;
           openings = numbers_of c.self.inside.openings;
-          earlier = c.self.inside.past.lines.earlier;
-          journal = c.self.inside.past.lines.present ++ c.args.line ∷ [];
+          earlier = c.self.inside.past.segments.earlier;
+          journal = c.self.inside.past.segments.present ++ c.args.line ∷ [];
           failures = failures_of c.take_use.new.self.devices.states;
         };
         failures = stay_taken _ _ _ _ _ c.self.invariant c.args.line.worker c.args.line.attempt c.args.line.reply c.take_use.new.self answers openings before leads;

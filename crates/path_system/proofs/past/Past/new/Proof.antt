@@ -25,7 +25,7 @@ use Rattle.path_system.specs.contracts.past.Past.new as f
 use Rattle.path_system.proofs.past.Past.new.Statement as stated
 use Rattle.path_system.proofs.past.Past.new.Code as code
 use Rattle.path_system.specs.contracts.past.Past as made
-use Rattle.path_system.specs.Inner.Pasts.{none}
+use Rattle.path_system.specs.Inner.Pasts.{nothing}
 
 abbrev stayed : Stays (f.ended).signature.params (f.ended).kept
 stayed = tt
@@ -41,8 +41,8 @@ module _ {M : Type 1} {𝓤 : Ura M} (𝓛 : Logic 𝓤) (mem : Memory → SProp
       qed 𝓛 (raw (alive 𝓛 f.signature tt tt) ∷ ‵ (owns [] tt tt) ∷ []) ∵ enter ! C Λ code.function [] _ $
       alloc_all ! (λ l. pass_all ! refl tt $ sets ! (agg ! (no_more !)) refl (tt, tt) $
       returns ! (look_at ! 0 refl) $ free_all ! refl $
-      suffices ! _ (ends_at 𝓛 f.ended stayed (f.clauses 𝓛 mem run) bound (vstruct vnil) (record { lines = none }) tt tt) $
-      says ! refl $ pure_i ! (made.the_row.own_val (record { lines = none }) (vstruct vnil ∷ [])) ((λ vss. (tt, tt)), tt) ((tt, (refl, tt)), tt) $
+      suffices ! _ (ends_at 𝓛 f.ended stayed (f.clauses 𝓛 mem run) bound (vstruct vnil) (record { segments = nothing }) tt tt) $
+      says ! refl $ pure_i ! (made.the_row.own_val (record { segments = nothing }) (vstruct vnil ∷ [])) ((λ vss. (tt, tt)), tt) ((tt, (refl, tt)), tt) $
       move ! (1 ∷ 2 ∷ 0 ∷ []) $ done !)
 
   walks : Walks 𝓛 f.ended stayed (WpFn 𝓤 H C Λ code.function) (f.clauses 𝓛 mem run)

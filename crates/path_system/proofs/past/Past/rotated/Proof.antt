@@ -31,7 +31,7 @@ use Rattle.path_system.specs.contracts.past.Past.rotated as f
 use Rattle.path_system.proofs.past.Past.rotated.Statement as stated
 use Rattle.path_system.proofs.past.Past.rotated.Code as code
 use Rattle.path_system.specs.contracts.past.Past as trail
-use Rattle.path_system.specs.Inner.Pasts.{rotated}
+use Rattle.path_system.specs.Inner.Pasts.{turned}
 
 abbrev stayed : Stays (f.ended).signature.params (f.ended).kept
 stayed = (stay_none_ref (0 ∷ []) tt (plain (λ _. trail.the_row)) yes, tt)
@@ -55,8 +55,8 @@ module _ {M : Type 1} {𝓤 : Ura M} (𝓛 : Logic 𝓤) (mem : Memory → SProp
         qed 𝓛 (raw (alive 𝓛 f.signature κs qs) ∷ ‵ passed ∷ []) ∵ enter ! C Λ code.function (before ∷ []) _ $
         alloc_all ! (λ l. pass_all ! refl ((tt, tt), tt) $ sets ! (agg ! (no_more !)) refl (tt, tt) $
         returns ! (look_at ! 0 refl) $ free_all ! refl $
-        suffices ! _ (ends_at 𝓛 f.ended stayed (f.clauses 𝓛 mem run) bound (vstruct vnil) (record { lines = rotated a.0.now.lines }) (tt, tt) (tt, tt)) $
-        says ! refl $ pure_i ! (trail.the_row.own_val (record { lines = rotated a.0.now.lines }) (vstruct vnil ∷ [])) ((λ vss. (tt, tt)), tt) ((tt, (refl, tt)), tt) $
+        suffices ! _ (ends_at 𝓛 f.ended stayed (f.clauses 𝓛 mem run) bound (vstruct vnil) (record { segments = turned a.0.now.segments }) (tt, tt) (tt, tt)) $
+        says ! refl $ pure_i ! (trail.the_row.own_val (record { segments = turned a.0.now.segments }) (vstruct vnil ∷ [])) ((λ vss. (tt, tt)), tt) ((tt, (refl, tt)), tt) $
         move ! (1 ∷ 2 ∷ 0 ∷ []) $ done !)
 
   walks : Walks 𝓛 f.ended stayed (WpFn 𝓤 H C Λ code.function) (f.clauses 𝓛 mem run)

@@ -31,7 +31,7 @@ use Rattle.path_system.specs.contracts.past.Past.with as f
 use Rattle.path_system.proofs.past.Past.with.Statement as stated
 use Rattle.path_system.proofs.past.Past.with.Code as code
 use Rattle.path_system.specs.contracts.past.Past as trail
-use Rattle.path_system.specs.Inner.Pasts.{one_more}
+use Rattle.path_system.specs.Inner.Pasts.{longer}
 use Rattle.path_model.specs.contracts.journal.Line as name
 
 abbrev stayed : Stays (f.ended).signature.params (f.ended).kept
@@ -59,8 +59,8 @@ module _ {M : Type 1} {𝓤 : Ura M} (𝓛 : Logic 𝓤) (mem : Memory → SProp
         qed 𝓛 (raw (alive 𝓛 f.signature κs qs) ∷ ‵ passed ∷ []) ∵ enter ! C Λ code.function (before ∷ named_by ∷ []) _ $
         alloc_all ! (λ l. pass_all ! refl ((tt, tt), ((tt, tt), tt)) $ sets ! (agg ! (no_more !)) refl (tt, tt) $
         returns ! (look_at ! 0 refl) $ free_all ! refl $
-        suffices ! _ (ends_at 𝓛 f.ended stayed (f.clauses 𝓛 mem run) bound (vstruct vnil) (record { lines = one_more a.0.now.lines a.1.0.now }) (tt, (tt, tt)) (tt, (tt, tt))) $
-        says ! refl $ pure_i ! (trail.the_row.own_val (record { lines = one_more a.0.now.lines a.1.0.now }) (vstruct vnil ∷ [])) ((λ vss. (tt, tt)), tt) ((tt, (refl, tt)), tt) $
+        suffices ! _ (ends_at 𝓛 f.ended stayed (f.clauses 𝓛 mem run) bound (vstruct vnil) (record { segments = longer a.0.now.segments a.1.0.now }) (tt, (tt, tt)) (tt, (tt, tt))) $
+        says ! refl $ pure_i ! (trail.the_row.own_val (record { segments = longer a.0.now.segments a.1.0.now }) (vstruct vnil ∷ [])) ((λ vss. (tt, tt)), tt) ((tt, (refl, tt)), tt) $
         move ! (1 ∷ 2 ∷ 0 ∷ []) $ done !)
 
   walks : Walks 𝓛 f.ended stayed (WpFn 𝓤 H C Λ code.function) (f.clauses 𝓛 mem run)
