@@ -78,6 +78,28 @@ class ClosedLoops(InFolder, unittest.TestCase):
         self.goes_on()
         self.assertFalse(left.done())
 
+    def test_one_that_is_dropped_while_another_thread_asks_for_it(self):
+        """Its loop may go on: a coroutine that nobody holds is closed."""
+        asked, dropped, over, soon = threading.Event(), threading.Event(), threading.Event(), self.a._file.start_soon
+
+        def asks(*given):
+            asked.set()
+            dropped.wait(LONGEST)
+            code = soon(*given)
+            over.set()
+            return code
+
+        with self.b("read"), mock.patch.object(self.a._file, "start_now", lambda *given: native.LATE):
+            with mock.patch.object(self.a._file, "start_soon", asks):
+                left = self.left()
+                self.runs_until(asked.is_set)
+                left.get_coro().close()
+                dropped.set()
+                self.assertTrue(over.wait(LONGEST))
+            self.until(lambda: not self.b.waiting())
+        self.goes_on()
+        left.cancel()
+
     def test_when_its_task_was_woken(self):
         """But hasn't run since."""
         with self.b("read"):

@@ -292,12 +292,14 @@ async def _ask(begun: Begun, worker: int, waits: int, wait: TaskWait) -> int:
 
 async def _ask_aside(begun: Begun, worker: int, waits: int, wait: TaskWait) -> int:
     """The same in another thread, which waits for the turn."""
+    store = begun._paths._file
 
     def asks() -> int:
         try:
-            return begun._paths._file.start_soon(begun, worker, waits)
+            return store.start_soon(begun, worker, waits)
         finally:
-            wait.is_asking = False
+            if wait.is_asked_in_vain():
+                store.undo(begun)
 
     wait.is_asking = True
     return await aside(begun._paths._pool(), asks)

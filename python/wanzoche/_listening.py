@@ -19,7 +19,7 @@ LINGER = 1000
 class TaskWait:
     """A task that waits, on its loop."""
 
-    __slots__ = ("begun", "is_asleep", "is_asking", "_loop", "_awake")
+    __slots__ = ("begun", "is_asleep", "is_asking", "is_left", "_loop", "_awake")
 
     def __init__(self, begun: "Begun") -> None:
         self.begun = begun
@@ -27,12 +27,19 @@ class TaskWait:
         """Whether it is to be woken when it may ask again."""
         self.is_asking = False
         """Whether another thread asks for it now."""
+        self.is_left = False
+        """Whether it waits no more."""
         self._loop = asyncio.get_running_loop()
         self._awake = asyncio.Event()
 
     def is_over(self) -> bool:
         """Whether its loop is closed, so that it never goes on, and nobody asks for it either."""
         return not self.is_asking and self._loop.is_closed()
+
+    def is_asked_in_vain(self) -> bool:
+        """Of what another thread has just asked: whether nobody takes the answer. Then that thread has to undo it."""
+        self.is_asking = False
+        return self.is_left or self._loop.is_closed()
 
     def wake(self) -> None:
         """Ends its sleep, or the next one. Raises RuntimeError if the loop is closed."""
@@ -74,6 +81,7 @@ class Listener:
 
     def forget(self, wait: TaskWait) -> None:
         """It waits no more."""
+        wait.is_left = True
         if self._waits.get(wait.begun._at) is wait:
             self._waits.pop(wait.begun._at, None)
 
